@@ -19,7 +19,7 @@ from .test_compare import Comparisons, Conversation
 
 FOLDER, SETATTR = b'folder', 2
 NLINK = {'procedure': 'NFSPROC3_GETATTR', 'path': '?/f1', 'field': 'obj.nlink', 'first': '1', 'second': '2'}
-ONLY = {'procedure': 'NFSPROC3_SETATTR', 'path': '?/f0', 'only': 'second'}
+ONLY = {'procedure': 'NFSPROC3_SETATTR', 'path': '?/f0', 'only': 'second', 'asks': ['set.mode=416'], 'status': '0'}
 
 
 def run(*nlinks: int, more: int = 0, names: tuple[int, ...] = ()) -> Conversation:
@@ -39,7 +39,7 @@ def run(*nlinks: int, more: int = 0, names: tuple[int, ...] = ()) -> Conversatio
 
 def accepts(place: Comparisons, *entries: dict[str, Any]) -> None:
     """Writes `known` with some entries."""
-    place.write('known', json.dumps({'version': 1, 'accepted': entries}).encode())
+    place.write('known', json.dumps({'version': 2, 'accepted': entries}).encode())
 
 
 def compared(place: Comparisons, *words: str) -> tuple[int, str, list[str]]:
@@ -90,16 +90,20 @@ def entries_that_fit_nothing_are_named(place: Comparisons) -> None:
     place.put('b', run(1, 1))
     accepts(place, NLINK, ONLY)
     gone = ['0 accepted', 'no longer found: NFSPROC3_GETATTR ?/f1 obj.nlink first=1 second=2',
-            'no longer found: NFSPROC3_SETATTR ?/f0 only in the second run']
+            'no longer found: NFSPROC3_SETATTR ?/f0 only in the second run set.mode=416']
     place.want('same', compared(place, '--accept', 'known'), (0, 'same: 4 calls in 1 connection', gone))
 
 
 def a_call_of_one_run_alone_is_accepted_by_its_side(place: Comparisons) -> None:
-    """A SETATTR that the second run has more is accepted if the entry says so of the second run."""
+    """A SETATTR that the second run has more is accepted if the entry says so of the second run, what it asks, how it was answered, and
+    how often it comes."""
     place.put('a', run(1, 1))
     place.put('b', run(1, 1, more=2))
-    accepts(place, ONLY)
+    accepts(place, {**ONLY, 'times': 2})
     place.want('second', compared(place, '--accept', 'known'), (0, 'same but for 2 accepted: 4 calls in 1 connection', ['2 accepted']))
+    for what, other in (('times', {}), ('asks', {'asks': ['set.mode=511'], 'times': 2}), ('status', {'status': '5', 'times': 2})):
+        accepts(place, {**ONLY, **other})
+        place.want(what, compared(place, '--accept', 'known')[:2], (1, 'differ'))
     accepts(place, {**ONLY, 'only': 'first'})
     place.want('first', compared(place, '--accept', 'known')[:2], (1, 'differ'))
     accepts(place, {'procedure': '*', 'field': 'set.mode'})
@@ -122,8 +126,9 @@ def other_orders_stay_what_they_are(place: Comparisons) -> None:
 
 def nothing_else_becomes_green(place: Comparisons) -> None:
     """Whole connections and what is not found as a field are never accepted, whatever the file says."""
-    everything = [{'procedure': '*', 'field': 'obj.nlink'}, {'procedure': '*', 'only': 'first'}, {'procedure': '*', 'only': 'second'},
-                  {'procedure': '*', 'kind': 'moved'}, {'procedure': '*', 'kind': 'replies'}]
+    everything = [{'procedure': '*', 'field': 'obj.nlink', 'times': 9}, {**ONLY, 'only': 'first', 'times': 9}, {**ONLY, 'times': 9},
+                  {'procedure': '*', 'kind': 'moved', 'times': 9},
+                  {'procedure': '*', 'kind': 'replies', 'first': '0', 'second': '0, 0', 'times': 9}]
     accepts(place, *everything)
     place.put('a', run(1, 1))
     place.put('b', run(1, 2), run(1, 1, more=1))
@@ -158,9 +163,9 @@ def a_new_file_accepts_what_was_found(place: Comparisons) -> None:
     place.want('status', compared(place, '--accept-new', 'new')[0], 1)
     found = json.loads(place.read('new'))
     path = glob_free('?/f1'), glob_free('?/f0')
-    place.want('entries', found, {'version': 1, 'accepted': [
+    place.want('entries', found, {'version': 2, 'accepted': [
         {'procedure': 'NFSPROC3_GETATTR', 'path': path[0], 'is_call': False, 'field': 'obj.nlink', 'first': '1', 'second': '2'},
-        {'procedure': 'NFSPROC3_SETATTR', 'path': path[1], 'only': 'second'}]})
+        {**ONLY, 'path': path[1]}]})
     place.want('green', compared(place, '--accept', 'new')[0::2], (0, ['2 accepted']))
     place.want('replaced', (compared(place, '--accept', 'new', '--accept-new', 'new')[0], json.loads(place.read('new'))), (0, found))
 
@@ -192,12 +197,14 @@ def files_are_written_and_read_with_care(place: Comparisons) -> None:
         place.want(' '.join(words), place.compare(*words, 'a', 'b')[0], 2)
         place.want('kept', {name: place.read(name) for name in before}, before)
     wrong: dict[str, Any] = {
-        'no JSON': b'{', 'a list': b'[]', 'a version': {'version': 2, 'accepted': []}, 'no entry': [3], 'a member': [{**NLINK, 'fild': 'x'}],
+        'no JSON': b'{', 'a list': b'[]', 'a version': {'version': 3, 'accepted': []}, 'the old version': {'version': 1, 'accepted': []}, 'no entry': [3], 'a member': [{**NLINK, 'fild': 'x'}],
         'no procedure': [{**NLINK, 'procedure': 'GETATR'}], 'two kinds': [{**NLINK, 'only': 'first'}], 'no kind': [{'procedure': '*'}],
-        'a number': [{**NLINK, 'first': 1}], 'a side': [{**ONLY, 'only': 'third'}], 'order': [{'procedure': '*', 'kind': 'order'}]}
+        'a number': [{**NLINK, 'first': 1}], 'a side': [{**ONLY, 'only': 'third'}], 'order': [{'procedure': '*', 'kind': 'order'}],
+        'no asks': [{'procedure': '*', 'only': 'first'}], 'no statuses': [{'procedure': '*', 'kind': 'replies'}],
+        'no times': [{**NLINK, 'times': 0}], 'half a character': [{**NLINK, 'path': '\ud800'}]}
     for what, entries in wrong.items():
         content = entries if isinstance(entries, bytes) else json.dumps(
-            entries if isinstance(entries, dict) else {'version': 1, 'accepted': entries}).encode()
+            entries if isinstance(entries, dict) else {'version': 2, 'accepted': entries}).encode()
         place.write('bad', content)
         status, out, error = place.compare('--accept', 'bad', 'a', 'b')
         place.want(what, (status, out, 'no accepted findings in bad: ' in error), (2, [], True))
@@ -232,12 +239,28 @@ def many_entries_cost_little(place: Comparisons) -> None:
     """3,000 entries without wildcards, for 3,000 findings: each is found."""
     place.put('a', run(*[1] * 3_000))
     place.put('b', run(*[2] * 3_000))
-    accepts(place, *({**NLINK, 'path': f'?/f{number}'.replace('?', '*')} for number in range(0, 3_000, 1_000)))
+    accepts(place, *({**NLINK, 'path': f'*/f{number}'} for number in range(0, 3_000, 1_000)))
     place.want('three', compared(place, '--accept', 'known', '--accept-new', 'new')[2], ['3 accepted'])
     place.want('all', compared(place, '--accept', 'new')[2], ['3,000 accepted'])
 
 
-TESTS = [a_field_is_accepted_by_procedure_path_and_values, what_is_left_decides, entries_that_fit_nothing_are_named,
+def replies_are_accepted_by_their_statuses(place: Comparisons) -> None:
+    """A second reply is accepted with its status, and no other one."""
+    def answered(*statuses: int) -> Conversation:
+        calls, replies = run(1, 1)
+        return calls, [*replies[:-1], *(success(10_001, ok(fattr(REG, 2))) if not status else success(10_001, word(status))
+                                        for status in statuses)]
+    place.put('a', answered(0))
+    place.put('b', answered(0, 0))
+    place.want('written', compared(place, '--accept-new', 'new')[0], 1)
+    place.want('entry', json.loads(place.read('new'))['accepted'][0], {
+        'procedure': 'NFSPROC3_GETATTR', 'path': '[?]/f1', 'kind': 'replies', 'first': '0', 'second': '0, 0'})
+    place.want('accepted', compared(place, '--accept', 'new')[0], 0)
+    place.put('b', answered(0, 5))
+    place.want('another', compared(place, '--accept', 'new')[:2], (1, 'differ'))
+
+
+TESTS = [replies_are_accepted_by_their_statuses, a_field_is_accepted_by_procedure_path_and_values, what_is_left_decides, entries_that_fit_nothing_are_named,
          a_call_of_one_run_alone_is_accepted_by_its_side, other_orders_stay_what_they_are, nothing_else_becomes_green,
          lost_and_refused_connections_stay, a_new_file_accepts_what_was_found, files_are_written_and_read_with_care, all_forms_say_the_same,
          what_counts_in_no_order_is_not_written, many_entries_cost_little]

@@ -631,7 +631,7 @@ def as_json(place: Findings) -> None:
     counts = {'judged': 1, 'ok': 1, 'refused': 0, 'in part': 0, 'left out': 0, 'without calls': 0, 'not checked': 0, 'errors': 0, 'raw': {}}
     whole = {'connections': 1, 'missing': 0, 'counts': counts, 'not_judged': [], 'left_out': {}}
     wanted: dict[str, Any] = {
-        'version': 1, 'accepted': None, 'verdict': 'differ', 'position': 'connection 1 client record 3', 'mask': {'times': 'zero', 'ids': 'number'},
+        'version': 1, 'accepted': None, 'verdict': 'differ', 'position': 'connection 1 server record 2', 'mask': {'times': 'zero', 'ids': 'number'},
         'same_under': None,
         'runs': [{'name': 'a', 'calls': 4, 'only': 1, **whole}, {'name': 'b', 'calls': 3, 'only': 0, **whole}],
         'order': {'together': 3, 'calls': 0, 'replies': 0, 'connections': 0, 'on_another_connection': 0},

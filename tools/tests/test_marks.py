@@ -312,7 +312,7 @@ def what_is_left_out_of_parts(place: Comparisons) -> None:
     put(place, run(1, 0), run(2, 2))
     status, out, _ = place.compare('--marks', PATTERN, '--order', 'any', 'a', 'b')
     line = 'left out of the second run: 2 NFSPROC3_GETATTR ?/x, first: connection 1 client record 6 (frame 14)'
-    place.want('listed', (status, out[5:7], out[-1]), (0, ['"test 2"', line], '4 parts: 3 same, 1 same in another order'))
+    place.want('listed', (status, out[5:7], out[-1]), (0, ['"test 2"', line], '4 parts: 3 same, 1 same but for calls left out'))
 
 
 def marks_that_fit_no_call(place: Comparisons) -> None:

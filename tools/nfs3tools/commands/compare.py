@@ -14,19 +14,20 @@ part, left out and not checked. If something of a run is not compared, equal run
 `same in part`. A connection that is refused is not compared, and the others are. A run without a
 call that can be compared is an error.
 
-If the runs differ, calls are brought together over all connections and in any order. If nothing
-else than the order differs, they are `same in another order`: that is the word of `nfs3canon same`
-on both runs in the order of the first. File ids are zero then, and the classes createverfs,
-cookies, wcc and raw, of these only those that are needed. Calls that only ask (GETATTR, LOOKUP ..)
-and that one run alone has are left out, and so are questions about a folder that the calls of
-others overtook. All that is printed and listed. Otherwise each difference is printed as `diff`
-would: which call, which field and whose (`dir after.size`), both values, and the frames. Of values
-of over 60 characters it is the bytes round the first that differs; a call of one run alone has its
-arguments. Messages of one procedure that differ in the same way are printed once, with their
-number. --brief prints a line for each.
+If the runs differ, exchanges are brought together over all connections and in any order: calls,
+with their retransmissions and replies. If nothing else than the order differs, they are
+`same in another order`: that is the word of `nfs3canon same` on both runs in the order of the
+first. Answers may differ as changes that came before them in one run alone explain; calls that only
+ask (GETATTR, LOOKUP ..) may be in one run alone if they are few, and tell what other answers tell;
+and ids follow their objects. The manual page has the rules. All that is left out is listed, with
+the change that explains it. Otherwise each difference is printed as `diff` would: which call, which
+field and whose (`dir after.size`), both values, and the frames. Of values of over 60 characters it
+is the bytes round the first that differs; a call of one run alone has its arguments. Messages of
+one procedure that differ in the same way are printed once, with their number. --brief prints a line
+for each.
 
---order strict tries no other order. With --order any the status of `same in another order` is 0.
---extra none leaves out no calls.
+--order strict tries no other order. With --order any the status is 0 if the runs are the same if
+the order does not count. --extra none leaves nothing out.
 
 --mask times,ids masks these classes alone, --mask +owners one more, --mask=-times one less,
 --mask none nothing; NAME=zero and NAME=number say how. --ignore NFSPROC3_GETATTR.obj.nlink,*.eof
@@ -34,7 +35,8 @@ leaves fields out of what is printed and written of the differences, by their la
 of items, as `nlink`, whose ever they are; the verdict is that of the mask all the same.
 
 --accept reads a file of findings that somebody accepted, and --accept-new writes one from all
-findings of this comparison. Accepted findings are counted apart, and the others decide. If there
+findings of this comparison. An entry accepts one finding, or as many as it says. Accepted findings
+are counted apart, and the others decide. If there
 are no others, both runs are compared without the calls of the accepted ones, by the program.
 Entries of the file that fit nothing any more are printed. What of a run is not compared is never
 accepted by this.
@@ -75,7 +77,7 @@ from typing import NamedTuple
 from ..comparison.exchanges.pairing import ASKING
 from ..comparison.parts.marks import NoMark
 from ..comparison.parts.part_by_part import PartByPart
-from ..comparison.values.classes import CLASSES, in_any_order, mask_word, told
+from ..comparison.values.classes import CLASSES, following, in_any_order, mask_word, told
 from ..comparison.verdict import summary
 from ..comparison.verdict.accepted import accepted_of, file_of
 from ..comparison.verdict.cover import Cover, Size, covers_of, lines_of_counts, losses_of
@@ -238,7 +240,8 @@ def compared_runs(words: argparse.Namespace, stack: ExitStack) -> int:
     whole = whole_of(program, folder, names, [*inputs, *accepted_by(words)], runs)
     masks = in_any_order(words.mask, any(cover.has_raw for cover in whole.covers))
     print(f'masked: {told(masks[0])}', flush=True)
-    choices = Choices(words.order, masks, frozenset() if words.extra == 'none' else ASKING,
+    choices = Choices(words.order, masks, following(words.mask),
+                      frozenset() if words.extra == 'none' else ASKING,
                       AROUND if words.html else None, words.accept)
     is_same = (compared_whole if words.marks is None
                else compared_by_parts)(words, whole, choices, losses_of(whole.covers, summary.RUNS))

@@ -136,6 +136,10 @@ class Labels:
             self.shapes[shape] = Slots(self.message).slots
         return self.shapes[shape]
 
+    def fields_from(self, at: int) -> frozenset[str]:
+        """Returns the fields of an item and of those after it."""
+        return frozenset(map(self.field, range(at, len(self.slots))))
+
     def label(self, at: int) -> str:
         return labelled([owner.told(self.message.items) for owner in self.slots[at].owners],
                         self.slots[at].name)

@@ -11,6 +11,7 @@ from ..shared.places import Side
 
 LONGEST_BODY = 1 << 24
 READ_AT_ONCE = 1 << 16
+LAST_FRAGMENT = 1 << 31  # RFC 5531, section 11
 SEARCHED_AT_ONCE = 1 << 20
 MARKS_AT_MOST = 1_000_000  # that are read in search of the first record of a run
 REMEMBERED_AT_MOST = 300_000  # places from which records do not reach the end

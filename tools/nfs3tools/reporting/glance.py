@@ -67,7 +67,7 @@ def kind_of(finding: Finding) -> Kind:
         return CONNECTION, (finding.first is None,)
     if is_of_equal_values(finding):
         return EQUAL, ()
-    if finding.kind in ('moved', 'order'):
+    if finding.kind in ('moved', 'sent again', 'order'):
         return ORDER, (finding.kind, finding.remark if finding.kind == 'moved' else '')
     message = finding.first or finding.second
     fields = tuple(dict.fromkeys(one.field for one in finding.differences))
@@ -100,6 +100,8 @@ def of_order(some: Sequence[Finding]) -> Phrase:
     """What comes in another order, or elsewhere."""
     if some[0].kind == 'order':
         return Phrase(f'{count(len(some), "connection")} with replies in another order')
+    if some[0].kind == 'sent again':
+        return Phrase(f'{count(len(some), "call")} sent again')
     words = ELSEWHERE if ELSEWHERE in some[0].remark else 'reordered'
     return Phrase(f'{count(len(some), "call")} {words}')
 

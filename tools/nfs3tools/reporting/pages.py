@@ -192,8 +192,8 @@ def words_of_masks(content: Content) -> Iterator[tuple[str, str]]:
             'in another order.' if is_turned
             else 'since any order was tried. What differs in these alone is not shown.'))
     if content.compared.silent:
-        yield 'left out', ('Calls that only ask, which one run alone has, or which the calls of '
-                           'others overtook.')
+        yield 'left out', ('Calls that only ask, which one run alone has, answers that an order '
+                           'explains, and calls that were sent again.')
     if content.ignored:
         often = f': {telling.told(content.left_out.most_common())}' if content.left_out else ''
         yield 'ignored', f'{", ".join(code(str(one)) for one in content.ignored)}{escape(often)}.'

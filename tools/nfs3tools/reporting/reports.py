@@ -23,7 +23,7 @@ from .telling import brief_of, folded, is_summed, of_group, of_silent, shortened
 VERSION = 1  # of the form of JSON
 CASES_AT_MOST = 1_000  # of findings
 FIELDS_AT_MOST = 4  # in the name of a case
-KINDS = {'moved': 'reordered', 'replies': 'another number of replies'}
+KINDS = {'moved': 'reordered', 'sent again': 'sent again', 'replies': 'another number of replies'}
 
 
 def json_of(report: Report, compared: Compared, left_out: Counter[tuple[str, str]],
@@ -46,7 +46,8 @@ def json_of(report: Report, compared: Compared, left_out: Counter[tuple[str, str
         'fields': counts_of(compared.fields()), 'ignored': counts_of(left_out),
         'left_out': [{'procedure': one.call.procedure, 'path': one.path,
                       'first': of_message(one.first, framings[0]),
-                      'second': of_message(one.second, framings[1])} for one in compared.silent],
+                      'second': of_message(one.second, framings[1]),
+                      'kind': one.kind, 'why': one.why or None} for one in compared.silent],
         'accepted': report.accepted and of_accepted(report.accepted, framings)}
     yield json.dumps(head, indent=1).removesuffix('\n}').encode() + b',\n "findings": ['
     for number, finding in enumerate(compared.findings):

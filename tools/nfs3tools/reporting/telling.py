@@ -11,6 +11,8 @@ from ..comparison.verdict.findings import Compared, Finding, Framing, Silent
 from ..exchanges.listing import Message
 from ..exchanges.stored import Long, Value
 
+# Why calls of both runs are left out.
+LEFT_OUT = {'explained': 'explained by order', 'sent again': 'sent again'}
 LONGEST_VALUE, LONGEST_NAME = 128, 1024  # characters, as the listing spells them
 LONGEST_LIST = 4  # frames
 FIELDS_AT_MOST = 12
@@ -199,11 +201,11 @@ def of_silent(compared: Compared, framings: Sequence[Framing], most: int | None)
     groups, or each by itself."""
     groups, (first, second) = defaultdict[object, list[Silent]](list), framings
     for number, call in enumerate(compared.silent):
-        key = call.first is None, call.second is None, call.call.procedure, call.path
+        key = call.kind, call.first is None, call.call.procedure, call.path
         groups[number if most is None else key].append(call)
     for some in list(groups.values())[:most]:
         yield (f'left out{of_whom(some[0])}: {silent_of(some)}: '
-               f'{places_of(some[0].first, some[0].second, first, second)}')
+               f'{places_of(some[0].first, some[0].second, first, second)}{why_of(some[0])}')
     if most is not None and len(groups) > most:
         yield f'.. and {len(groups) - most:,} more left out (--all prints them)'
 
@@ -217,8 +219,13 @@ def of_whom(call: Silent) -> str:
 def silent_of(some: Sequence[Silent]) -> str:
     """Returns which calls are left out, of one procedure and path."""
     call, path = some[0], f' {some[0].path}' if some[0].path else ''
-    others = ', in which others worked' if call.first and call.second else ''
-    return f'{len(some):,} {call.call.procedure}{path}{others}{", first" if len(some) > 1 else ""}'
+    kind = '' if call.kind == 'only' else f', {LEFT_OUT[call.kind]}'
+    return f'{len(some):,} {call.call.procedure}{path}{kind}{", first" if len(some) > 1 else ""}'
+
+
+def why_of(call: Silent) -> str:
+    """Returns the change that explains an answer, or how often a call was sent."""
+    return f', by {call.why}' if call.kind == 'explained' else f', {call.why}' * bool(call.why)
 
 
 def places_of(one: Message | None, other: Message | None, first: Framing, second: Framing) -> str:

@@ -1,24 +1,29 @@
 """What is kept of a run in place of its texts: a few numbers for each call.
 
-They come from the listing of the masked capture in canonical form. A call with its replies is an
-exchange. Exchanges of two runs are equal if their texts are, without the values that each run has
-its own of, and if their handles lead to the same objects.
+They come from the listing of the masked capture in canonical form. Exchanges of two runs are equal
+if their texts are, without the values that each run has its own of, and if their handles lead to
+the same objects. It is all one how often a call was sent, and the same reply to it.
 """
 from __future__ import annotations
 
 import re
 from array import array
 from bisect import bisect_left, bisect_right
-from collections import defaultdict, deque
+from collections import defaultdict
 from collections.abc import Callable, Iterable, Iterator
+from functools import cache
+from itertools import groupby
+from operator import attrgetter
 
+from ...exchanges.answering import Answering
+from ...exchanges.listing import Line, Message, line_of
 from ...exchanges.objects import MAKING
 from ..values.bindings import RENAMED
 from ..values.classes import CLASSES, Mask, Way
 
-HANDLE = re.compile(r' fh=([0-9a-f]{1,8})(?=\s)')
+HANDLE = re.compile(r' fh=([0-9a-f]{1,8})(?!\S)')
 NAME = re.compile(r' (?:name|dirpath)="([^"]*)"')
-NAME_OR_HANDLE = re.compile(r' name="([^"]*)"| fh=([0-9a-f]{1,8})(?=\s)')
+NAME_OR_HANDLE = re.compile(r' name="([^"]*)"| fh=([0-9a-f]{1,8})(?!\S)')
 ALIKE = re.compile(r' (?:prog|vers|proc|name|dirpath|offset)=("[^"]*"|\S+)')
 # Calls that change what others are answered.
 CHANGING = frozenset(f'NFSPROC3_{name}' for name in (
@@ -26,7 +31,8 @@ CHANGING = frozenset(f'NFSPROC3_{name}' for name in (
 # Calls whose first handle is that of a folder.
 OF_FOLDERS = MAKING | {f'NFSPROC3_{name}'
                        for name in ('REMOVE', 'RMDIR', 'RENAME', 'READDIR', 'READDIRPLUS')}
-MOUNT, LISTING = 'MOUNTPROC3_MNT', 'NFSPROC3_READDIRPLUS'
+LISTING = 'NFSPROC3_READDIRPLUS'
+NAMING = MAKING | {'MOUNTPROC3_MNT'}  # calls whose answers have the handle of a name
 DOTS = hash('.'), hash('..')  # the folder itself, and the one above it
 UNKNOWN, SEEN, MADE = range(3)  # how well it is known where an object is
 
@@ -40,32 +46,6 @@ def classes_of_items(mask: Mask) -> dict[str, str]:
 def renamed_values(mask: Mask) -> re.Pattern[str]:
     """Returns what finds the names and values of renamed items in a line."""
     return re.compile(f' ({"|".join(sorted(classes_of_items(mask)))})=([^\\s"]+)')
-
-
-class Waiting:
-    """The calls of a connection that may be answered yet: by xid the first of them, counted from 1,
-    or all if they are several."""
-
-    def __init__(self) -> None:
-        self.first_of = array('I')
-        self.several: dict[int, deque[int]] = {}
-
-    def add(self, xid: int, at: int) -> None:
-        if xid >= len(self.first_of):
-            self.first_of.extend([0] * (xid + 1 - len(self.first_of)))
-        if self.first_of[xid]:
-            self.several.setdefault(xid, deque([self.first_of[xid] - 1])).append(at)
-        else:
-            self.first_of[xid] = at + 1
-
-    def answered(self, xid: int) -> int:
-        """Returns which call a reply belongs to. If several calls have one xid, its replies are
-        given to them in their order, and what is left to the last of them."""
-        several = self.several.get(xid)
-        at = several[0] if several else self.first_of[xid] - 1
-        if several and len(several) > 1:
-            several.popleft()
-        return at
 
 
 # When a call was sent, by its connection and record: a number that grows
@@ -155,44 +135,61 @@ class Outlines:
         self.seconds: dict[int, int] = {}  # the second handle of a call
         # The procedure of a call, by its number among those that there are
         self.kinds, self.procedures = array('B'), dict[str, int]()
+        self.records = array('I')  # that of each call
         self.replies = array('I')  # the record of the first reply, or 0
         self.further: dict[int, list[int]] = {}  # the records of further replies
+        # The records of retransmissions, and of replies to these that say the same again
+        self.again, self.repeated = dict[int, list[int]](), dict[int, set[int]]()
         self.unmade = set[int]()  # calls that would have changed something, and failed
         self.objects = Objects()
-        self.take(lines, renamed_values(mask))
+        self.take(map(line_of, lines), renamed_values(mask))
         self.names = list(self.procedures)
         self.ask_of_objects(lambda at: when(*self.record_of(at)) if when else at)
 
     def __len__(self) -> int:
         return len(self.asked)
 
-    def take(self, lines: Iterable[str], pattern: re.Pattern[str]) -> None:
-        waiting, named, start, connection, at = Waiting(), array('q'), 0, '', 0
-        for line in lines:
-            number, side, record, xid, rest = line.split(' ', 4)
-            if number != connection:
-                waiting, named, start, connection = Waiting(), array('q'), at, number
-                self.connections.append(int(number))
-                self.starts.append(start)
-            procedure, said = rest[:rest.find(' ')], hash(pattern.sub('', rest))
-            if side == 'client':
-                waiting.add(int(xid[4:]), at)
-                name = NAME.search(rest) if procedure in MAKING or procedure == MOUNT else None
-                named.append(hash(name[1]) if name else 0)
-                self.add_call(at, procedure, said, HANDLE.findall(rest))
-                at += 1
-            else:
-                call = waiting.answered(int(xid[4:]))
-                self.add_reply(call, int(record), said)
-                if procedure in CHANGING and ' status=0' not in rest:
-                    self.unmade.add(call)
-                self.learn(call, procedure, rest, named[call - start])
+    def take(self, lines: Iterable[Line], pattern: re.Pattern[str]) -> None:
+        for connection, some in groupby(lines, attrgetter('connection')):
+            self.connections.append(connection)
+            self.starts.append(len(self))
+            self.take_connection(some, pattern)
 
-    def add_call(self, at: int, procedure: str, said: int, handles: list[str]) -> None:
+    def take_connection(self, lines: Iterable[Line], pattern: re.Pattern[str]) -> None:
+        rule, owners, named = Answering(), array('I'), dict[int, int]()
+        said_before = dict[int, set[int]]()  # hashes of replies to calls that were sent again
+        for line in lines:
+            said = hash(pattern.sub('', line.text))
+            if line.is_call:
+                earlier = rule.call(line.xid, line.text)
+                owners.append(len(self) if earlier is None else owners[earlier])
+                if earlier is not None:
+                    self.again.setdefault(owners[-1], []).append(line.record)
+                    continue
+                name = NAME.search(line.text) if line.procedure in NAMING else None
+                if name:
+                    named[len(self)] = hash(name[1])
+                self.add_call(line, said)
+                continue
+            at = owners[rule.reply(line.xid)]
+            if at in self.again:
+                own = hash(line.text)
+                if own in said_before.setdefault(at, set()):
+                    self.repeated.setdefault(at, set()).add(line.record)
+                    continue
+                said_before[at].add(own)
+            self.add_reply(at, line.record, said)
+            if line.procedure in CHANGING and ' status=0' not in line.text:
+                self.unmade.add(at)
+            self.learn(at, line.procedure, line.text, named.get(at, 0))
+
+    def add_call(self, line: Line, said: int) -> None:
+        handles = HANDLE.findall(line.text)
         if len(handles) > 1:
-            self.seconds[at] = int(handles[1], 16)
-        self.kinds.append(self.procedures.setdefault(procedure, len(self.procedures)))
+            self.seconds[len(self)] = int(handles[1], 16)
+        self.kinds.append(self.procedures.setdefault(line.procedure, len(self.procedures)))
         self.folders.append(int(handles[0], 16) if handles else 0)
+        self.records.append(line.record)
         self.found.append(0)
         self.replies.append(0)
         self.said.append(said)
@@ -208,7 +205,7 @@ class Outlines:
     def learn(self, at: int, procedure: str, rest: str, name: int) -> None:
         """Learns from a reply which objects its call has reached."""
         folder = self.folders[at]
-        if procedure in MAKING or procedure == MOUNT:
+        if procedure in NAMING:
             found = HANDLE.search(rest)
             if found:
                 self.found[at] = int(found[1], 16)
@@ -272,25 +269,64 @@ class Outlines:
 
     def record_of(self, at: int) -> tuple[int, int]:
         """Returns the number of a call's connection, and the call's record."""
-        place = self.connection_of(at)
-        return self.connections[place], at - self.starts[place] + 1
+        return self.connections[self.connection_of(at)], self.records[at]
+
+    def sent_again(self, at: int) -> tuple[list[int], list[int]]:
+        """Returns the records of a call's retransmissions, and of replies that say the same
+        again."""
+        return self.again.get(at, []), sorted(self.repeated.get(at, ()))
 
     def replies_of(self, at: int) -> list[int]:
         """Returns the records of a call's replies."""
         return [self.replies[at], *self.further.get(at, ())] if self.replies[at] else []
 
+    def all_replies_of(self, at: int) -> list[int]:
+        """Returns the records of a call's replies, with those that say the same again."""
+        return [*self.replies_of(at), *self.repeated.get(at, ())]
+
     def last_reply(self, place: int) -> int:
         """Returns the largest record of a reply of a connection, or 0."""
-        return max((self.replies_of(at)[-1] for at in self.exchanges_of(place)
+        return max((max(self.all_replies_of(at)) for at in self.exchanges_of(place)
                     if self.replies[at]), default=0)
 
     def exchanges_of_replies(self, place: int) -> 'array[int]':
         """Returns the exchange of each reply of a connection, by its record."""
         out = array('I', [0]) * (1 + self.last_reply(place))
         for at in self.exchanges_of(place):
-            for record in self.replies_of(at):
+            for record in self.all_replies_of(at):
                 out[record] = at
         return out
+
+    def exchanges_of_calls(self, place: int) -> 'array[int]':
+        """Returns the exchange of each call of a connection, by its record."""
+        own = self.exchanges_of(place)
+        number = len(own) + sum(len(self.again[at]) for at in own if at in self.again)
+        out = array('I', [0]) * (1 + number)
+        for at in own:
+            for record in (self.records[at], *self.again.get(at, ())):
+                out[record] = at
+        return out
+
+    def each(self, lines: Iterable[Line]) -> Iterator[tuple[int, Line]]:
+        """Iterates over the lines of a listing of the run, each with its exchange."""
+        for connection, some in groupby(lines, attrgetter('connection')):
+            place = self.place_of(connection)
+            calls, replies = self.exchanges_of_calls(place), self.exchanges_of_replies(place)
+            for line in some:
+                yield (calls if line.is_call else replies)[line.record], line
+
+    def located(self, lines: Iterable[Line]) -> Iterator[tuple[int, Line]]:
+        """Iterates over the same, but for calls that were sent again, and replies that say the same
+        again."""
+        return ((at, line) for at, line in self.each(lines)
+                if (line.record == self.records[at] if line.is_call
+                    else line.record not in self.repeated.get(at, ())))
+
+    def exchanges_of_messages(self, messages: Iterable[Message]) -> set[int]:
+        """Returns the exchanges of some messages."""
+        calls, replies = cache(self.exchanges_of_calls), cache(self.exchanges_of_replies)
+        return {(calls if message.is_call else replies)(
+            self.place_of(message.connection))[message.record] for message in messages}
 
     def objects_of(self, at: int) -> list[int]:
         """Returns the handles of a call."""
@@ -299,28 +335,18 @@ class Outlines:
     def calls_alike(self, lines: Iterable[str], wanted: set[int]) -> dict[int, tuple[object, ...]]:
         """Returns of some exchanges what alike calls have in common: procedure, objects, names and
         offset. The lines are those of the listing."""
-        return {at: (self.procedure_of(at), tuple(ALIKE.findall(line)),
+        return {at: (self.procedure_of(at), tuple(ALIKE.findall(line.text)),
                      *map(self.identities.__getitem__, self.objects_of(at)))
-                for at, line in self.calls_of(lines) if at in wanted}
-
-    def calls_of(self, lines: Iterable[str]) -> Iterator[tuple[int, str]]:
-        """Returns the exchanges with the lines of their calls."""
-        return enumerate(line for line in lines if ' client ' in line[:24])
+                for at, line in self.located(map(line_of, lines)) if line.is_call and at in wanted}
 
     def said_again(self, lines: Iterable[str], wanted: set[int],
                    mask: Mask) -> dict[int, tuple[int, ...]]:
         """Returns what is said in some exchanges, by the listing under another mask."""
         out, pattern = {at: [self.asked[at], self.identities[self.found[at]]]
                         for at in wanted}, renamed_values(mask)
-        place, replies = -1, array('I')
-        for line in lines:
-            number, side, record, _, rest = line.split(' ', 4)
-            if place < 0 or self.connections[place] != int(number):
-                place = self.place_of(int(number))
-                replies = self.exchanges_of_replies(place)
-            at = self.starts[place] + int(record) - 1 if side == 'client' else replies[int(record)]
+        for at, line in self.located(map(line_of, lines)):
             if at in wanted:
-                out[at].append(hash(pattern.sub('', rest)))
+                out[at].append(hash(pattern.sub('', line.text)))
         return {at: tuple(said) for at, said in out.items()}
 
     def with_origins(self, exchanges: Iterable[int]) -> set[int]:

@@ -13,7 +13,7 @@ from typing import NamedTuple
 from ..values.classes import Mask
 from .matching import Pair, aligned, blocks_of, increasing
 from .outlines import Outlines
-from .reordered import Exchange
+from .reordered import Numbered
 
 Listing = Callable[[], Iterable[str]]
 
@@ -36,9 +36,22 @@ class InOrder:
     def __init__(self, outlines: Outlines, order: Sequence[int]) -> None:
         self.outlines, self.order = outlines, order
 
-    def __iter__(self) -> Iterator[Exchange]:
+    def __iter__(self) -> Iterator[Numbered]:
         outlines = self.outlines
-        return (Exchange(*outlines.record_of(at), outlines.replies_of(at)) for at in self.order)
+        return (Numbered(outlines.connections[outlines.connection_of(at)],
+                         [outlines.records[at]], outlines.replies_of(at)) for at in self.order)
+
+
+class Repeats:
+    """The retransmissions of a run, and the replies that say the same again."""
+
+    def __init__(self, outlines: Outlines) -> None:
+        self.outlines = outlines
+
+    def __iter__(self) -> Iterator[Numbered]:
+        for at in sorted(self.outlines.again):
+            connection, _ = self.outlines.record_of(at)
+            yield Numbered(connection, *self.outlines.sent_again(at))
 
 
 @dataclass
@@ -65,7 +78,8 @@ class Pairing:
         """Whether each message stands in the same place in both runs."""
         return self.partners == array('i', range(len(self.there))) and all(
             getattr(self.here, name) == getattr(self.there, name)
-            for name in ('connections', 'starts', 'replies', 'further'))
+            for name in ('connections', 'starts', 'records', 'replies', 'further', 'again',
+                         'repeated'))
 
     def order_of_first(self) -> 'array[int]':
         """Returns the exchanges of the first run that have a partner, in their order."""
@@ -89,6 +103,16 @@ class Pairing:
         place among all."""
         return (self.there.exchanges_of(self.homes[place]) if self.homes[place] != NOBODY
                 else range(0))
+
+    @cached_property
+    def sent_again(self) -> list[Pair]:
+        """The pairs whose call was sent more often in one run, or answered in the same words."""
+        some = {at for at in self.here.again if self.partners[at] != NOBODY}
+        if self.there.again:
+            some |= {at for at, to in self.pairs() if to in self.there.again}
+        return [(at, self.partners[at]) for at in sorted(some)
+                if list(map(len, self.here.sent_again(at)))
+                != list(map(len, self.there.sent_again(self.partners[at])))]
 
     @cached_property
     def elsewhere(self) -> list[Pair]:

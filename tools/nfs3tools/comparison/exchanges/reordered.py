@@ -12,24 +12,22 @@ from collections.abc import Iterable, Iterator, Sequence
 from typing import NamedTuple
 
 from ...recordings.container import CHUNK, capture_of
-from ...recordings.records import READ_AT_ONCE, Window, body_of, extent_of, extents
+from ...recordings.records import LAST_FRAGMENT, READ_AT_ONCE, Window, body_of, extent_of, extents
 from ...recordings.taken import Taken, TakenStream
 from ...shared.outputs import write_temporary
 from ...shared.places import SIDES, Side
 from ...shared.programs import Died
-
-LAST_FRAGMENT = 1 << 31  # RFC 5531, section 11
-
 
 class WrongOrder(Died):
     """An order that is none of the run: an exchange is there twice or not at all, or its messages
     have several xids."""
 
 
-class Exchange(NamedTuple):
-    """A call and its replies: the number of the connection, and the records, all from 1."""
+class Numbered(NamedTuple):
+    """Calls and their replies: the number of the connection, and the records, all from 1. Those
+    that are written are one call."""
     connection: int
-    call: int
+    calls: Sequence[int]
     replies: Sequence[int]
 
 
@@ -73,16 +71,16 @@ class Rewriting:
     """A run that is written in an order. An exchange is iterated over for its call, and again for
     its replies."""
 
-    def __init__(self, taken: Taken, exchanges: Iterable[Exchange]) -> None:
+    def __init__(self, taken: Taken, exchanges: Iterable[Numbered]) -> None:
         self.exchanges = exchanges
         self.records = {(connection.number, side): Records(connection.stream(side))
                         for connection in taken.connections for side in SIDES}
         self.xids = array('I')  # of the calls that were written
 
-    def use(self, exchange: Exchange, side: Side) -> Iterator[bytes]:
+    def use(self, exchange: Numbered, side: Side) -> Iterator[bytes]:
         """Returns the bodies of the call, or of the replies."""
         records = self.records[exchange.connection, side]
-        return map(records.use, (exchange.call,) if side == 'client' else exchange.replies)
+        return map(records.use, exchange.calls if side == 'client' else exchange.replies)
 
     def messages(self, side: Side) -> Iterator[bytes]:
         """Returns the messages of one side in the order, with their new xids, each as a record of
@@ -93,12 +91,12 @@ class Rewriting:
                 if side == 'client':
                     self.xids.append(xid)
                 elif xid != self.xids[turn - 1]:
-                    raise WrongOrder(f'a reply to record {exchange.call} of connection '
+                    raise WrongOrder(f'a reply to record {exchange.calls[0]} of connection '
                                      f'{exchange.connection} has another xid')
                 yield ((LAST_FRAGMENT | len(body)).to_bytes(4, 'big') + turn.to_bytes(4, 'big')
                        + body[4:])
 
-    def leave_out(self, exchanges: Iterable[Exchange]) -> None:
+    def leave_out(self, exchanges: Iterable[Numbered]) -> None:
         for exchange in exchanges:
             for side in SIDES:
                 for _ in self.use(exchange, side):
@@ -130,7 +128,7 @@ class Stream:
             yield bytes(block)
 
 
-def write_in_order(taken: Taken, exchanges: Iterable[Exchange], left_out: Iterable[Exchange],
+def write_in_order(taken: Taken, exchanges: Iterable[Numbered], left_out: Iterable[Numbered],
                    path: str,
                    writer: type[Rewriting] = Rewriting) -> None:
     """Writes the exchanges of a run, which are iterated over twice, as a capture in a temporary

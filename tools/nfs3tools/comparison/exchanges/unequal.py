@@ -5,6 +5,7 @@ from array import array
 from collections.abc import Callable, Iterable, Iterator
 from itertools import chain, groupby, zip_longest
 
+from ...exchanges.listing import has_rest, place_of, said_in, xid_of
 from ..values.classes import Mask
 from .outlines import Outlines, classes_of_items, renamed_values
 
@@ -27,22 +28,21 @@ class Listed:
     def note(self, lines: Iterable[str]) -> None:
         """Notes which renamed values lines have that differ."""
         for line in lines:
-            self.has_rest |= ' rest=' in line
+            self.has_rest |= has_rest(line)
             self.values.update((self.classes[name], value)
                                for name, value in self.pattern.findall(line))
 
     def turn_of(self, line: str) -> int:
-        begin = line.index(' xid=') + 5
-        return int(line[begin:line.index(' ', begin)]) - 1
+        return xid_of(line) - 1
 
     def key_of(self, line: str) -> Key:
         """Returns whether a line is of a reply, and the turn of its exchange."""
-        return ' server ' in line[:line.index(' xid=')], self.turn_of(line)
+        return not place_of(line).is_call, self.turn_of(line)
 
     def messages(self, lines: Iterable[str]) -> Iterator[Said]:
         """Returns the calls, and then the replies to each call, without their records' numbers."""
         for key, some in groupby(lines, self.key_of):
-            yield key, [line[line.index(' xid='):] for line in some]
+            yield key, list(map(said_in, some))
 
     def unequal(self) -> set[int]:
         """Returns the turns of the exchanges that are listed in another way."""
@@ -95,17 +95,17 @@ class ListedInPlace(Listed):
     def __init__(self, first: Listing, second: Listing, mask: Mask, outlines: Outlines) -> None:
         super().__init__(first, second, mask)
         self.outlines = outlines
-        # By connections: the exchange of each reply, by its record
-        self.exchanges: dict[int, array[int]] = {}
+        # By connections and sides: the exchange of each record
+        self.exchanges: dict[tuple[int, bool], array[int]] = {}
 
     def turn_of(self, line: str) -> int:
-        connection, side, record, _ = line.split(' ', 3)
-        place = self.outlines.place_of(int(connection))
-        if side == 'client':
-            return self.outlines.starts[place] + int(record) - 1
-        if place not in self.exchanges:
-            self.exchanges[place] = self.outlines.exchanges_of_replies(place)
-        return self.exchanges[place][int(record)]
+        connection, is_call, record = place_of(line)
+        if (connection, is_call) not in self.exchanges:
+            place = self.outlines.place_of(connection)
+            self.exchanges[connection, is_call] = (
+                self.outlines.exchanges_of_calls(place) if is_call
+                else self.outlines.exchanges_of_replies(place))
+        return self.exchanges[connection, is_call][record]
 
     def unequal(self) -> set[int]:
         out = set[int]()

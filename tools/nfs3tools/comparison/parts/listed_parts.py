@@ -12,6 +12,7 @@ from collections.abc import Iterable, Iterator, Sequence
 from functools import cached_property
 from itertools import accumulate, groupby
 
+from ...exchanges.listing import place_of, with_connection
 from ...recordings.container import capture_of
 from ...recordings.taken import Taken
 from ..exchanges.outlines import classes_of_items, renamed_values
@@ -97,8 +98,9 @@ class PartTrial(Trial):
 
     def canonical(self, captures: Sequence[str],
                   mask: Mask | None = None) -> tuple[Listing, Listing]:
-        if captures is not self.captures or mask is None:
+        if captures is not self.captures:
             return super().canonical(captures, mask)
+        mask = mask or {}
         if told(mask) not in self.forms:
             self.forms[told(mask)] = [renumbered(lines, mask)
                                       for lines in self.listed.canonical(mask)[self.at]]
@@ -110,10 +112,10 @@ def parts_of(lines: Iterable[str], connections: Sequence[int]) -> list[list[str]
     """Returns the lines of each part, by how many connections it has, whose numbers begin with
     1."""
     out, ends = [list[str]() for _ in connections], list(accumulate(connections, initial=0))
-    for number, some in groupby(lines, lambda line: line[:line.index(' ')]):
-        part = bisect_left(ends, int(number)) - 1
-        own = str(int(number) - ends[part])
-        out[part].extend(own + line[len(number):] for line in some)
+    for number, some in groupby(lines, lambda line: place_of(line).connection):
+        part = bisect_left(ends, number) - 1
+        own = number - ends[part]
+        out[part].extend(with_connection(line, own) for line in some)
     return out
 
 

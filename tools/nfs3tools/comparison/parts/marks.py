@@ -18,12 +18,13 @@ from itertools import accumulate, chain, count, groupby, repeat
 from operator import itemgetter
 from typing import NamedTuple
 
-from ...exchanges.listing import Message, message_of
+from ...exchanges.answering import Answering
+from ...exchanges.listing import Line, Message, line_of, message_of
 from ...recordings.records import Window, extents
 from ...recordings.taken import Taken, TakenConnection, TakenStream
 from ...shared.places import SIDES, Side
 from ...shared.programs import Died
-from ..exchanges.outlines import Outlines, Waiting
+from ..exchanges.outlines import Outlines
 from ..exchanges.pairing import Listing
 from ..values.long_values import bytes_of
 from ..verdict.cover import Size
@@ -111,14 +112,14 @@ class Answered:
     counted from 0."""
 
     def __init__(self) -> None:
-        self.calls, self.owners, self.waiting = 0, array('I'), Waiting()
+        self.calls, self.owners, self.rule = 0, array('I'), Answering()
 
-    def add_call(self, xid: int) -> None:
-        self.waiting.add(xid, self.calls)
+    def add_call(self, line: Line) -> None:
+        self.rule.call(line.xid, line.text)
         self.calls += 1
 
     def add_reply(self, xid: int) -> None:
-        self.owners.append(self.waiting.answered(xid))
+        self.owners.append(self.rule.reply(xid))
 
 
 class MarkedRun:
@@ -151,16 +152,16 @@ class MarkedRun:
     def marks(self, pattern: re.Pattern[str]) -> Iterator[Mark]:
         """Reads the listing, and iterates over the calls that are marks."""
         for line in self.listing():
-            number, side, _, xid, procedure, _ = line.split(' ', 5)
-            connection = self.answered[int(number)]
-            if side == 'server':
-                connection.add_reply(int(xid[4:]))
+            read = line_of(line)
+            connection = self.answered[read.connection]
+            if not read.is_call:
+                connection.add_reply(read.xid)
                 continue
-            connection.add_call(int(xid[4:]))
-            name = message_of(line.rstrip('\n')).value_of('name') if procedure in MARKING else None
+            connection.add_call(read)
+            name = message_of(line).value_of('name') if read.procedure in MARKING else None
             if name is not None and pattern.match(os.fsdecode(bytes_of(name))):
-                frame = self.sent[int(number)][connection.calls - 1] if self.sent else 0
-                yield Mark((frame, int(number), connection.calls), name)
+                frame = self.sent[read.connection][connection.calls - 1] if self.sent else 0
+                yield Mark((frame, read.connection, connection.calls), name)
 
     def cut(self, connection: TakenConnection, begins: Sequence[Moment]) -> None:
         """Gives the parts, which begin at these moments, their pieces of a connection. One without

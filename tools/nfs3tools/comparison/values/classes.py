@@ -129,25 +129,37 @@ def mask_word(text: str) -> str:
     return text
 
 
-# Classes that are zero in any order if that is needed, in this order. File ids are given out in the
-# order of creation, and again after a removal; verifiers of exclusive creates and cookies may
-# repeat by chance, and then stand for two; others' changes are seen half done. Bodies of other
-# programs have such values anywhere.
+# Classes that are zero while exchanges are brought together in any order. What is compared has them
+# as `--mask` has it.
 RELAXED = ('ids', 'createverfs', 'cookies', 'wcc', 'raw')
+# Classes whose values follow their objects in any order: ids their files, cookies their entries,
+# and verifiers the files that are created.
+FOLLOWING = frozenset(('ids', 'fsids', 'cookies', 'createverfs'))
 
 
 def in_any_order(text: str | None, has_raw: bool = False) -> list[Mask]:
-    """Returns the masks under which runs are compared in another order, each with more than the one
-    before: that of `--mask`, and then one relaxed class after another as zero. A class that
-    `--mask` names stays as it is, and so does a mask that is given as a whole. Raw bodies are
-    masked only if there are some."""
+    """Returns the mask of `--mask`, and that under which exchanges are brought together in another
+    order, with relaxed classes as zero. A class that `--mask` names stays as it is, and so does a
+    mask that is given as a whole. Raw bodies are masked only if there are some."""
+    mask, named = default_mask() if text is None else mask_of(text), named_in(text)
+    relaxed = {name: Way.ZERO for name in (RELAXED if has_raw else RELAXED[:-1])
+               if named is not None and name not in named}
+    return [mask, {**mask, **relaxed}] if relaxed else [mask]
+
+
+def named_in(text: str | None) -> frozenset[str] | None:
+    """Returns the classes that `--mask` changes, or None if it is the whole mask."""
     words = [] if text is None else [word for word in text.split(',') if word]
-    masks, named = [default_mask() if text is None
-                    else mask_of(text)], {word.lstrip('+-').partition('=')[0] for word in words}
-    for name in RELAXED if has_raw else RELAXED[:-1]:
-        if name not in named and all(word[0] in '+-' for word in words):
-            masks.append({**masks[-1], name: Way.ZERO})
-    return masks
+    if not all(word[0] in '+-' for word in words):
+        return None
+    return frozenset(word.lstrip('+-').partition('=')[0] for word in words)
+
+
+def following(text: str | None) -> frozenset[str]:
+    """Returns the classes whose values follow their objects in any order, if they are not one to
+    one: those that `--mask` does not name."""
+    named = named_in(text)
+    return frozenset() if named is None else FOLLOWING - named
 
 
 def besides(mask: Mask, before: Mask) -> Mask:

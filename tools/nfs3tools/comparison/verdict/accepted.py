@@ -5,7 +5,7 @@ import argparse
 import glob
 import json
 import re
-from collections import defaultdict
+from collections import Counter, defaultdict
 from collections.abc import Iterable, Iterator, Mapping, Sequence
 from dataclasses import replace
 from fnmatch import fnmatchcase
@@ -20,11 +20,15 @@ from ..values.classes import CLASSES, Mask, Way
 from .differences import Difference
 from .findings import Compared, Finding
 
-VERSION = 1  # of the form of the file
+VERSION = 2  # of the form of the file
 SIDES = ('first', 'second')
-# What an entry says of the message, and the findings of which that is all.
-PLAIN = ('moved', 'replies')
-MEMBERS = {'procedure', 'path', 'is_call', 'field', 'first', 'second', 'only', 'kind'}
+# Findings that are told by their kind: calls in another place, sent again, and other numbers of
+# replies.
+PLAIN = ('moved', 'sent again', 'replies')
+MEMBERS = {'procedure', 'path', 'is_call', 'field', 'first', 'second', 'only', 'kind', 'asks',
+           'status', 'times'}
+# What an entry needs besides, by what it is about.
+NEEDED = {'only': {'asks', 'status'}, 'replies': {'first', 'second'}}
 WILD, ESCAPED = frozenset('*?['), re.compile(r'\[([*?[])\]')
 Entry = Mapping[str, Any]  # an object of the file
 
@@ -45,27 +49,43 @@ class Accepted:
         for number, entry in enumerate(entries):
             self.by_path[key_of(entry.get('path', ANY))].append(number)
 
-    def of(self, finding: Finding) -> list[int]:
+    def of(self, finding: Finding, mask: Mask) -> list[int]:
         """Returns the numbers of the entries that fit the message of a finding."""
         some = [*self.by_path.get((finding.path,), ()), *self.by_path.get(ANY, ())]
-        return [number for number in some if fits(self.entries[number], finding)]
+        return [number for number in some if fits(self.entries[number], finding, mask)]
 
     def split(self, compared: Compared) -> tuple[Compared, Split]:
         """Returns what is left of a comparison, and what was accepted of it. A finding of which
         some fields are accepted is in both, with its own fields in each."""
-        left, taken, used = list[Finding](), list[Finding](), set[int]()
+        left, taken, uses = list[Finding](), list[Finding](), Uses(self.entries)
         for finding in compared.findings:
-            numbers = self.of(finding)
-            some = [said_by(self.entries, numbers, one) for one in finding.differences]
-            used.update(*some, () if finding.differences else numbers)
+            numbers = self.of(finding, compared.mask)
             if not finding.differences:
-                (taken if numbers else left).append(finding)
+                (taken if uses.take(numbers) else left).append(finding)
                 continue
-            taken += with_fields(finding, map(bool, some))
-            left += with_fields(finding, (not by for by in some))
-        gone = [entry for number, entry in enumerate(self.entries) if number not in used]
+            some = [uses.take(said_by(self.entries, numbers, one)) for one in finding.differences]
+            taken += with_fields(finding, some)
+            left += with_fields(finding, (not is_taken for is_taken in some))
+        gone = [entry for number, entry in enumerate(self.entries) if not uses.numbers[number]]
         rest = replace(compared, findings=left, lonely=lonely_without(compared, taken))
         return rest, Split(taken, gone)
+
+
+class Uses:
+    """How often each entry has accepted something."""
+
+    def __init__(self, entries: Sequence[Entry]) -> None:
+        self.entries, self.numbers = entries, Counter[int]()
+
+    def take(self, numbers: Iterable[int]) -> bool:
+        """Uses the first of some entries that accepts more, and returns whether there is one."""
+        some = (number for number in numbers
+                if self.numbers[number] < self.entries[number].get('times', 1))
+        found = next(some, None)
+        if found is None:
+            return False
+        self.numbers[found] += 1
+        return True
 
 
 def key_of(pattern: str | None) -> object:
@@ -87,7 +107,7 @@ def lonely_without(compared: Compared, taken: Iterable[Finding]) -> tuple[int, i
     return compared.lonely[0] - sides.count(False), compared.lonely[1] - sides.count(True)
 
 
-def fits(entry: Entry, finding: Finding) -> bool:
+def fits(entry: Entry, finding: Finding, mask: Mask) -> bool:
     """Whether an entry is about the message of a finding. None is about whole connections."""
     message = finding.first or finding.second
     if message is None or finding.kind in ('connection', 'order') or kind_of(entry) != finding.kind:
@@ -96,11 +116,29 @@ def fits(entry: Entry, finding: Finding) -> bool:
         return False
     if entry.get('is_call', message.is_call) != message.is_call:
         return False
-    if finding.kind == 'only' and entry['only'] != SIDES[finding.first is None]:
+    told = told_of(finding, mask)
+    if any(entry[name] != value for name, value in told.items() if name != 'kind'):
         return False
     path = entry.get('path', ANY)
     return path == finding.path or path == ANY or (
         path is not None and finding.path is not None and fnmatchcase(finding.path, path))
+
+
+def told_of(finding: Finding, mask: Mask) -> dict[str, object]:
+    """Returns what an entry says of a finding besides its fields: of a call of one run alone which
+    run, what it asks and the statuses of its replies; of replies the statuses of both runs."""
+    if finding.kind == 'only':
+        return {'only': SIDES[finding.first is None], 'asks': asks_of(finding, mask),
+                'status': finding.statuses[finding.first is None]}
+    if finding.kind == 'replies':
+        return {'kind': 'replies', **dict(zip(SIDES, finding.statuses))}
+    return {'kind': finding.kind} if finding.kind in PLAIN else {}
+
+
+def asks_of(finding: Finding, mask: Mask) -> list[str]:
+    """Returns the arguments of a call of one run alone, but for values that are its run's own."""
+    return [f'{one.label}={one.value}' for one in finding.arguments
+            if not is_of_run(one.name, True, mask)]
 
 
 def kind_of(entry: Entry) -> str:
@@ -117,8 +155,9 @@ def said_by(entries: Sequence[Entry], numbers: Iterable[int], difference: Differ
 
 
 def values_of(difference: Difference) -> dict[str, str | None]:
-    """Returns both values as an entry has them: of long ones their digests."""
-    both = difference.first, difference.second
+    """Returns both values as an entry has them: of long ones their digests, of file handles the
+    paths."""
+    both = difference.objects or (difference.first, difference.second)
     return {side: None if value is None else str(value) for side, value in zip(SIDES, both)}
 
 
@@ -130,10 +169,13 @@ def accepted_of(path: str) -> Accepted:
         content = file.read()
     try:
         whole = json.loads(content)
-        is_of_version = isinstance(whole, dict) and whole['version'] == VERSION
-        entries = whole['accepted'] if is_of_version else None
+        version = whole['version'] if isinstance(whole, dict) else None
+        entries = whole['accepted'] if version == VERSION else None
     except (ValueError, KeyError, RecursionError):
-        entries = None
+        version = entries = None
+    if version == 1:
+        raise refusal(path, 'it has version 1, whose entries accept more than one finding; '
+                            '--accept-new writes a new one')
     if not isinstance(entries, list):
         raise refusal(path, f'it has no object with "version": {VERSION} and a list "accepted"')
     for number, entry in enumerate(entries, 1):
@@ -158,7 +200,10 @@ def fault_of(entry: object) -> str | None:
         return f'no member of an entry: {min(entry.keys() - MEMBERS)}'
     if len(which) != 1:
         return 'it needs one of field, only and kind'
-    if {'first', 'second'} & entry.keys() and 'field' not in entry:
+    lacks = NEEDED.get(kind_of(entry), set()) - entry.keys()
+    if lacks:
+        return f'it needs {min(lacks)}'
+    if {'first', 'second'} & entry.keys() and 'field' not in entry and entry['kind'] != 'replies':
         return 'values need a field'
     return next((f'{name} cannot be {json.dumps(value)}' for name, value in entry.items()
                  if not is_value(name, value)), None)
@@ -167,17 +212,29 @@ def fault_of(entry: object) -> str | None:
 def is_value(name: str, value: object) -> bool:
     """Whether a member of an entry may have a value."""
     if name in ('path', 'first', 'second'):
-        return value is None or isinstance(value, str)
+        return value is None or is_text(value)
     if name == 'is_call':
         return isinstance(value, bool)
+    if name == 'asks':
+        return isinstance(value, list) and all(map(is_text, value))
+    if name == 'times':
+        return isinstance(value, int) and not isinstance(value, bool) and value > 0
     choices = {'only': SIDES, 'kind': PLAIN}.get(name)
-    return isinstance(value, str) and (choices is None or value in choices)
+    return is_text(value) and (choices is None or value in choices)
+
+
+def is_text(value: object) -> bool:
+    """Whether a value is a text that a file may have: JSON can spell halves of characters."""
+    return isinstance(value, str) and not any('\ud800' <= one <= '\udbff' for one in value)
 
 
 def file_of(findings: Iterable[Finding], mask: Mask) -> bytes:
-    """Returns a file that accepts findings, those that can be, each entry once."""
-    lines = [json.dumps(entry) for finding in findings for entry in entries_of(finding, mask)]
-    entries = ','.join(f'\n  {line}' for line in dict.fromkeys(lines))
+    """Returns a file that accepts findings, those that can be. Equal entries are one, which says
+    how often."""
+    lines = Counter(json.dumps(entry) for finding in findings
+                    for entry in entries_of(finding, mask))
+    entries = ','.join('\n  ' + (line if number == 1 else f'{line[:-1]}, "times": {number}}}')
+                       for line, number in lines.items())
     return f'{{"version": {VERSION}, "accepted": [{entries}\n]}}\n'.encode()
 
 
@@ -189,25 +246,25 @@ def entries_of(finding: Finding, mask: Mask) -> Iterator[Entry]:
         return
     path = None if finding.path is None else glob.escape(finding.path)
     entry = {'procedure': message.procedure, 'path': path}
-    if finding.kind == 'only':
-        yield {**entry, 'only': SIDES[finding.first is None]}
-    elif finding.kind in PLAIN:
-        yield {**entry, 'kind': finding.kind}
+    told = told_of(finding, mask)
+    if told:
+        yield {**entry, **told}
     for one in finding.differences:
-        values = {} if is_of_run(one, message.is_call, mask) else values_of(one)
+        is_own = one.objects is None and is_of_run(one.name, message.is_call, mask)
+        values = {} if is_own else values_of(one)
         yield {**entry, 'is_call': message.is_call, 'field': one.label, **values}
 
 
-def is_of_run(difference: Difference, is_call: bool, mask: Mask) -> bool:
+def is_of_run(name: str, is_call: bool, mask: Mask) -> bool:
     """Whether each run has values of its own of an item, so that the next one has others."""
-    return difference.name in RENAMED or any(
-        mask.get(one.name) is Way.NUMBER and one.has(difference.name, is_call) for one in CLASSES)
+    return name in RENAMED or any(
+        mask.get(one.name) is Way.NUMBER and one.has(name, is_call) for one in CLASSES)
 
 
 def words_of(entry: Entry) -> str:
     """Returns an entry as it is printed."""
     values = [f' {side}={entry[side]}' for side in SIDES if entry.get(side) is not None]
     side = f' in the {entry["only"]} run' if 'only' in entry else ''
-    about = entry.get('field') or kind_of(entry) + side
+    about = ' '.join([entry.get('field') or kind_of(entry) + side, *entry.get('asks', ())])
     where = [path] if (path := entry.get('path', ANY)) is not None else []
     return printable(' '.join([entry['procedure'], *where, about]) + ''.join(values))

@@ -14,7 +14,7 @@ from .accepted import Accepted
 from .cover import Cover, Size
 from .findings import Compared, Run
 from .orders import Choices, Found, Order, Orders
-from .report import Report
+from .report import IN_ANY_ORDER, Report
 from .trial import Trial
 
 
@@ -43,16 +43,16 @@ class Judged(NamedTuple):
                covers: Sequence[Cover] = ()) -> Report:
         both = (covers[0], covers[1]) if covers else None
         return Report(self.verdict, choices.masks[0], (names[0], names[1]), (sizes[0], sizes[1]),
-                      self.found.same_under, both, self.found.accepted)
+                      self.found.same_under, summary.word_of(self.found) if self.is_turned else '',
+                      both, self.found.accepted)
 
     def line(self, choices: Choices, size: Size, losses: str = '') -> str:
         """What is printed of the verdict: how much was compared, and in which part."""
         if self.is_turned:
-            return line_of(summary.IN_ANOTHER_ORDER, summary.of_same(self.found, choices.masks[0]),
-                           losses, self.number_accepted)
-        is_in_any = self.verdict != 'same' and self.order == 'any'
-        return line_of('differ in any order' if is_in_any else self.verdict, size, losses,
-                       self.number_accepted)
+            return line_of(summary.with_explained(self.found),
+                           summary.of_same(self.found, choices.masks[0]), losses,
+                           self.number_accepted)
+        return line_of(self.verdict, size, losses, self.number_accepted)
 
 
 def line_of(verdict: str, compared: Size | str, losses: str, accepted: int) -> str:
@@ -87,15 +87,19 @@ def judged(trial: Trial, runs: Sequence[Run], sizes: Sequence[Size], choices: Ch
     order: Order = 'strict' if verdict == 'same' else choices.order
     first, second = runs
     found = Orders(trial, first, second, replace(choices, order=order)).found()
-    return Judged(verdict_without(verdict, found), found, choices.order)
+    if found.same_under is not None:
+        return Judged(verdict, found, choices.order)
+    return Judged(with_position(verdict, found, order == 'any'), found, choices.order)
 
 
-def verdict_without(verdict: str, found: Found) -> str:
-    """Returns the verdict without the findings that were accepted: `same`, or where others
-    differ."""
-    if found.is_rest_same:
+def with_position(verdict: str, found: Found, is_any: bool) -> str:
+    """Returns the verdict: `same`, or where the first finding is that was not accepted."""
+    if found.is_rest_same or verdict == 'same':
         return 'same'
-    if found.accepted is None or not found.accepted.findings or not found.compared.findings:
-        return verdict
-    message = found.compared.findings[0].first or found.compared.findings[0].second
-    return f'differ at {message.place}' if message else verdict
+    words = f'differ{IN_ANY_ORDER}' if is_any else 'differ'
+    if not found.compared.findings:
+        return f'{words} at {verdict.partition(" at ")[2]}'
+    first = found.compared.findings[0]
+    message = first.first or first.second
+    only = '' if first.first else ' of the second run'
+    return f'{words} at {message.place}{only}' if message else words

@@ -27,6 +27,7 @@ class Difference:
     meanings: the names of the values, of numbers that have some
     apart: where two long values part
     alike: what differences of renamed values have in common, of which each has values of its own
+    objects: the paths of two file handles, if both are known
     """
     name: str
     first: Value | None
@@ -37,6 +38,7 @@ class Difference:
     meanings: tuple[str, str] = ('', '')
     apart: Apart | None = None
     alike: str = ''
+    objects: tuple[str, str] | None = None
 
     @property
     def is_equal(self) -> bool:
@@ -132,19 +134,16 @@ class Comparison:
                              is_renamed=True) if why else None
 
     def of_items(self, here: Side, first: range, there: Side, second: range) -> list[Difference]:
-        """Returns how two runs of items differ, up to where they have another layout."""
+        """Returns how two runs of items differ. An optional part that one of them alone has is one
+        difference: the item before it, which says whether it follows."""
         found: list[Difference] = []
-        for at, to in zip(first, second):
-            if here.items[at].name != there.items[to].name:
-                return [*found, of_one_run(here, at, 0, 'the layouts part'),
-                        of_one_run(there, to, 1)]
+        for at, to in in_both(here, first, there, second):
             difference = self.of_values(here, at, there, to)
             if difference:
                 found.append(difference)
                 if difference.name in DECIDING:
                     return found
-        found += [of_one_run(here, at, 0) for at in first[len(second):]]
-        return found + [of_one_run(there, to, 1) for to in second[len(first):]]
+        return found
 
     def of_messages(self, first: Message, second: Message, call: Message | None = None,
                     other: Message | None = None) -> list[Difference]:
@@ -188,6 +187,20 @@ class Comparison:
         at = at_name(side, entry)
         owner = None if at is None else self.owner_of(side, at)
         return name_of(side, entry) if owner is None else owner.name
+
+
+def in_both(here: Side, first: range, there: Side, second: range) -> Iterator[tuple[int, int]]:
+    """Iterates over the items that are at the same place of the layouts in both messages."""
+    ours, theirs = iter(first), iter(second)
+    at, to = next(ours, None), next(theirs, None)
+    while at is not None and to is not None:
+        if here.labels.field(at) == there.labels.field(to):
+            yield at, to
+            at, to = next(ours, None), next(theirs, None)
+        elif here.labels.field(at) in there.labels.fields_from(to):
+            to = next(theirs, None)
+        else:
+            at = next(ours, None)
 
 
 def is_of(owner: ValueClass, side: Side, at: int) -> bool:

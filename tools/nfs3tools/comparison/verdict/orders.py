@@ -4,20 +4,21 @@ from __future__ import annotations
 
 from collections.abc import Sequence
 from dataclasses import dataclass, replace
-from functools import cache
 from typing import Literal, Optional
 
+from ..exchanges.any_order import Explanation, TwoRuns
 from ..exchanges.matching import Pair
-from ..exchanges.overtaken import overtaken
 from ..exchanges.pairing import ASKING, Pairing
 from ..exchanges.unequal import Listed, ListedInPlace
-from ..values.classes import Mask, besides, with_class_of
+from ..values.classes import CLASSES, Mask, Way
 from .accepted import Accepted, Split
 from .excerpt import Around
 from .findings import Compared, Explaining, Finding, Run
 from .trial import Trial
 
 Order = Optional[Literal['strict', 'any']]
+# Classes that follow their objects together.
+GROUPS = frozenset(('ids', 'fsids')), frozenset(('cookies',)), frozenset(('createverfs',))
 
 
 @dataclass(frozen=True)
@@ -30,9 +31,11 @@ class Choices:
     leaves_out: the procedures whose calls are left out in any order if one run alone has them
     around: how much is shown of both runs side by side, if that is asked for
     accepted: the findings that were accepted before, if there is a file of them
+    follows: the classes whose values follow their objects in any order, if they are not one to one
     """
     order: Order
     masks: Sequence[Mask]
+    follows: frozenset[str] = frozenset()
     leaves_out: frozenset[str] = ASKING
     around: Around | None = None
     accepted: Accepted | None = None
@@ -46,12 +49,14 @@ class Found:
     accepted: the findings that were accepted, which are not among those of `compared`
     is_rest_same: whether the runs are the same in their own order without the exchanges of these
     whole: the comparison with all findings that count, accepted or not, if there are some
+    follows: whether ids and their like follow their objects, since they are not one to one
     """
     compared: Compared
     same_under: Mask | None = None
     accepted: Split | None = None
     is_rest_same: bool = False
     whole: Compared | None = None
+    follows: bool = False
 
 
 class NothingToCompare(Exception):
@@ -67,16 +72,16 @@ class Orders:
         is_strict, (mask, *more) = choices.order == 'strict', choices.masks
         self.leaves_out = frozenset[str]() if is_strict else choices.leaves_out
         # (to bring exchanges together it is all one whether a class is numbered or zero)
-        self.take(trial.paired([mask] if is_strict else [mask, *more[-1:]], self.leaves_out), [])
+        self.take(trial.paired([mask] if is_strict else [mask, *more[-1:]], self.leaves_out),
+                  Explanation())
 
-    def take(self, pairing: Pairing, overtaken: Sequence[Pair]) -> None:
-        """Takes exchanges that were brought together, but for some questions that were
-        overtaken."""
-        self.pairing = pairing.without(overtaken) if overtaken else pairing
+    def take(self, pairing: Pairing, explanation: Explanation) -> None:
+        """Takes exchanges that were brought together, but for pairs that an order explains."""
+        self.pairing = pairing.without(explanation.pairs) if explanation.pairs else pairing
         self.is_in_place = self.pairing.is_in_place
         self.captures = (self.trial.captures if self.is_in_place
                          else self.trial.in_one_order(self.pairing))
-        self.explaining = Explaining(*self.runs, self.pairing, self.leaves_out, overtaken)
+        self.explaining = Explaining(*self.runs, self.pairing, self.leaves_out, explanation)
 
     def found(self) -> Found:
         """Finds what differs, or that nothing does in another order, and what of it was
@@ -93,14 +98,14 @@ class Orders:
     def with_rest(self, found: Found, accepted: Sequence[Finding]) -> Found:
         """Finds whether the runs are the same without the exchanges of all findings, which were
         accepted. That is the word of the program, as without them."""
-        masks, mask = self.choices.masks, found.compared.mask
+        mask = found.compared.mask
         rest = self.pairing.without(pairs_of(self.pairing, accepted))
         if not len(rest.order_of_first()):
             return found
         self.captures = self.trial.in_one_order(rest)
         if self.is_in_own_order():
             return replace(found, is_rest_same=self.has_like_connections() and self.is_same(mask))
-        return replace(found, same_under=self.least()[0]) if self.is_same(masks[-1]) else found
+        return replace(found, same_under=mask) if self.is_same(mask) else found
 
     def is_in_own_order(self) -> bool:
         """Whether the order counts, or makes no difference. Then reordered calls are
@@ -115,46 +120,53 @@ class Orders:
         return first == second and here == there and self.pairing.homes == list(range(len(here)))
 
     def found_of_all(self) -> Found:
-        masks = self.choices.masks
+        mask = self.choices.masks[0]
         if self.is_in_own_order():
-            return Found(self.explained(masks[0]))
-        # (each mask has more than the one before, so what differs under the last one does under
-        # all)
-        if self.leaves_out and (self.explaining.tells_lonely() or not self.is_same(masks[-1])):
-            self.leave_out_overtaken()
-        if self.explaining.tells_lonely() or not self.is_same(masks[-1]):
-            return Found(self.explained(masks[-1]))
+            return Found(self.explained(mask))
+        if self.leaves_out:
+            self.leave_out_explained(mask)
+        found = self.found_under(mask)
+        classes = frozenset() if found.same_under is not None or not self.leaves_out else (
+            self.not_one_to_one(found.compared, mask))
+        if not classes:
+            return found
+        self.follow(classes)
+        return replace(self.found_under(without(mask, classes)), follows=True)
+
+    def not_one_to_one(self, compared: Compared, mask: Mask) -> frozenset[str]:
+        """Returns the classes that are to follow their objects: those of values that differ. If
+        pairs differ of which no field is told, values are shared by other messages."""
+        told, groups = classes_in(compared), [group & self.choices.follows for group in GROUPS]
+        if self.explaining.are_all_told:
+            return frozenset().union(*(group for group in groups if group & told))
+        own = self.listed(mask).unequal()
+        zeros = [{**mask, **dict.fromkeys(group, Way.ZERO)} for group in groups]
+        return frozenset().union(*(group for group, zero in zip(groups, zeros)
+                                   if group & told or self.listed(zero).unequal() < own))
+
+    def found_under(self, mask: Mask) -> Found:
+        """Finds what differs under a mask in any order, or that nothing does."""
+        if self.explaining.tells_lonely() or not self.is_same(mask):
+            return Found(self.explained(mask))
         if not len(self.explaining.firsts):
             raise NothingToCompare('nothing to compare: no call of one run is in the other')
-        under, before = self.least()
-        # (what only the last class of this mask makes the same is told)
-        return Found(self.explained(before), under)
+        return Found(self.explained(mask), mask)
 
-    def leave_out_overtaken(self) -> None:
-        """Leaves questions out that others overtook. What is left decides."""
-        firsts, seconds = self.explaining.firsts, self.explaining.seconds
-        unequal = [(firsts[turn], seconds[turn])
-                   for turn in sorted(self.listed(self.choices.masks[-1]).unequal())]
-        runs, listings = (
-            (self.trial.runs[0], self.trial.runs[1]),
-            self.trial.canonical(self.trial.captures, self.choices.masks[0]))
-        some = [pair for pair in overtaken(runs, self.pairing, listings, unequal)
-                if self.pairing.here.procedure_of(pair[0]) in self.leaves_out]
-        if some:
-            self.take(self.pairing, some)
+    def leave_out_explained(self, mask: Mask) -> None:
+        """Leaves out what an order explains. What is left decides."""
+        trial = self.trial
+        self.two = TwoRuns(trial.runs, self.pairing, lambda: trial.canonical(trial.captures),
+                           self.leaves_out)
+        self.explanation = self.two.explanation(mask)
+        if self.explanation.pairs or any(self.explanation.counted):
+            self.take(self.two.pairing, self.explanation)
 
-    def least(self) -> tuple[Mask, Mask]:
-        """Returns a mask under which the runs are the same, with no class more than is needed, and
-        the one without its last class. There has to be one."""
-        masks = self.choices.masks
-        at = next(at for at, mask in enumerate(masks) if self.is_same(mask))
-        if at == 0:
-            return masks[0], masks[0]
-        under, (last,) = masks[at], besides(masks[at], masks[at - 1])
-        for name in besides(masks[at - 1], masks[0]):
-            fewer = with_class_of(under, masks[0], name)
-            under = fewer if self.is_same(fewer) else under
-        return under, with_class_of(under, masks[0], last)
+    def follow(self, classes: frozenset[str]) -> None:
+        """Takes the second run with the first run's values of some classes."""
+        first, second = self.runs
+        self.trial = self.trial.with_second(self.two.followed(classes))
+        self.runs = first, replace(second, listing=self.trial.listing(self.trial.captures[1]))
+        self.take(self.two.pairing, self.explanation)
 
     def is_same(self, mask: Mask) -> bool:
         return self.trial.same(self.captures, mask) == 'same'
@@ -172,12 +184,18 @@ class Orders:
                                          self.choices.order == 'strict', self.choices.around)
 
 
+def classes_in(compared: Compared) -> frozenset[str]:
+    """Returns the classes of the values that differ."""
+    names = {one.name for finding in compared.findings for one in finding.differences}
+    return frozenset(one.name for one in CLASSES if names & one.items)
+
+
+def without(mask: Mask, classes: frozenset[str]) -> Mask:
+    return {name: way for name, way in mask.items() if name not in classes}
+
+
 def pairs_of(pairing: Pairing, findings: Sequence[Finding]) -> list[Pair]:
     """Returns the matched exchanges of which findings are."""
-    here, replies = pairing.here, cache(pairing.here.exchanges_of_replies)
-    some = set[int]()
-    for message in filter(None, (finding.first for finding in findings if finding.second)):
-        place = here.place_of(message.connection)
-        some.add(here.starts[place] + message.record - 1 if message.is_call
-                 else replies(place)[message.record])
+    some = pairing.here.exchanges_of_messages(
+        finding.first for finding in findings if finding.first and finding.second)
     return [(at, pairing.partners[at]) for at in sorted(some)]

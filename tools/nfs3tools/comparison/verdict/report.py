@@ -9,19 +9,21 @@ from ..values.classes import Mask
 from .accepted import Split
 from .cover import Cover, Size
 from .findings import Compared
-from .summary import IN_ANOTHER_ORDER
+
+IN_ANY_ORDER = ' in any order'
 
 
 class Report(NamedTuple):
     """What is said of two runs as a whole: what `same` says of them, what is masked, and of both
-    their names and how much they have; the mask under which they are the same in another order, if
-    they are; how much of both is compared, unless they are parts; and what was accepted, if there
-    is a file of that."""
+    their names and how much they have; the mask under which they are the same if the order does not
+    count, if they are, and what is said of that; how much of both is compared, unless they are
+    parts; and what was accepted, if there is a file of that."""
     verdict: str
     mask: Mask
     names: tuple[str, str]
     sizes: tuple[Size, Size]
     same_under: Mask | None = None
+    turned: str = ''
     covers: tuple[Cover, Cover] | None = None
     accepted: Split | None = None
 
@@ -33,8 +35,7 @@ class Report(NamedTuple):
 
     def word(self) -> str:
         """Returns the verdict as a word."""
-        verdict = (IN_ANOTHER_ORDER if self.same_under is not None
-                   else self.verdict.partition(' at ')[0])
+        verdict = self.turned or self.verdict.partition(' at ')[0].removesuffix(IN_ANY_ORDER)
         return f'{verdict} in part' if verdict.startswith('same') and self.is_in_part else verdict
 
 

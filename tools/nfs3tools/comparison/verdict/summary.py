@@ -5,15 +5,17 @@ from collections import Counter, defaultdict
 from collections.abc import Iterator, Sequence
 
 from ...recordings.selection import count, plural
-from ..values.classes import Mask, besides, told
+from ..values.classes import Mask
 from .findings import Compared
 from .orders import Found
 
 FIELDS_AT_MOST = 4
 RUNS = ('first', 'second')
-IN_ANOTHER_ORDER = 'same in another order'
+IN_ANOTHER_ORDER, BUT_IDS, BUT_LEFT_OUT = (
+    'same in another order', 'same but for ids', 'same but for calls left out')
 # On a part
-VERDICTS = ('same', IN_ANOTHER_ORDER, 'differ', 'only in the first run', 'only in the second run')
+VERDICTS = ('same', BUT_IDS, BUT_LEFT_OUT, IN_ANOTHER_ORDER, 'differ', 'only in the first run',
+            'only in the second run')
 
 
 def short(procedure: str) -> str:
@@ -40,27 +42,45 @@ def left_out(compared: Compared) -> Iterator[tuple[str, str]]:
             yield f'{number:,} {short(procedure)}', name
 
 
-def overtaken(compared: Compared) -> Iterator[str]:
-    """The questions that others overtook, by procedures, with their folder if it is one."""
-    paths = defaultdict[str, list[str]](list)
+def of_both(compared: Compared) -> Iterator[str]:
+    """The calls of both runs that are left out, by why that is and by procedures, with their path
+    if it is one."""
+    paths = defaultdict[tuple[str, str], list[str]](list)
     for call in compared.silent:
-        if call.first and call.second:
-            paths[call.call.procedure].append(call.path or '?')
-    for procedure, some in sorted(paths.items()):
+        if call.kind != 'only':
+            paths[call.kind, call.call.procedure].append(call.path or '?')
+    for (kind, procedure), some in sorted(paths.items()):
         where = some[0] if len(set(some)) == 1 else f'{len(set(some)):,} paths'
-        yield f'{len(some):,} {short(procedure)} of {where}, in which others worked'
+        how = 'sent again' if kind == 'sent again' else 'explained by order'
+        yield f'{len(some):,} {short(procedure)} of {where}, {how}'
+
+
+def word_of(found: Found) -> str:
+    """Returns what is said of runs that are the same if the order does not count."""
+    compared = found.compared
+    if turns(compared) or compared.explained:
+        return IN_ANOTHER_ORDER
+    if found.follows:
+        return BUT_IDS
+    return BUT_LEFT_OUT if compared.silent else IN_ANOTHER_ORDER
+
+
+def with_explained(found: Found) -> str:
+    """Returns the same, with how many answers an order explains."""
+    number = found.compared.explained
+    return word_of(found) + (f', {count(number, "answer")} explained by order' if number else '')
 
 
 def of_same(found: Found, mask: Mask) -> str:
-    """What follows `same in another order`: how the order differs, and all else that does not
-    count."""
+    """What follows these words: how the order differs, and all else that does not count."""
     words = [f'{count(found.compared.exchanges, "call")}', *turns(found.compared)]
     some = [*(f'{what} of the {name} run' for what, name in left_out(found.compared)),
-            *overtaken(found.compared)]
+            *of_both(found.compared)]
     if some:
         words.append('left out: ' + ', '.join(some))
-    if found.same_under is not None and besides(found.same_under, mask):
-        words.append('also masked: ' + told(besides(found.same_under, mask)))
+    if found.follows and found.same_under is not None:
+        followed = sorted(mask.keys() - found.same_under.keys())
+        words.append(f'{" and ".join(followed)} follow their objects')
     return '; '.join(words)
 
 
@@ -82,7 +102,7 @@ def of_compared(compared: Compared) -> str:
     words = [f'{compared.exchanges:,} of {count(max(compared.calls), "call")} matched',
              *turns(compared)]
     words += [f'left out: {what} only in the {name} run' for what, name in left_out(compared)]
-    words += [f'left out: {what}' for what in overtaken(compared)]
+    words += [f'left out: {what}' for what in of_both(compared)]
     words += [f'{number:,} only in the {name} run' for name, number in zip(RUNS, compared.lonely)
               if number]
     return '; '.join([*words, *fields_of(compared)])

@@ -3,10 +3,13 @@ from __future__ import annotations
 
 import os
 import re
+import tempfile
 from collections.abc import Callable, Iterable, Iterator, Sequence
 from functools import partial
+from itertools import chain
 from pathlib import Path
 
+from ...exchanges.listing import place_of, with_connection
 from ...recordings.taken import Taken
 from ...shared.outputs import write_temporary
 from ...shared.places import Place
@@ -14,7 +17,7 @@ from ...shared.programs import (
     CHECKED, COMPARED, lines_of_program, run_program, run_side_by_side)
 from ...shared.progress import Progress
 from ..exchanges.outlines import Outlines, When
-from ..exchanges.pairing import InOrder, Listing, Pairing, Relaxed, paired
+from ..exchanges.pairing import InOrder, Listing, Pairing, Relaxed, Repeats, paired
 from ..exchanges.reordered import write_in_order
 from ..values.classes import Mask, told
 from ..values.masking import write_both_masked
@@ -45,6 +48,11 @@ class Trial:
         self.few = dict[str, list[str]]()  # the lines of small captures, which are listed once
         self.captures = self.named()
         self.write()
+
+    def with_second(self, second: Taken) -> 'Trial':
+        """Returns a trial of the first run and another second one."""
+        folder = Path(tempfile.mkdtemp(dir=self.folder))
+        return Trial(self.program, folder, [self.runs[0], second], self.progress)
 
     def write(self) -> None:
         for taken, capture in zip(self.runs, self.captures):
@@ -102,10 +110,9 @@ class Trial:
         return self.progress.lines('reading the calls', lines, taken.count_records)
 
     def numbered(self, capture: str, taken: Taken, numbers: Sequence[int]) -> Iterator[str]:
-        """Yields the lines of a capture, whose connections get these numbers."""
-        for line in self.lines(capture, taken):
-            number, _, rest = line.partition(' ')
-            yield f'{numbers[int(number) - 1]} {rest}'
+        """Returns the lines of a capture, whose connections get these numbers."""
+        return (with_connection(line, numbers[place_of(line).connection - 1])
+                for line in self.lines(capture, taken))
 
     def numbers_of(self, taken: Taken) -> list[int] | None:
         """Returns the numbers of the connections of a run, or None if none is left out."""
@@ -147,11 +154,12 @@ class Trial:
 
     def in_one_order(self, pairing: Pairing) -> list[str]:
         """Writes both runs in the order of the first one, without the exchanges that have no
-        partner. Returns the captures' names."""
+        partner, each call once. Returns the captures' names."""
         self.progress.begin('writing both runs in one order')
         names = self.named()
         sides = ((pairing.here, pairing.order_of_first(), pairing.only_first()),
                  (pairing.there, pairing.order_of_second(), pairing.only_second()))
         for taken, name, (outlines, order, only) in zip(self.runs, names, sides):
-            write_in_order(taken, InOrder(outlines, order), InOrder(outlines, only), name)
+            left_out = chain(InOrder(outlines, only), Repeats(outlines))
+            write_in_order(taken, InOrder(outlines, order), left_out, name)
         return names

@@ -1,0 +1,169 @@
+"""The changes of a run, and which of them stand otherwise to a question in the other run.
+
+A change is a SETATTR, WRITE, CREATE, MKDIR, SYMLINK, MKNOD, REMOVE, RMDIR, RENAME or LINK that was
+answered OK. It changes the objects of its handles, the object that it makes, that to which its name
+led, and its names. Which came first is known by frames. Whose a change is does not matter.
+"""
+from __future__ import annotations
+
+from collections import defaultdict
+from collections.abc import Callable, Iterator
+from typing import NamedTuple, Union
+
+from ...recordings.taken import Taken
+from ...shared.places import Place, Side
+from .facts import LINK, Facts
+from .matching import Pair
+from .pairing import NOBODY, Pairing
+
+NEVER = 1 << 62  # when a call is answered that has no reply
+GONE, ANY = 0, -1  # what a name leads to after a removal, and if that is not known
+REMOVING = frozenset(('NFSPROC3_REMOVE', 'NFSPROC3_RMDIR'))
+RENAME = 'NFSPROC3_RENAME'
+# What a change is of: an object by its identity, or a name in a folder. Both are the same in both
+# runs.
+Key = Union[int, tuple[int, str]]
+
+
+class Change(NamedTuple):
+    """A change in one of the runs, 0 or 1: its exchange. `name` is the same for exchanges of both
+    runs that belong together."""
+    name: int
+    run: int
+    at: int
+
+
+class Moment(NamedTuple):
+    """The changes of a key as a question meets them, by their names: those that were answered
+    before it was sent, and those that overlap it."""
+    done: dict[int, int]
+    over: dict[int, int]
+
+
+class Changes:
+    """The changes of a run, by what they are of."""
+
+    def __init__(self, taken: Taken, facts: Facts, named: Callable[[int], int]) -> None:
+        self.taken, self.facts, self.outlines, self.named = taken, facts, facts.outlines, named
+        self.of_key = defaultdict[Key, list[int]](list)
+        self.frames = dict[int, tuple[int, int]]()
+        for at in facts.changing:
+            keys: set[Key] = {*self.names_of(at), *self.objects_of(at)}
+            for key in keys:
+                self.of_key[key].append(at)
+        for at in facts.changing:
+            if self.outlines.procedure_of(at) in REMOVING | {RENAME}:
+                self.take_removed(at)
+
+    def take_removed(self, at: int) -> None:
+        """Notes a change of the objects to which its names led."""
+        for name in self.names_of(at):
+            for identity in self.leads(at, name) - {GONE, ANY}:
+                self.of_key[identity].append(at)
+
+    def identity(self, handle: int) -> int:
+        return self.outlines.identities[handle]
+
+    def names_of(self, at: int) -> list[tuple[int, str]]:
+        """Returns the names of a change, each in its folder."""
+        names = self.facts.names.get(at, ())
+        handles = self.outlines.objects_of(at)
+        return [(self.identity(handle), name)
+                for handle, name in zip(handles[len(handles) - len(names):], names)]
+
+    def objects_of(self, at: int) -> Iterator[int]:
+        """Iterates over the objects of a change's handles, and what it makes."""
+        handles = [*self.outlines.objects_of(at), self.outlines.found[at]]
+        return filter(None, (self.identity(handle) for handle in handles if handle))
+
+    def frames_of(self, at: int) -> tuple[int, int]:
+        """Returns the first frame of a call, and that of its reply."""
+        if at not in self.frames:
+            connection, record = self.outlines.record_of(at)
+            self.frames[at] = (self.frame_of(connection, 'client', record),
+                               self.frame_of(connection, 'server', self.outlines.replies[at]))
+        return self.frames[at]
+
+    def frame_of(self, connection: int, side: Side, record: int) -> int:
+        return min((frame.number for frame in self.taken.frames(Place(connection, side, record))),
+                   default=NEVER) if record else NEVER
+
+    def met(self, at: int, key: Key) -> Moment:
+        """Returns the changes of a key as an exchange meets them."""
+        begin, end = self.frames_of(at)
+        done, over = dict[int, int](), dict[int, int]()
+        for change in self.of_key.get(key, ()):
+            its_begin, its_end = self.frames_of(change)
+            if change == at:
+                continue
+            if its_end < begin:
+                done[self.named(change)] = change
+            elif its_begin < end:
+                over[self.named(change)] = change
+        return Moment(done, over)
+
+    def leads(self, at: int, name: tuple[int, str]) -> set[int]:
+        """Returns to what a name may lead when an exchange is sent: as the last change before it
+        leaves it, those that overlap that, and those that overlap the exchange. It is empty if
+        there is no change."""
+        done, over = self.met(at, name)
+        begins = [self.frames_of(change) for change in done.values()]
+        last = max(begins, key=lambda frames: frames[1])[0] if begins else 0
+        near = [change for change in done.values() if self.frames_of(change)[1] >= last]
+        return {self.left_by(change, name) for change in (*near, *over.values())}
+
+    def left_by(self, at: int, name: tuple[int, str]) -> int:
+        """Returns to what a name leads after a change of it."""
+        procedure, outlines = self.outlines.procedure_of(at), self.outlines
+        if procedure in REMOVING:
+            return GONE
+        if procedure == RENAME:
+            source, target = self.names_of(at)
+            if name == source and name != target:
+                return GONE
+            return self.led(at, source)
+        handle = outlines.folders[at] if procedure == LINK else outlines.found[at]
+        return (self.identity(handle) if handle else 0) or ANY
+
+    def led(self, at: int, name: tuple[int, str]) -> int:
+        """Returns to what a name led before a change, by what earlier answers say of it."""
+        begin = self.frames_of(at)[0]
+        told = [(self.frames_of(one)[1], self.identity(handle))
+                for folder in self.facts.handles.get(name[0], ())
+                for one, handle in self.facts.leads.get((folder, name[1]), ())
+                if handle and self.frames_of(one)[1] < begin]
+        return max(told)[1] or ANY if told else ANY
+
+
+class BothChanges:
+    """The changes of two runs whose exchanges are brought together."""
+
+    def __init__(self, taken: tuple[Taken, Taken], pairing: Pairing,
+                 facts: tuple[Facts, Facts]) -> None:
+        partners = {to: at for at, to in pairing.pairs()}
+        self.runs = (
+            Changes(taken[0], facts[0],
+                    lambda at: at if pairing.partners[at] != NOBODY else -2 - 2 * at),
+            Changes(taken[1], facts[1], lambda to: partners.get(to, -3 - 2 * to)))
+
+    def otherwise(self, pair: Pair, key: Key) -> list[Change]:
+        """Returns the changes of a key that stand otherwise to a question: in one run they were
+        answered before it was sent, and in the other not, or they overlap it in either."""
+        moments = [changes.met(at, key) for changes, at in zip(self.runs, pair)]
+        first, second = moments
+        names = (first.done.keys() ^ second.done.keys()) | first.over.keys() | second.over.keys()
+        found = {name: Change(name, run, (moment.done | moment.over)[name])
+                 for run, moment in reversed(list(enumerate(moments)))
+                 for name in names & (moment.done.keys() | moment.over.keys())}
+        return [found[name] for name in sorted(found)]
+
+    def beginning(self, pair: Pair, name: tuple[int, str]) -> set[int]:
+        """Returns to what a name led at the beginning, as other answers of both runs say that no
+        change came before."""
+        return {changes.identity(handle) if handle else GONE
+                for changes, own in zip(self.runs, pair)
+                for folder in changes.facts.handles.get(name[0], ())
+                for one, handle in changes.facts.leads.get((folder, name[1]), ())
+                if one != own and not changes.leads(one, name)
+                and changes.outlines.procedure_of(one) in ('NFSPROC3_LOOKUP',
+                                                           'NFSPROC3_READDIRPLUS')}

@@ -1,0 +1,138 @@
+"""Calls of one run alone that only ask, and whether they may be left out.
+
+A client's caches decide how often it asks. So such a call is no difference if it has one answer, OK
+or NOENT; if what it asks about is known in the other run; if the other run has no such call alone,
+too; if they are few; and if what it says agrees with other answers of its run.
+"""
+from __future__ import annotations
+
+from collections import Counter
+from collections.abc import Container, Iterable
+
+from ...exchanges.in_words import short_name
+from .agreement import disagrees
+from .changes import ANY, GONE, BothChanges
+from .facts import ACCESS, DONE, LISTINGS, LOOKUP, NAMES, NO_ENTRY, Facts, answer_in, is_silly
+
+FEW, SHARE = 10, 10  # so many calls of a procedure, or one of so many
+Asked = tuple[str, int, tuple[str, ...]]  # the procedure, the object, and the name
+Counted = tuple[dict[int, str], dict[int, str]]  # calls of both runs, each with a reason
+
+
+class Extras:
+    """The calls of a run that the other run does not have, and only ask."""
+
+    def __init__(self, run: int, facts: Facts, some: Iterable[int], paired: Container[int],
+                 changes: BothChanges | None) -> None:
+        """`paired` are the exchanges that the other run has, too."""
+        self.facts, self.outlines, self.some = facts, facts.outlines, sorted(some)
+        self.changes = changes.runs[run] if changes else None
+        self.both, self.run = changes, run
+        self.objects = set(self.outlines.identities) - {0}
+        own = set(self.some)
+        # Handles of calls that the other run has, too: it knows what they are.
+        self.shared = {handle for at in range(len(self.outlines)) if at in paired
+                       for handle in (*self.outlines.objects_of(at), self.outlines.found[at])}
+        self.names = {(self.outlines.identities[self.outlines.folders[at]], name)
+                      for at, names in facts.names.items() if at not in own for name in names}
+
+    def asked(self, at: int) -> Asked:
+        """Returns what a call asks, whoever asks."""
+        return (self.outlines.procedure_of(at), self.folder(at), self.facts.names.get(at, ()))
+
+    def folder(self, at: int) -> int:
+        return self.outlines.identities[self.outlines.folders[at]]
+
+    def more_than(self, other: 'Extras') -> dict[str, str]:
+        """Returns the procedures of which this run has too many more calls, and what is said of
+        that."""
+        own, its = (Counter(map(one.outlines.procedure_of, one.some)) for one in (self, other))
+        totals = Counter(map(self.outlines.procedure_of, range(len(self.outlines))))
+        return {procedure: f'{short_name(procedure).strip()}: {more:,} more than '
+                           f'{most:,}'
+                for procedure, number in own.items()
+                if (more := number - its[procedure]) > (
+                    most := max(FEW, totals[procedure] // SHARE))}
+
+    def wrong(self, at: int, other: 'Extras') -> str:
+        """Returns why a call is no matter of caches, or nothing."""
+        call, replies = self.facts.messages[at]
+        if len(replies) != 1:
+            return 'it has no reply' if not replies else 'it has several replies'
+        status = replies[0].value_of('status')
+        if status is None:
+            return '' if replies[0].value_of('accept_stat') == DONE else 'it is not accepted'
+        if status not in (DONE, NO_ENTRY):
+            return 'it has failed'
+        if self.outlines.folders[at] not in self.shared and self.folder(at) not in other.objects:
+            return 'the other run does not know the object'
+        names = [(self.folder(at), name) for name in self.facts.names.get(at, ())]
+        if not other.names.issuperset(names):
+            return 'the other run does not know the name'
+        return (self.wrong_attributes(at, call.procedure, replies[0].text)
+                or self.wrong_access(at) or self.wrong_lead(at, status)
+                or self.wrong_entries(at, call.value_of('cookie') or '', replies[0].text, other))
+
+    def wrong_attributes(self, at: int, procedure: str, text: str) -> str:
+        told = answer_in(procedure, self.outlines.objects_of(at),
+                         self.facts.names.get(at, ('',))[0], text).told
+        if at in self.facts.odd:
+            return 'it has another file id than its run elsewhere'
+        found = (disagrees(self.facts, self.changes, at, one) for one in told)
+        return next(filter(None, found), '')
+
+    def wrong_access(self, at: int) -> str:
+        if self.outlines.procedure_of(at) != ACCESS:
+            return ''
+        key = self.outlines.folders[at], self.facts.asked_bits[at]
+        some = self.facts.bits[key]
+        own = [bits for one, bits in some if one == at]
+        others = [bits for one, bits in some if one != at]
+        return '' if not others or set(own) <= set(others) else 'it grants something else'
+
+    def wrong_lead(self, at: int, status: str) -> str:
+        """Returns why a LOOKUP leads elsewhere than the changes of its run say, or nothing."""
+        if self.outlines.procedure_of(at) != LOOKUP or not self.both or not self.changes:
+            return ''
+        name = self.folder(at), self.facts.names[at][0]
+        handle = self.outlines.found[at]
+        to = self.outlines.identities[handle] if status == DONE else GONE
+        pair = (at, -1) if self.run == 0 else (-1, at)
+        leads = self.changes.leads(at, name) or self.both.beginning(pair, name) or {to}
+        return '' if to in leads or ANY in leads else 'the name leads elsewhere'
+
+    # --- Folders ---
+
+    def wrong_entries(self, at: int, cookie: str, text: str, other: 'Extras') -> str:
+        """Returns why a listing has not the names that the changes of its run leave, or nothing."""
+        if self.outlines.procedure_of(at) not in LISTINGS or not self.changes:
+            return ''
+        folder, names = self.folder(at), set(NAMES.findall(text))
+        leads = {key[1]: self.changes.leads(at, key) for key in self.changes.of_key
+                 if not isinstance(key, int) and key[0] == folder}
+        if any(leads.get(name) == {GONE} for name in names):
+            return 'it has a name that is gone'
+        own = self.facts.entries_of(folder, at)
+        if names - leads.keys() - own - other.facts.entries_of(folder, -1):
+            return 'it has a name that no other answer has'
+        stay = {name for name, some in leads.items() if some and not some & {GONE, ANY}}
+        wanted = {name for name in stay | own - leads.keys() if not is_silly(name)}
+        is_whole = cookie == '0' and text.endswith(' eof=1')
+        return 'it lacks a name' if is_whole and wanted - names else ''
+
+
+def refused(extras: tuple[Extras, Extras]) -> Counted:
+    """Returns the calls that are differences all the same, of the first and of the second run, each
+    with the reason."""
+    first, second = extras
+    common = set(map(first.asked, first.some)) & set(map(second.asked, second.some))
+    out: Counted = {}, {}
+    for run, other, found in ((first, second, out[0]), (second, first, out[1])):
+        more = run.more_than(other)
+        for at in run.some:
+            why = run.wrong(at, other) or more.get(run.outlines.procedure_of(at), '')
+            if not why and run.asked(at) in common:
+                why = 'the other run has such a call alone, too'
+            if why:
+                found[at] = why
+    return out

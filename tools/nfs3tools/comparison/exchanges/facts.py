@@ -1,0 +1,260 @@
+"""What the answers of a run say of its objects: their attributes and ids, and where names lead.
+
+It is read once, from the listing of the canonical form of a run that is not masked, and asked by
+all rules of any order (`explained`, `extras`, `followed`).
+"""
+from __future__ import annotations
+
+import re
+from collections import Counter, defaultdict
+from collections.abc import Container, Iterable, Iterator, Sequence
+from functools import cached_property
+from sys import intern
+from typing import NamedTuple
+
+from ...exchanges.listing import Line, Message, line_of
+from ...exchanges.objects import MAKING
+from ..values.classes import CLASSES
+from .outlines import CHANGING, Outlines
+
+TOKEN = re.compile(
+    r' type=(\d+) mode=(\d+) nlink=(\d+) uid=(\d+) gid=(\d+) size=(\d+) used=\d+ rdev1=(\d+) '
+    r'rdev2=(\d+) fsid=(\d+) fileid=(\d+) atime_sec=\d+ atime_nsec=\d+ mtime_sec=\d+ '
+    r'mtime_nsec=\d+ ctime_sec=(\d+) ctime_nsec=(\d+)'
+    r'| fileid=(\d+) name="([^"]*)"| fh=([0-9a-f]+)| (attr=0)')
+NAMES = re.compile(r' name="([^"]*)"')
+STATUS = re.compile(r' status=(\d+)')
+WRITTEN = re.compile(r' offset=(\d+) count=(\d+) stable=')
+SETTING = re.compile(r' set_(mode|uid|gid|size)=1')
+BITS = re.compile(r' access=(\d+)')
+LISTINGS = frozenset(('NFSPROC3_READDIR', 'NFSPROC3_READDIRPLUS'))
+LOOKUP, ACCESS, LINK = 'NFSPROC3_LOOKUP', 'NFSPROC3_ACCESS', 'NFSPROC3_LINK'
+DONE, NO_ENTRY = '0', '2'
+SILLY = next(one for one in CLASSES if one.name == 'sillynames')
+NANOSECONDS = 1_000_000_000
+
+
+class Attributes(NamedTuple):
+    """The attributes of an object, but for its times and what space it uses."""
+    type: str
+    mode: str
+    nlink: str
+    uid: str
+    gid: str
+    size: str
+    rdev1: str
+    rdev2: str
+    fsid: str
+    fileid: str
+
+
+class Told(NamedTuple):
+    """What an answer says of an object: its attributes, and when they were changed. Of an entry
+    without attributes it is the file id alone. The object is known by its handle, or as a name in a
+    folder if the answer has none."""
+    handle: int
+    name: str
+    attributes: Attributes | None
+    ctime: int
+    fileid: str
+
+
+class Lead(NamedTuple):
+    """A name in a folder, and the object to which it leads, 0 for none."""
+    folder: int
+    name: str
+    handle: int
+
+
+class Answer(NamedTuple):
+    """What a reply says."""
+    told: list[Told]
+    leads: list[Lead]
+
+
+def owners_of(procedure: str, handles: Sequence[int], found: int, is_done: bool) -> Sequence[int]:
+    """Returns whose the attributes of a reply are, in their order."""
+    if procedure in MAKING:
+        return [found, handles[0]] if is_done else [handles[0]]
+    return handles if len(handles) == 2 else [handles[0]] * 2
+
+
+def answer_in(procedure: str, handles: Sequence[int], name: str, text: str) -> Answer:
+    """Reads what a reply says, to a call with these handles and this name."""
+    if not handles:
+        return Answer([], [])
+    tokens = list(TOKEN.finditer(text))
+    if procedure in LISTINGS:
+        return of_entries(handles[0], tokens)
+    is_done = ' status=0' in text
+    found = next((int(token[15], 16) for token in tokens if token[15]), 0)
+    blocks = [token for token in tokens if token[1] or token[16]]
+    told = [of_attributes(token, owner)
+            for token, owner in zip(blocks, owners_of(procedure, handles, found, is_done))
+            if token[1] and owner]
+    is_lead = procedure in MAKING and found or procedure == LOOKUP and ' status=2' in text
+    return Answer(told, [Lead(handles[0], name, found)] if is_lead else [])
+
+
+def of_attributes(token: re.Match[str], handle: int, name: str = '') -> Told:
+    # (one text for equal ones: there may be many answers)
+    attributes = Attributes._make(map(intern, token.group(*range(1, 11))))
+    return Told(handle, name, attributes, int(token[11]) * NANOSECONDS + int(token[12]),
+                attributes.fileid)
+
+
+def of_entries(folder: int, tokens: Iterable[re.Match[str]]) -> Answer:
+    """Reads the entries of a folder: each has a name, then attributes if it has some, and then a
+    handle if it has one."""
+    told, leads, first = list[Told](), list[Lead](), 0
+    name: str | None = None  # of the entry
+    for token in tokens:
+        if token[13]:
+            first, name = len(told), token[14]
+            told.append(Told(*of_name(folder, name), None, 0, token[13]))
+        elif token[1]:
+            told.append(of_attributes(token, *of_name(folder, name or '.')))
+        elif token[15] and name is not None:
+            handle = int(token[15], 16)
+            leads.append(Lead(folder, name, handle))
+            told[first:] = [one._replace(handle=handle, name='') for one in told[first:]]
+    return Answer(told, leads)
+
+
+def of_name(folder: int, name: str) -> tuple[int, str]:
+    """Returns by what an entry without a handle is known."""
+    return (folder, '') if name == '.' else (folder, name)
+
+
+class Fact(NamedTuple):
+    """Attributes of an object, with the exchange whose answer says them."""
+    at: int
+    ctime: int
+    attributes: Attributes
+
+
+Known = tuple[int, str]  # an object by its handle, or by its folder's and its name
+Id = tuple[str, str]  # of the file system, empty if it is not told, and of the file
+
+
+class Facts:
+    """What the answers of a run say, and what of it the rules ask.
+
+    told: by handles, all attributes
+    leads: by folders and names, to what a name leads, with the exchange that says it
+    names: those of each call that has some
+    sets: what a SETATTR or a call that makes something sets
+    ends: where a WRITE ends
+    changing: the calls that changed something
+    bits: by handles and what was asked, what ACCESS grants
+    messages: some exchanges, taken apart
+    """
+
+    def __init__(self, outlines: Outlines, lines: Iterable[str], wanted: Container[int] = (),
+                 objects: Container[int] | None = None) -> None:
+        """`wanted` are the exchanges that are taken apart. If `objects` are given, answers about
+        other handles are not read."""
+        self.outlines, self.wanted, self.objects = outlines, wanted, objects
+        self.told = defaultdict[int, list[Fact]](list)
+        self.leads = defaultdict[tuple[int, str], list[tuple[int, int]]](list)
+        self.names, self.sets = dict[int, tuple[str, ...]](), dict[int, frozenset[str]]()
+        self.ends, self.changing = dict[int, int](), list[int]()
+        self.bits = defaultdict[tuple[int, str], list[tuple[int, str]]](list)
+        self.messages = dict[int, tuple[Message, list[Message]]]()
+        self.votes = defaultdict[Known, Counter[Id]](Counter)
+        self.tellers = defaultdict[tuple[Known, Id], list[int]](list)
+        # By folders and names of entries, two exchanges that say them.
+        self.entries = dict[tuple[int, str], tuple[int, ...]]()
+        self.asked_bits = dict[int, str]()
+        for at, line in outlines.located(map(line_of, lines)):
+            (self.take_call if line.is_call else self.take_reply)(at, line)
+
+    def take_call(self, at: int, line: Line) -> None:
+        text = line.text
+        if at in self.wanted:
+            self.messages[at] = message_of(line), []
+        names = NAMES.findall(text) if ' name="' in text else ()
+        if names:
+            self.names[at] = tuple(names)
+        if line.procedure == ACCESS:
+            self.asked_bits[at] = text[text.rfind('='):]
+        if line.procedure in CHANGING and at not in self.outlines.unmade:
+            self.changing.append(at)
+            written = WRITTEN.search(text)
+            if written:
+                self.ends[at] = int(written[1]) + int(written[2])
+            elif ' set_' in text:
+                self.sets[at] = frozenset(SETTING.findall(text))
+
+    def take_reply(self, at: int, line: Line) -> None:
+        if at in self.wanted:
+            self.messages[at][1].append(message_of(line))
+        handles = self.outlines.objects_of(at)
+        if self.objects is not None and line.procedure not in LISTINGS and not any(
+                handle in self.objects for handle in (*handles, self.outlines.found[at])):
+            return
+        answer = answer_in(line.procedure, handles, self.names.get(at, ('',))[0], line.text)
+        for one in answer.told:
+            self.take_told(at, one)
+        for folder, name, handle in answer.leads:
+            self.leads[folder, name].append((at, handle))
+        if line.procedure in LISTINGS and handles:
+            for name in NAMES.findall(line.text):
+                self.entries[handles[0], name] = (at, *self.entries.get((handles[0], name), ()))[:2]
+        if line.procedure == ACCESS and handles:
+            granted = BITS.search(line.text)
+            if granted:
+                self.bits[handles[0], self.asked_bits[at]].append((at, granted[1]))
+
+    def take_told(self, at: int, one: Told) -> None:
+        own = one.handle, one.name
+        fsid = one.attributes.fsid if one.attributes else ''
+        self.votes[own][fsid, one.fileid] += 1
+        self.tellers[own, (fsid, one.fileid)].append(at)
+        if one.attributes and not one.name:
+            self.told[one.handle].append(Fact(at, one.ctime, one.attributes))
+
+    @cached_property
+    def ids(self) -> dict[Known, Id]:
+        """The id of each object: that which most of its answers say, of those with a file system
+        if there are some."""
+        return {own: max(some, key=lambda one: (some[one] * bool(one[0]), some[one]))
+                for own, some in self.votes.items()}
+
+    @cached_property
+    def odd(self) -> set[int]:
+        """The exchanges that say another id of an object than its run does elsewhere."""
+        return {at for (own, one), ats in self.tellers.items()
+                if one[1] != self.ids[own][1] or one[0] and one[0] != self.ids[own][0]
+                for at in ats}
+
+    @cached_property
+    def handles(self) -> dict[int, list[int]]:
+        """The handles of each object, by what it is called in both runs."""
+        out = defaultdict[int, list[int]](list)
+        for handle, identity in enumerate(self.outlines.identities):
+            if identity:
+                out[identity].append(handle)
+        return out
+
+    def entries_of(self, folder: int, but: int) -> set[str]:
+        """Returns the names that listings of a folder have, other than one."""
+        handles = set(self.handles.get(folder, ()))
+        return {name for (handle, name), some in self.entries.items()
+                if handle in handles and any(at != but for at in some)}
+
+    def facts_of(self, identity: int) -> Iterator[Fact]:
+        """Iterates over what answers say of an object."""
+        return (fact for handle in self.handles.get(identity, ())
+                for fact in self.told.get(handle, ()))
+
+
+def message_of(line: Line) -> Message:
+    """Returns the message of a line, without the digits of data, which are compared elsewhere."""
+    return Message(line.connection, 'client' if line.is_call else 'server', line.record, line.xid,
+                   line.procedure, line.text)
+
+
+def is_silly(name: str) -> bool:
+    """Whether a name is one that a client gave to a removed file."""
+    return SILLY.has_value(f'"{name}"')

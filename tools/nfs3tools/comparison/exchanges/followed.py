@@ -1,0 +1,176 @@
+"""The second run with values of the first one: ids that follow their objects, cookies that follow
+entries, and verifiers of exclusive creates that follow files.
+
+Servers give out ids again, so the ids of two runs need not be one to one. Which object of one run
+is which of the other is known by the exchanges that belong together. Of an object the id counts
+that most of its run's answers say. Each answer has the first run's id in the place of that; any
+other id stays, and differs.
+"""
+from __future__ import annotations
+
+import re
+from collections import Counter, defaultdict
+from collections.abc import Iterable, Iterator, Mapping
+from typing import NamedTuple
+
+from ...exchanges.listing import Line, line_of
+from ...recordings.records import LAST_FRAGMENT
+from ...recordings.spool import Spool, Stored
+from ...recordings.taken import Taken, TakenStream, whole
+from ...shared.layouts import BY_NAME, Message
+from ...shared.places import SIDES, Side
+from .facts import LISTINGS, Facts, Known, answer_in
+from .pairing import Listing, Pairing
+
+ENTRY = re.compile(r' name="([^"]*)" cookie=(\d+)')
+VERIFIER, COOKIE = re.compile(r' createverf=(\w+)'), re.compile(r' cookie=(\d+)')
+CREATE = 'NFSPROC3_CREATE'
+
+
+class Place(NamedTuple):
+    """Where a message is: its connection, its side, and its record."""
+    connection: int
+    is_call: bool
+    record: int
+
+
+# The values of a message that others take the place of, by the names of items.
+Values = dict[tuple[str, str], str]
+
+
+def partners_of(pairing: Pairing) -> dict[int, int]:
+    """Returns for each handle of the second run that of the first with which it is most often in
+    exchanges that belong together."""
+    votes = defaultdict[int, Counter[int]](Counter)
+    here, there = pairing.here, pairing.there
+    for at, to in pairing.pairs():
+        both = zip([*here.objects_of(at), here.found[at]], [*there.objects_of(to), there.found[to]])
+        for one, other in both:
+            if one and other:
+                votes[other][one] += 1
+    return {other: some.most_common(1)[0][0] for other, some in votes.items()}
+
+
+class Followed:
+    """Which values of the second run become which of the first."""
+
+    def __init__(self, pairing: Pairing, listings: tuple[Listing, Listing],
+                 facts: tuple[Facts, Facts], classes: frozenset[str]) -> None:
+        """The listings are those of the canonical forms without a mask."""
+        self.pairing, self.facts = pairing, facts
+        self.partners = partners_of(pairing)
+        self.verifiers = self.verifiers_of(listings) if 'createverfs' in classes else {}
+        self.cookies = self.cookies_of(listings) if 'cookies' in classes else {}
+        self.has_ids = not classes.isdisjoint(('ids', 'fsids'))
+        self.values = dict[Place, Values]()
+        for at, line in pairing.there.each(map(line_of, listings[1]())):
+            values = self.of_call(at, line) if line.is_call else self.of_reply(at, line)
+            changed = {key: new for key, new in values.items() if key[1] != new}
+            if changed:
+                self.values[Place(line.connection, line.is_call, line.record)] = changed
+
+    def verifiers_of(self, listings: tuple[Listing, Listing]) -> dict[tuple[int, str], str]:
+        """Returns the verifiers of exclusive creates, by what is created and the second run's
+        verifier."""
+        firsts, seconds = (
+            {at: found[1] for at, line in outlines.located(map(line_of, listing()))
+             if line.is_call and line.procedure == CREATE and (found := VERIFIER.search(line.text))}
+            for outlines, listing in zip((self.pairing.here, self.pairing.there), listings))
+        out = dict[tuple[int, str], str]()
+        for at, to in self.pairing.pairs():
+            if at in firsts and to in seconds:
+                out.setdefault((self.pairing.there.asked[to], seconds[to]), firsts[at])
+        return out
+
+    def cookies_of(self, listings: tuple[Listing, Listing]) -> dict[tuple[int, str], str]:
+        """Returns the cookies of the first run, by the second run's folders and cookies."""
+        first, second = (
+            {(outlines.folders[at], found[1]): found[2]
+             for at, line in outlines.located(map(line_of, listing()))
+             if not line.is_call and line.procedure in LISTINGS
+             for found in ENTRY.finditer(line.text)}
+            for outlines, listing in zip((self.pairing.here, self.pairing.there), listings))
+        return {(folder, cookie): first[self.partners.get(folder, 0), name]
+                for (folder, name), cookie in second.items()
+                if (self.partners.get(folder, 0), name) in first}
+
+    def of_call(self, at: int, line: Line) -> Values:
+        if line.procedure in LISTINGS:
+            return self.of_cookies(at, line.text)
+        found = VERIFIER.search(line.text) if line.procedure == CREATE else None
+        new = self.verifiers.get((self.pairing.there.asked[at], found[1])) if found else None
+        return {('createverf', found[1]): new} if found and new else {}
+
+    def of_cookies(self, at: int, text: str) -> Values:
+        folder = self.pairing.there.folders[at]
+        return {('cookie', cookie): new for cookie in COOKIE.findall(text)
+                if (new := self.cookies.get((folder, cookie)))}
+
+    def of_reply(self, at: int, line: Line) -> Values:
+        there = self.pairing.there
+        values = self.of_cookies(at, line.text) if line.procedure in LISTINGS else {}
+        if not self.has_ids:
+            return values
+        name = self.facts[1].names.get(at, ('',))[0]
+        for one in answer_in(line.procedure, there.objects_of(at), name, line.text).told:
+            own, other = self.facts[1].ids[one.handle, one.name], self.id_of((one.handle, one.name))
+            fsid = one.attributes.fsid if one.attributes else ''
+            if other:
+                values.update(turned('fileid', one.fileid, own[1], other[1]))
+            if other and fsid and own[0] and other[0]:
+                values.update(turned('fsid', fsid, own[0], other[0]))
+        return values
+
+    def id_of(self, own: Known) -> tuple[str, str] | None:
+        """Returns the first run's id of an object of the second run."""
+        partner = self.partners.get(own[0])
+        return None if partner is None else self.facts[0].ids.get((partner, own[1]))
+
+
+def turned(name: str, told: str, own: str, other: str) -> Values:
+    """Returns what becomes of an id that an answer has of an object: its own becomes that of the
+    first run. Another id stays. If that is the first run's, it becomes the object's own, so that it
+    differs."""
+    return {(name, told): {own: other, other: own}.get(told, told)}
+
+
+# --- The second run, written anew ---
+
+def with_values(taken: Taken, values: Mapping[Place, Values], lines: Iterable[str]) -> Taken:
+    """Returns a run with other values in some messages, each record as one fragment."""
+    procedures = {place: line.procedure for line in map(line_of, lines)
+                  if (place := Place(line.connection, line.is_call, line.record)) in values}
+    out = Taken(taken.spool, taken.is_recording, False, taken.ports)
+    for connection in taken.connections:
+        client, server = (stream_of(taken.spool, bodies_of(
+            connection.stream(side), connection.number, side, values, procedures))
+            for side in SIDES)
+        out.connections.append(connection._replace(client=client, server=server))
+    return out
+
+
+def bodies_of(stream: TakenStream, connection: int, side: Side, values: Mapping[Place, Values],
+              procedures: Mapping[Place, str]) -> Iterator[bytes]:
+    for number, body in stream.records():
+        place = Place(connection, side == 'client', number)
+        yield (with_some(body, place.is_call, procedures[place], values[place])
+               if place in values else body)
+
+
+def with_some(body: bytes, is_call: bool, procedure: str, values: Values) -> bytes:
+    """Returns a message with other values. All of them have eight bytes."""
+    message, out = Message(body), bytearray(body)
+    message.read(is_call, BY_NAME[procedure])
+    for item in message.items:
+        new = values.get((item.name, item.value))
+        if new is not None:
+            out[item.begin:item.end] = (bytes.fromhex(new) if item.name == 'createverf'
+                                        else int(new).to_bytes(item.end - item.begin, 'big'))
+    return bytes(out)
+
+
+def stream_of(spool: Spool, bodies: Iterable[bytes]) -> TakenStream:
+    stored = Stored(spool)
+    for body in bodies:
+        stored.append((LAST_FRAGMENT | len(body)).to_bytes(4, 'big') + body)
+    return TakenStream(stored, None, whole(stored))

@@ -1,0 +1,352 @@
+"""Tests of what `tools/compare` calls the same: each rule of any order, sent again, fields behind
+optional parts, and the words of the headline."""
+import json
+from collections.abc import Callable, Iterable, Sequence
+from typing import Any, NamedTuple
+
+from examples import messages
+from examples.messages import (
+    NFS, auth_sys, call, dirop, failed, fattr, fh, fragment, hyper, made, ok, opaque, post_op_attr,
+    sattr, success, wcc, word)
+from examples.packets import Talk, pcap
+
+from .cases import FolderTest
+from .test_compare import Comparisons
+
+(GETATTR, SETATTR, LOOKUP, ACCESS, WRITE, CREATE, MKDIR, REMOVE, RENAME, READDIR, READDIRPLUS,
+ FSINFO) = 1, 2, 3, 4, 7, 8, 9, 12, 14, 16, 17, 19
+NOENT, IO, ACCES, STALE, SERVERFAULT, BADHANDLE = 2, 5, 13, 70, 10006, 10001
+TOP = b'top'
+
+
+class Step(NamedTuple):
+    """A call and its results; how often both were sent, and by which user."""
+    procedure: int
+    arguments: bytes
+    results: bytes
+    sent: int = 1
+    answered: int = 1
+    user: int = 1000
+    client: int = 0
+
+
+def recorded(steps: Iterable[Step]) -> bytes:
+    """A recording of clients each with a connection, one call after the other."""
+    steps = list(steps)
+    talks = [Talk(700 + number) for number in range(1 + max(step.client for step in steps))]
+    frames = [frame for talk in talks for frame in talk.opened()]
+    for xid, step in enumerate(steps, 1):
+        talk, user = talks[step.client], auth_sys(1, b'box', step.user, 100, [])
+        body = call(xid, NFS, 3, step.procedure, step.arguments, credential=user)
+        frames += [talk.sent(0, fragment(body)) for _ in range(step.sent)]
+        frames += [talk.sent(1, fragment(success(xid, step.results)))
+                   for _ in range(step.answered)]
+    return pcap([*frames, *(frame for talk in talks for frame in talk.closed())])
+
+
+def looked(name: bytes, handle: bytes, fileid: int, folder: bytes = TOP) -> Step:
+    attributes = post_op_attr(fattr(1, fileid))
+    return Step(LOOKUP, dirop(folder, name), ok(fh(handle), attributes, post_op_attr()))
+
+
+def not_found(name: bytes, status: int = NOENT) -> Step:
+    return Step(LOOKUP, dirop(TOP, name), failed(status, post_op_attr()))
+
+
+def got(handle: bytes, fileid: int, **more: Any) -> Step:
+    return Step(GETATTR, fh(handle), ok(fattr(more.pop('kind', 1), fileid, **more)))
+
+
+def created(name: bytes, handle: bytes, fileid: int, client: int = 0) -> Step:
+    arguments = dirop(TOP, name) + word(0) + sattr()
+    return Step(CREATE, arguments, ok(made(handle, fattr(1, fileid), wcc())), client=client)
+
+
+def removed(name: bytes, client: int = 0) -> Step:
+    return Step(REMOVE, dirop(TOP, name), ok(wcc()), client=client)
+
+
+F, G = looked(b'f', b'handle f', 7), looked(b'g', b'handle g', 8)
+ROOT = Step(GETATTR, fh(TOP), ok(fattr(2, 3)))
+BOTH = [ROOT, F, G, got(b'handle f', 7), got(b'handle g', 8)]
+
+
+class Answer(NamedTuple):
+    """What is said of two runs."""
+    status: int
+    lines: list[str]
+    json: Any
+
+    @property
+    def found(self) -> list[str]:
+        """The kinds and procedures of all findings."""
+        return [f'{one["kind"]} {one["procedure"].removeprefix("NFSPROC3_")}'
+                for one in self.json['findings']]
+
+
+def compared(place: Comparisons, first: Sequence[Step], second: Sequence[Step],
+             *words: str) -> Answer:
+    place.write('a', recorded(first))
+    place.write('b', recorded(second))
+    status, lines, error = place.compare('--json', 'out.json', *words, 'a', 'b')
+    place.want('no error', error, '')
+    return Answer(status, lines, json.loads(place.read('out.json') or b'{"findings": []}'))
+
+
+def any_order(place: Comparisons, first: Sequence[Step], second: Sequence[Step]) -> Answer:
+    return compared(place, first, second, '--order', 'any')
+
+
+# --- Answers ---
+
+def a_lookup_that_fails(place: Comparisons) -> None:
+    """One client, all calls in the same order: no order explains a LOOKUP that fails in one run."""
+    for status in (NOENT, IO, ACCES, STALE, SERVERFAULT):
+        said = any_order(place, [*BOTH, F], [*BOTH, not_found(b'f', status)])
+        place.want(f'{status}', (said.status, said.found), (1, ['changed LOOKUP']))
+
+
+def a_lookup_of_something_else(place: Comparisons) -> None:
+    """The handle of another file, another name, another user, a name that was removed."""
+    made_both = [ROOT, created(b'f', b'handle f', 7), created(b'g', b'handle g', 8)]
+    other = looked(b'f', b'handle g', 8)
+    said = any_order(place, [*made_both, F, G], [*made_both, other, G])
+    place.want('handle', (said.status, set(said.found)), (1, {'changed LOOKUP'}))
+    said = any_order(place, [*BOTH, F, removed(b'h')], [*BOTH, G, removed(b'h')])
+    place.want('name', (said.status, {one.split()[1] for one in said.found}), (1, {'LOOKUP'}))
+    said = any_order(place, [*BOTH, F], [*BOTH, F._replace(user=1)])
+    place.want('user', said.status, 1)
+    gone = [*made_both, removed(b'f')]
+    said = any_order(place, [*gone, not_found(b'f')], [*gone, F])
+    place.want('gone', (said.status, said.found), (1, ['changed LOOKUP']))
+
+
+def what_an_order_explains(place: Comparisons) -> None:
+    """A name that another client makes before or after it is looked up. The change is told."""
+    new = created(b'new', b'handle new', 9, client=1)
+    found = looked(b'new', b'handle new', 9)
+    said = any_order(place, [*BOTH, not_found(b'new'), new, ROOT], [*BOTH, new, found, ROOT])
+    place.want('same', (said.status, said.lines[1].partition(':')[0]),
+               (0, 'same in another order, 1 answer explained by order'))
+    place.want('JSON', (said.json['verdict'], [one['kind'] for one in said.json['left_out']]),
+               ('same in another order', ['explained']))
+    place.want('why', said.json['left_out'][0]['why'],
+               'CREATE ?/new at connection 2 client record 1 of the second run')
+    wrong = found._replace(results=ok(fh(b'handle f'), post_op_attr(fattr(1, 7)), post_op_attr()))
+    for what, answer in (('another file', wrong), ('an error', not_found(b'new', IO))):
+        said = any_order(place, [*BOTH, not_found(b'new'), new, ROOT], [*BOTH, new, answer, ROOT])
+        place.want(what, said.status, 1)
+
+
+def listed_entries(names: Sequence[bytes], fileid: int = 50) -> Step:
+    some = [messages.entry(fileid + number, name, 1 + number) for number, name in enumerate(names)]
+    results = ok(messages.entries(fattr(2, 3), bytes(8), some, is_end=True))
+    return Step(READDIR, fh(b'folder') + bytes(16) + word(512), results)
+
+
+def entries_that_an_order_explains(place: Comparisons) -> None:
+    """A listing may lack a name that is made meanwhile, and no other."""
+    folder = looked(b'w', b'folder', 3)
+    new = Step(CREATE, dirop(b'folder', b'z') + word(0) + sattr(),
+               ok(made(b'handle z', fattr(1, 52), wcc())), client=1)
+    before, after = listed_entries([b'x', b'y']), listed_entries([b'x', b'y', b'z'])
+    said = any_order(place, [ROOT, folder, before, new, F], [ROOT, folder, new, after, F])
+    place.want('made', (said.status, said.json['left_out'][0]['kind']), (0, 'explained'))
+    for names in ([b'x', b'z'], [b'y', b'x', b'z'], [b'x', b'y', b'z', b'q']):
+        other = listed_entries(names)
+        said = any_order(place, [ROOT, folder, before, new, F], [ROOT, folder, new, other, F])
+        place.want(f'{names}', (said.status, said.found), (1, ['changed READDIR']))
+
+
+# --- Calls of one run alone ---
+
+def calls_that_fail_alone(place: Comparisons) -> None:
+    """Calls that only ask count if they fail, and if they ask about what the other run does not
+    know."""
+    for status in (SERVERFAULT, IO, STALE):
+        more = [Step(GETATTR, fh(b'handle f'), failed(status))] * 3
+        said = any_order(place, BOTH, [*BOTH, *more])
+        place.want(f'{status}', (said.status, said.found), (1, ['only GETATTR'] * 3))
+    bad = Step(GETATTR, fh(b'nobody'), failed(BADHANDLE))
+    said = any_order(place, BOTH, [*BOTH[:3], bad, BOTH[4]])
+    place.want('handle', said.status, 1)
+    said = any_order(place, BOTH, [*BOTH, not_found(b'never')])
+    place.want('name', (said.status, said.found), (1, ['only LOOKUP']))
+
+
+def calls_that_are_many(place: Comparisons) -> None:
+    """Ten calls more are a matter of caches; eleven are more than that, and so it is said."""
+    more = got(b'handle f', 7)
+    said = any_order(place, BOTH, [*BOTH, *[more] * 10])
+    place.want('ten', (said.status, said.lines[1].partition(':')[0]),
+               (0, 'same but for calls left out'))
+    said = any_order(place, BOTH, [*BOTH, *[more] * 11])
+    place.want('eleven', (said.status, said.found), (1, ['only GETATTR'] * 11))
+    place.want('told', any('GETATTR: 11 more than 10' in line for line in said.lines), True)
+
+
+def calls_alone_that_tell_something_else(place: Comparisons) -> None:
+    """Another size, mode, owner or id than its run tells elsewhere of the object."""
+    others: list[dict[str, Any]] = [{'size': 5}, {'mode': 0o600}, {'uid': 0}, {'fsid': 9}]
+    for other in others:
+        said = any_order(place, BOTH, [*BOTH, got(b'handle f', 7, **other)])
+        place.want(f'{other}', (said.status, said.found), (1, ['only GETATTR']))
+    said = any_order(place, BOTH, [*BOTH, got(b'handle f', 9)])
+    place.want('fileid', said.status, 1)
+
+
+def access(bits: int, user: int = 1000) -> Step:
+    return Step(ACCESS, fh(b'handle f') + word(63), ok(post_op_attr(), word(bits)), user=user)
+
+
+def changed_users_and_ids(place: Comparisons) -> None:
+    """A wrong file id or file system in one reply, and another user of one call."""
+    said = any_order(place, [*BOTH, access(1), access(1)], [*BOTH, access(1), access(1, user=0)])
+    place.want('user', (said.status, said.found), (1, ['changed ACCESS']))
+    for what, wrong in (('fileid', got(b'handle f', 77)), ('fsid', got(b'handle f', 7, fsid=1))):
+        said = any_order(place, [*BOTH, BOTH[3], F], [*BOTH, wrong, F])
+        place.want(what, (said.status, said.found), (1, ['changed GETATTR']))
+
+
+def ids_that_follow_their_objects(place: Comparisons) -> None:
+    """File ids that a server gives out again are no difference, and it is said that they follow."""
+    def run(ids: Sequence[int]) -> list[Step]:
+        names = [b'f%d' % number for number in range(3)]
+        return [ROOT, *(looked(name, b'h' + name, one) for name, one in zip(names, ids)),
+                *(got(b'h' + name, one) for name, one in zip(names, ids))]
+    said = any_order(place, run([7, 8, 9]), run([7, 8, 7]))
+    place.want('ids', (said.status, said.lines[1].partition(':')[0], said.json['verdict']),
+               (0, 'same but for ids', 'same but for ids'))
+    wrong = [*run([7, 8, 7])[:-1], got(b'hf2', 8)]
+    said = any_order(place, run([7, 8, 9]), wrong)
+    place.want('a wrong one', (said.status, said.found), (1, ['changed GETATTR']))
+
+
+# --- Sizes ---
+
+def written(at: int, size: int, client: int = 0) -> Step:
+    arguments = fh(b'handle f') + hyper(at) + word(4) + word(0) + opaque(b'data')
+    results = ok(wcc(None, fattr(1, 7, size)), word(4), word(0), b'verifier')
+    return Step(WRITE, arguments, results, client=client)
+
+
+def sizes_that_an_order_explains(place: Comparisons) -> None:
+    """Two WRITEs in another order tell other sizes. A size that nothing tells, or without a change
+    that comes in another place, is a difference."""
+    first = [*BOTH, written(0, 4), written(4, 8, client=1)]
+    second = [*BOTH, written(4, 8, client=1), written(0, 8)]
+    said = any_order(place, first, second)
+    place.want('explained', (said.status, len(said.json['left_out'])), (0, 1))
+    said = any_order(place, first, [*BOTH, written(4, 8, client=1), written(0, 9)])
+    place.want('too large', (said.status, said.found), (1, ['changed WRITE']))
+    said = any_order(place, first, [*BOTH, written(0, 8), written(4, 8, client=1)])
+    place.want('in the same order', (said.status, said.found), (1, ['changed WRITE']))
+
+
+# --- Sent again ---
+
+def calls_that_were_sent_again(place: Comparisons) -> None:
+    """A call that was sent again is one exchange: a finding of its own kind, and left out in any
+    order unless its replies differ."""
+    again = [*BOTH, removed(b'f')._replace(sent=2, answered=2), F]
+    once = [*BOTH, removed(b'f'), F]
+    said = compared(place, once, again, '--order', 'strict')
+    place.want('strict', (said.status, said.found), (1, ['sent again REMOVE']))
+    place.want('told', any('sent once in the first run, 2 times in the second' in line
+                           for line in said.lines), True)
+    said = any_order(place, once, again)
+    place.want('any', (said.status, [(one['kind'], one['why']) for one in said.json['left_out']]),
+               (0, [('sent again', 'sent once in the first run, 2 times in the second')]))
+    place.want('both', any_order(place, again, again).status, 0)
+    lost = [*BOTH, removed(b'f')._replace(sent=2), F]
+    place.want('answered once', any_order(place, once, lost).status, 0)
+
+
+def other_replies_to_a_call_sent_again(place: Comparisons) -> None:
+    """The second reply fails: that is a difference in any order."""
+    def run(is_again: bool) -> bytes:
+        talk = Talk(700)
+        frames, body = talk.opened(), call(9, NFS, 3, REMOVE, dirop(TOP, b'f'))
+        for results in [ok(wcc())] + [failed(NOENT, wcc())] * is_again:
+            frames += [talk.sent(0, fragment(body)), talk.sent(1, fragment(success(9, results)))]
+        return pcap([*frames, *talk.closed()])
+    place.write('a', run(False))
+    place.write('b', run(True))
+    status, lines, _ = place.compare('--order', 'any', 'a', 'b')
+    place.want('replies', (status, '  1 reply in the first run, 2 in the second' in lines), (1, True))
+
+
+# --- Fields and words ---
+
+def fsinfo(attributes: bytes, largest: int) -> Step:
+    numbers = [largest, 4096, 512, largest, 4096, 512, 4096]
+    results = ok(attributes, *map(word, numbers), hyper(1 << 40), word(0), word(1), word(27))
+    return Step(FSINFO, fh(TOP), results)
+
+
+def fields_behind_an_optional_part(place: Comparisons) -> None:
+    """Attributes that one run alone has are one difference, and what follows is compared."""
+    for order in ('strict', 'any'):
+        said = compared(place, [*BOTH, fsinfo(post_op_attr(fattr(2, 3)), 1 << 20)],
+                        [*BOTH, fsinfo(post_op_attr(), 1 << 26)], '--order', order)
+        fields = [one['field'] for found in said.json['findings'] for one in found['differences']]
+        place.want(order, (said.status, fields), (1, ['obj.attr', 'rtmax', 'wtmax']))
+
+
+def where_the_headline_is(place: Comparisons) -> None:
+    """The headline has the position of the first finding, also if the order differs before it."""
+    first = [ROOT, F, G, *BOTH, removed(b'x'), F]
+    second = [ROOT, G, F, *BOTH, F]
+    for words, begin in ((['--order', 'any'], 'differ in any order at '), ([], 'differ at ')):
+        said = compared(place, first, second, *words)
+        where = said.json['findings'][0]['first']['position']
+        place.want(f'{words}', (said.status, said.lines[1], said.json['position']),
+                   (1, begin + where, where))
+
+
+def silly_names(place: Comparisons) -> None:
+    """Names that a client gives to removed files are one if their objects are, wherever they stand
+    among the entries."""
+    def run(names: Sequence[bytes]) -> list[Step]:
+        handles = {name: b'handle %d' % number for number, name in enumerate(sorted(names))}
+        some = [messages.entryplus(9 + int(handle[-1:]), name, 1 + at, fattr(
+            1, 9 + int(handle[-1:])), handle) for at, name in enumerate(names)
+            for handle in [handles[name]]]
+        listing = ok(messages.entries(fattr(2, 3), bytes(8), some, is_end=True))
+        arguments = fh(b'folder') + bytes(16) + word(512) + word(4096)
+        looks = [looked(b'n%d' % number, b'handle %d' % number, 9 + number)
+                 for number in range(len(names))]
+        return [ROOT, looked(b'w', b'folder', 3), *looks, Step(READDIRPLUS, arguments, listing), F]
+    hidden = [b'.nfs%024x' % number for number in (5, 6)]
+    said = any_order(place, run([*hidden, b'x']), run([hidden[1], b'x', hidden[0]]))
+    place.want('same', said.status, 0)
+
+
+def parts_by_the_same_rules(place: Comparisons) -> None:
+    """Each part of a run is compared by the same rules."""
+    def part(number: int, ids: int, is_first: bool) -> list[Step]:
+        name, handle = b'new %d' % number, b'handle %d' % number
+        new, found = created(name, handle, ids, client=1), looked(name, handle, ids)
+        steps = [new, found] if is_first else [not_found(name), new]
+        return [not_found(b'test_%d' % number), ROOT, *steps, got(handle, ids), F]
+    first = [*part(1, 20, False), *part(2, 21, False)]
+    for what, second, wanted in (('same', [*part(1, 20, True), *part(2, 30, True)], 0),
+                                 ('mode', [*part(1, 20, True), *part(2, 30, True)[:-1], G], 1)):
+        place.write('a', recorded(first))
+        place.write('b', recorded(second))
+        status, lines, error = place.compare('--order', 'any', '--marks', 'test_*', 'a', 'b')
+        place.want(what, (status, error), (wanted, ''))
+        place.want(f'{what}: explained', '1 answer explained by order' in lines[1], True)
+
+
+TESTS: list[Callable[[Comparisons], None]] = [
+    parts_by_the_same_rules,
+    a_lookup_that_fails, a_lookup_of_something_else, what_an_order_explains,
+    entries_that_an_order_explains, calls_that_fail_alone, calls_that_are_many,
+    calls_alone_that_tell_something_else, changed_users_and_ids, ids_that_follow_their_objects,
+    sizes_that_an_order_explains, calls_that_were_sent_again, other_replies_to_a_call_sent_again,
+    fields_behind_an_optional_part, where_the_headline_is, silly_names]
+
+
+class RulesTest(FolderTest, make=Comparisons, tests=TESTS):
+    """Each test has a folder of its own."""
