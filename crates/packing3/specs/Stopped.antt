@@ -41,8 +41,8 @@ pub record BreaksOff (old new : Option (List ℕ)) (pairs : List Streams)
   pub appended : Appends old new front
   pub observed : Explains error (length front) next (total_size pairs)
 
--- The pairs are as many as a capture may have. They are written, and the fault is at the byte after
--- them.
+-- The pairs are as many as a capture may have. They are written, and the fault is at the byte that
+-- follows them.
 pub record HasNoRoom (old new : Option (List ℕ)) (pairs : List Streams)
     (error : Error) : Type 0 where
   pub front : List ℕ
