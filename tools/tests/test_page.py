@@ -31,7 +31,7 @@ from .cases import FolderTest
 from .scripts import TOP, WITH_TOOLS
 from .test_compare import CHANGED, EXAMPLES, FIRST, SECOND, Comparisons, Conversation, many_calls
 
-GETATTR, SETATTR, LOOKUP, READLINK, READ, WRITE, MKDIR, READDIRPLUS, FSINFO = 1, 2, 3, 5, 6, 7, 9, 17, 19
+GETATTR, SETATTR, LOOKUP, ACCESS, READLINK, READ, WRITE, MKDIR, READDIRPLUS = 1, 2, 3, 4, 5, 6, 7, 9, 17
 VOID = ('meta', 'input')
 WIDTHS = (480, 1300)
 CONCURRENT = tuple(str(EXAMPLES / f'concurrent_{name}.pcap') for name in ('a', 'b', 'changed'))
@@ -217,8 +217,10 @@ def null(xid: int) -> bytes:
 
 
 def what_does_not_count(place: Pages) -> None:
-    """What is left out, ignored, also masked or missing stands at the top."""
-    place.put('a', gets(with_modes(9, 3, 4)), ([call(7, NFS, 3, GETATTR, fh(b'other'))], []))
+    """What is left out, ignored or missing stands at the top."""
+    calls, replies = gets(with_modes(9, 3, 4))
+    again = call(99, NFS, 3, GETATTR, fh(b'file')), success(99, ok(fattr(1, 5, 8, 0o640)))
+    place.put('a', ([*calls, again[0]], [*replies, again[1]]))
     place.put('b', gets(with_modes(9)))
     page = place.page('--ignore=*.mode')
     runs = runs_of(page)
@@ -226,10 +228,6 @@ def what_does_not_count(place: Pages) -> None:
     place.want('ignored', '*.mode: obj.mode of NFSPROC3_GETATTR 2.' in page.all('dl')[0].text(), True)
     place.want('all is ignored', 'All fields that differ are ignored.' in page.text(), True)
     place.want('marks', [one for one in rows_and_gaps(page) if one[0] == '≠'], ['≠ 4 4', '≠ 5 5'])
-    page = place.page(*CONCURRENT[::2])
-    masked = 'also maskedids=zero, cookies=zero, createverfs=zero, wcc=zero, since any order was tried.'
-    place.want('masked in any order', masked in page.all('dl')[0].text(), True)
-    place.want('strictly', 'also masked' in place.page('--order', 'strict', *CONCURRENT[::2]).text(), False)
     talk = Talk()
     bodies = [body for at in range(4) for body in (null(at), success(at))]
     frames = [*talk.opened(), *(talk.sent(number % 2, fragment(body)) for number, body in enumerate(bodies))]
@@ -266,9 +264,8 @@ def other_verdicts(place: Pages) -> None:
     place.put('a', turned(1, 2, 3))
     place.put('b', turned(2, 1, 3))
     page = place.page()
-    place.want('also masked', (page.all('h1')[0].text(), 'also maskedids=zero, in another order.' in page.all('dl')[0].text(),
-                                  'They do not count in another order' in page.text()),
-               ('The runs are the same in another order', True, True))
+    place.want('ids', (page.all('h1')[0].text(), 'fsids and ids follow their objects' in page.text()),
+               ('The runs are the same in another order', True))
 
 
 # --- What differs ---
@@ -445,8 +442,9 @@ def calls_around(place: Pages) -> None:
     wants('of the first run', gets(with_modes(9), [4]), gets(with_modes(9)), '1 equal call', *equal(2, 3, 4), '- 5',
           *(f'= {at} {at - 1}' for at in (6, 7, 8)), '2 equal calls')
     calls, replies = gets(with_modes(50, 40))
-    more = [call(900 + at, NFS, 3, FSINFO, fh(b'file')) for at in range(6)]
-    wants('left out', ([*more, *calls], replies), gets(with_modes(50)), '37 equal calls, 6 calls of the first run left out',
+    more = [call(900 + at, NFS, 3, ACCESS, fh(b'file') + word(1)) for at in range(6)]
+    granted = [success(900 + at, ok(post_op_attr(), word(1))) for at in range(6)]
+    wants('left out', ([*more, *calls], [*granted, *replies]), gets(with_modes(50)), '37 equal calls, 6 calls of the first run left out',
           *(f'= {at + 6} {at}' for at in (38, 39, 40)), '≠ 47 41', *(f'= {at + 6} {at}' for at in (42, 43, 44)), '6 equal calls')
 
 
@@ -611,30 +609,6 @@ def calls_of_one_run(place: Pages) -> None:
                ['It has no arguments but its path.'])
 
 
-def sized(*order: int) -> Conversation:
-    """Three WRITEs to one file in an order. The size after each depends on those before it."""
-    calls, replies, end = list[bytes](), list[bytes](), 0
-    for xid in order:
-        end = max(end, 4 * xid)
-        calls.append(call(xid, NFS, 3, WRITE, fh(b'f') + hyper(4 * xid - 4) + word(4) + word(2) + opaque(b'%4d' % xid)))
-        replies.append(success(xid, ok(wcc(None, fattr(1, 7, end)), word(4), word(2), bytes(8))))
-    return calls, replies
-
-
-def what_is_not_counted(place: Pages) -> None:
-    """Fields that do not count in another order are folded, with all that belongs to them."""
-    place.put('a', sized(1, 2, 3))
-    place.put('b', sized(3, 1, 2))
-    page = place.page()
-    fold, = page.all('details', 'uncounted')
-    place.want('folded', (fold.attributes.get('open'), fold.all('summary')[0].text()), (None, '2 fields that were not counted'))
-    place.want('all of them', [[len(node.all(tag)) for tag in ('article', 'section')] for node in (fold, page)], [[2, 3]] * 2)
-    place.want('heading', fold.all('h2')[1].text(), '2 uncounted differences in 2 messages')
-    place.want('nothing is said to differ', (page.all('h1')[0].attributes['class'], glance_of(page)), ('same', ''))
-    place.put('b', sized(1, 2, 3), gets([1]))
-    place.want('what counts', len(place.page().all('details', 'uncounted')), 0)
-
-
 # --- Names of others ---
 
 HOSTILE = '<script>document.title=1</script>&"\'<img src=x onerror="document.title=2">'
@@ -664,14 +638,14 @@ def names_are_escaped(place: Pages) -> None:
 
 
 def pages_stand_alone(place: Pages) -> None:
-    """A page asks for nothing else, and its script has at most 100 lines."""
+    """A page asks for nothing else, and its script has at most 130 lines."""
     page = place.page(FIRST, CHANGED)
     place.want('sources', [node.tag for node in page.nodes() if {'src', 'srcset', 'data', 'action'} & set(node.attributes)], [])
     place.want('links', [one.attributes['href'] for one in page.all('a') if not one.attributes['href'].startswith('#')], [])
     place.want('other elements', {node.tag for node in page.nodes()} & {'link', 'iframe', 'object', 'embed', 'base', 'form', 'svg'}, set())
     text = ''.join(map(str, page.all('script')[0].parts))
     style = ''.join(map(str, page.all('style')[0].parts))
-    place.want('script', (len(text.strip().splitlines()) <= 100, re.findall(r'fetch|XMLHttp|import|eval|innerHTML|http', text)), (True, []))
+    place.want('script', (len(text.strip().splitlines()) <= 130, re.findall(r'fetch|XMLHttp|import|eval|innerHTML|http', text)), (True, []))
     place.want('style', re.findall(r'url|@import|http', style), [])
     metas = {one.attributes.get('name'): one.attributes.get('content') for one in page.all('meta')}
     place.want('head', (metas['viewport'], metas['color-scheme']), ('width=device-width, initial-scale=1', 'light dark'))
@@ -819,27 +793,6 @@ def signs_are_beside_their_places(place: Pages) -> None:
         place.want('errors', browser.errors, [])
 
 
-def uncounted_fields(place: Pages) -> None:
-    """They are neither red nor green, and a search, a link and a key open them."""
-    place.put('a', sized(1, 2, 3))
-    place.put('b', sized(3, 1, 2))
-    is_open = '(document.querySelector(".uncounted").open)'
-    with place.browser() as browser:
-        opened(place, browser)
-        place.want('folded', (browser.value(is_open), browser.value(VISIBLE % 'article')), (False, []))
-        colours = browser.value('["h2", ".change .minus", ".change .plus", ".sign"].map(one => getComputedStyle('
-                                'document.querySelector(one))).map(one => [one.color, one.backgroundColor])')
-        place.want('colours', colours, [colours[0]] * 4)
-        browser.press('n')
-        place.want('a key', browser.value(is_open), True)
-        for what in ('find.value = "after.size", find.dispatchEvent(new Event("input"))', 'location.hash = "#f2"'):
-            browser.value('document.querySelector(".uncounted").open = false')
-            browser.value(what)
-            browser.value('new Promise(done => setTimeout(done, 200))')
-            place.want(what, browser.value(is_open), True)
-        place.want('errors', browser.errors, [])
-
-
 def keys(place: Pages) -> None:
     """n and p go from finding to finding, and so do the buttons. In the text field they are letters."""
     place.put('a', gets(list(range(40))))
@@ -935,9 +888,9 @@ TESTS: list[Callable[[Pages], None]] = [
     the_top, what_does_not_count, other_verdicts, counts_lead_to_findings, findings_of_a_page, parts_of_a_recording,
     findings_that_say_the_same, long_messages, places_of_many_findings, two_thousand_findings, two_thousand_calls_of_the_second_run,
     size_of_a_page, calls_around, connections_of_one_run, fields_on_a_click, at_a_glance, marked_bytes,
-    calls_of_one_run, what_is_not_counted, names_are_escaped, pages_stand_alone]
+    calls_of_one_run, names_are_escaped, pages_stand_alone]
 IN_CHROMIUM: list[Callable[[Pages], None]] = [
-    pages_load, colours, signs, searching, searches_without_a_hit, signs_are_beside_their_places, uncounted_fields, keys, links, folding, copying, without_scripts]
+    pages_load, colours, signs, searching, searches_without_a_hit, signs_are_beside_their_places, keys, links, folding, copying, without_scripts]
 
 
 class PageTest(FolderTest, make=Pages, tests=[*TESTS, *map(unittest.skipUnless(chromium(), 'chromium is not there'), IN_CHROMIUM)]):
