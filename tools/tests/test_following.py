@@ -259,7 +259,8 @@ def lines_of_json(tools: Tools) -> None:
         rest = [json.loads('  '.join(line)) for line in lines]
         rows = [*([first] if first else []), *rest[:-1]]
         tools.want('rows', ([one['row']['state'] for one in rows], status), (states, 1))
-        wanted = {'judged': 2, 'ok': 1, 'refused': 1, 'in part': 0, 'left out': 0, 'without calls': 0, 'not checked': 0, 'errors': 0, 'raw': {}}
+        wanted = {'judged': 2, 'ok': 1, 'refused': 1, 'in part': 0, 'left out': 0, 'without calls': 0, 'not checked': 0, 'errors': 0,
+                  'without reply': 0, 'raw': {}}
         tools.want('the end', rest[-1], {'version': 2, 'counts': wanted, 'status': 1})
 
 
