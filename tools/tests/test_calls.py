@@ -139,7 +139,7 @@ EXCHANGES = [Told(NULL, b'', b'', '', '', 'OK'),
                   'NFS3ERR_SERVERFAULT'),
              Told(PATHCONF, fh(ROOT), failed(10008, post_op_attr()), '/x', '',
                   'NFS3ERR_JUKEBOX'),
-             Told(COMMIT, fh(FILE) + hyper(0) + word(5), ok(NO_WCC, bytes(8)), '/x/d/f', '0+5',
+             Told(COMMIT, fh(FILE) + hyper(0) + word(5), ok(NO_WCC, bytes(8)), '/x/g', '0+5',
                   'OK')]
 
 
