@@ -179,7 +179,6 @@ class Stream:
         acknowledged first were sent."""
         if self.heard is None:
             self.heard = acknowledged
-        self.acknowledged = acknowledged
         self.shows(self.position(acknowledged), number)
 
     def is_beyond(self, acknowledged: int) -> bool:
