@@ -360,7 +360,7 @@ def ok_in_part(tools: Tools) -> None:
         for words, status in ALLOWING:
             found, rows, last_line, _ = verdicts(tools, *options, *words, 'a.pcap')
             tools.want(what, (found, [row[1] for row in rows], [row[-1] for row in rows], last_line),
-                       (status, ['1', '2'], ['ok', verdict], sums(1, 1)))
+                       (status, ['1', '2'], ['ok', verdict], sums(1, 1, silent=numbers[0] - numbers[1])))
             tools.want(what + ', its numbers', rows[1][-3:-1], [str(number) for number in numbers])
     tools.write('a.pcap', pcap(good + lost_first))
     why = '192.0.2.7:700 and 192.0.2.1:2049: its first bytes are missing from the recording'
@@ -384,7 +384,7 @@ def ok_in_part_in_files(tools: Tools) -> None:
         tools.want('the suite', [suite.get(key) for key in ('tests', 'failures', 'errors', 'skipped')], ['2', str(failures), '0', '0'])
         tools.want('properties', [(item.get('name'), item.get('value')) for item in suite.iter('property')], [
             ('judged', '1'), ('ok', '1'), ('refused', '0'), ('in part', '1'), ('left out', '0'), ('without calls', '0'),
-            ('not checked', '0'), ('errors', '0'), ('raw', '')])
+            ('not checked', '0'), ('errors', '0'), ('without reply', '0'), ('raw', '')])
         first, second = suite.iter('testcase')
         tools.want('the cases', ([item.tag for item in first], [item.tag for item in second]), ([], ['failure'] * failures + ['system-out']))
         tools.want('the type', [(item.get('type'), item.get('message')) for item in second if item.tag == 'failure'],
