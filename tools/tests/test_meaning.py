@@ -27,7 +27,7 @@ from .cases import PROGRAM, FolderTest
 from .scripts import TOP, Tools
 
 FOLDER, FILE, OTHER = b'folder', b'file', b'other'
-T1, T2, T3 = (nfstime(seconds, 250_000_000) for seconds in (100, 200, 300))
+EARLY, LATER, LATEST = (nfstime(seconds, 250_000_000) for seconds in (100, 200, 300))
 VERIFIER, RESTARTED = b'verifier', b'restart.'
 SECONDS = 10**9
 # Recordings of the repository, or all of a folder.
@@ -51,16 +51,16 @@ class Case(NamedTuple):
     sound: list[Step]
 
 
-def shown(kind: int = REG, fileid: int = 5, size: int = 5, mode: int = 0o644, mtime: bytes = T1,
-          ctime: bytes = T1) -> bytes:
-    return fattr(kind, fileid, size, mode)[:60] + T1 + mtime + ctime
+def shown(kind: int = REG, fileid: int = 5, size: int = 5, mode: int = 0o644, mtime: bytes = EARLY,
+          ctime: bytes = EARLY) -> bytes:
+    return fattr(kind, fileid, size, mode)[:60] + EARLY + mtime + ctime
 
 
-def folder(mtime: bytes = T1) -> bytes:
+def folder(mtime: bytes = EARLY) -> bytes:
     return shown(DIR, 2, 4096, 0o755, mtime, mtime)
 
 
-def changed(now: bytes, size: int = 5, was: bytes = T1) -> bytes:
+def changed(now: bytes, size: int = 5, was: bytes = EARLY) -> bytes:
     """wcc_data of an object with attributes of before."""
     return optional(hyper(size) + was + was) + post_op_attr(now)
 
@@ -81,7 +81,7 @@ def write(now: bytes, count: int = 5, stable: int = FILE_SYNC, committed: int = 
             ok(changed(now), word(written), word(committed), verifier))
 
 
-def looked_up(name: bytes, handle: bytes = FILE, fileid: int = 5, mtime: bytes = T1,
+def looked_up(name: bytes, handle: bytes = FILE, fileid: int = 5, mtime: bytes = EARLY,
               kind: int = DIR) -> Step:
     above = shown(kind, 2, 4096, 0o755, mtime, mtime)
     return ('LOOKUP', dirop(FOLDER, name),
@@ -94,7 +94,7 @@ def not_found(name: bytes, mtime: bytes) -> Step:
 
 def made_folder(mode: int = 0o700, kind: int = DIR) -> Step:
     return ('MKDIR', dirop(FOLDER, b'new') + sattr(mode=0o700),
-            ok(made(b'new', shown(kind, 9, 0, mode, T2, T2), changed(folder(T2), 4096))))
+            ok(made(b'new', shown(kind, 9, 0, mode, LATER, LATER), changed(folder(LATER), 4096))))
 
 
 def listed(*items: bytes, count: int = 4096, is_end: bool = True) -> Step:
@@ -103,8 +103,8 @@ def listed(*items: bytes, count: int = 4096, is_end: bool = True) -> Step:
 
 
 def set_mode(mode: int, ctime: bytes) -> Step:
-    return ('SETATTR', fh(FILE) + sattr(mode=0o600) + guard(T1),
-            ok(changed(shown(mode=mode, ctime=T3), was=ctime)))
+    return ('SETATTR', fh(FILE) + sattr(mode=0o600) + guard(EARLY),
+            ok(changed(shown(mode=mode, ctime=LATEST), was=ctime)))
 
 
 def listed_plus(fileid: int) -> Step:
@@ -123,12 +123,13 @@ def accessible(granted: int) -> Step:
     return 'ACCESS', fh(FILE) + word(1), ok(post_op_attr(shown()) + word(granted))
 
 
-REMOVED: Step = 'REMOVE', dirop(FOLDER, b'a'), ok(changed(folder(T2), 4096))
+REMOVED: Step = 'REMOVE', dirop(FOLDER, b'a'), ok(changed(folder(LATER), 4096))
 CREATED: Step = ('CREATE', dirop(FOLDER, b'a') + how(GUARDED, sattr(mode=0o644)),
-                 ok(made(FILE, shown(size=0, mtime=T2, ctime=T2), changed(folder(T2), 4096))))
+                 ok(made(FILE, shown(size=0, mtime=LATER, ctime=LATER),
+                         changed(folder(LATER), 4096))))
 COMMITTED: Step = 'COMMIT', fh(FILE) + hyper(0) + word(0), ok(changed(shown()), VERIFIER)
 UNCOMMITTED = write(shown(), stable=UNSTABLE, committed=UNSTABLE)
-AT_REST, AT_REST_LATER = asked(FOLDER, folder()), asked(FOLDER, folder(T2))
+AT_REST, AT_REST_LATER = asked(FOLDER, folder()), asked(FOLDER, folder(LATER))
 CASES = [
     Case('read-data', [read(b'alpha')], [read(b'alphb')], [read(b'alpha')]),
     Case('read-eof', [], [read(b'alpha', is_end=0)], [read(b'alpha')]),
@@ -144,20 +145,21 @@ CASES = [
     Case('not-committed', [], [UNCOMMITTED], [UNCOMMITTED, COMMITTED]),
     Case('listing', [AT_REST, looked_up(b'a')], [listed(entry(9, b'b', 1))],
          [listed(entry(5, b'a', 1))]),
-    Case('name-gone', [AT_REST, REMOVED, AT_REST_LATER], [looked_up(b'a', mtime=T2)],
-         [not_found(b'a', T2)]),
-    Case('name-there', [AT_REST, CREATED, AT_REST_LATER], [not_found(b'a', T2)],
-         [looked_up(b'a', mtime=T2)]),
+    Case('name-gone', [AT_REST, REMOVED, AT_REST_LATER], [looked_up(b'a', mtime=LATER)],
+         [not_found(b'a', LATER)]),
+    Case('name-there', [AT_REST, CREATED, AT_REST_LATER], [not_found(b'a', LATER)],
+         [looked_up(b'a', mtime=LATER)]),
     Case('name-object', [AT_REST, looked_up(b'a')], [looked_up(b'a', OTHER, 6)],
          [looked_up(b'a')]),
     Case('handle-object', [asked()], [asked(now=shown(fileid=6))], [asked()]),
     Case('same-ctime', [asked(), asked()], [asked(now=shown(mode=0o600))], [asked()]),
-    Case('returns', [asked(), asked()], [asked(now=shown(mtime=T2, ctime=T2)), asked()],
-         [asked(now=shown(mtime=T2, ctime=T2)), asked(now=shown(mtime=T3, ctime=T3))]),
-    Case('set-attributes', [], [set_mode(0o644, T1)], [set_mode(0o600, T1)]),
+    Case('returns', [asked(), asked()], [asked(now=shown(mtime=LATER, ctime=LATER)), asked()],
+         [asked(now=shown(mtime=LATER, ctime=LATER)),
+          asked(now=shown(mtime=LATEST, ctime=LATEST))]),
+    Case('set-attributes', [], [set_mode(0o644, EARLY)], [set_mode(0o600, EARLY)]),
     Case('made-attributes', [], [made_folder(0o755)], [made_folder()]),
     Case('made-type', [], [made_folder(kind=REG)], [made_folder()]),
-    Case('guard', [], [set_mode(0o600, T2)], [set_mode(0o600, T1)]),
+    Case('guard', [], [set_mode(0o600, LATER)], [set_mode(0o600, EARLY)]),
     Case('entries-size', [], [listed(entry(5, b'a', 1), count=131)],
          [listed(entry(5, b'a', 1), count=132)]),
     Case('entries-none', [], [listed(is_end=False)], [listed()]),
@@ -168,8 +170,8 @@ CASES = [
     Case('entry-fileid', [], [listed_plus(6)], [listed_plus(5)]),
     Case('mode-bits', [], [asked(now=shown(mode=0o100644))], [asked()]),
     Case('nsec', [], [asked(now=shown(mtime=nfstime(100, SECONDS)))], [asked()]),
-    Case('write-ctime', [asked()], [write(shown(mtime=T3, ctime=T2))],
-         [write(shown(mtime=T3, ctime=T3))]),
+    Case('write-ctime', [asked()], [write(shown(mtime=LATEST, ctime=LATER))],
+         [write(shown(mtime=LATEST, ctime=LATEST))]),
     Case('dir-type', [], [looked_up(b'a', kind=REG)], [looked_up(b'a')]),
     Case('access-asked', [], [accessible(3)], [accessible(1)]),
     Case('fsinfo', [], [limits(8192)], [limits(4096)])]
@@ -254,8 +256,9 @@ def findings_that_are_accepted(tools: Tools) -> None:
     """They change no status; what is no longer found is listed; other files are refused."""
     write_faulty(tools)
     run = functools.partial(tools.tool, 'meaning', '--program', tools.program, '--accept', 'a.json')
-    entries_ = [{'rule': 'read-data', 'server': '198.51.100.1:2049'}, {'rule': 'nsec', 'server': '*'}]
-    tools.write('a.json', json.dumps({'version': 1, 'accepted': entries_}).encode())
+    known = [{'rule': 'read-data', 'server': '198.51.100.1:2049'},
+             {'rule': 'nsec', 'server': '*'}]
+    tools.write('a.json', json.dumps({'version': 1, 'accepted': known}).encode())
     status, out, _ = run('a.pcap')
     tools.want('accepted', (status, out.splitlines()[-3:-1]), (0, [
         'no longer found: nsec *',
