@@ -29,13 +29,6 @@ def function_at(path: str, text: str, at: int) -> str | None:
     return path_of(path, lines, head)
 
 
-def function_with(path: str, text: str, line: int) -> str | None:
-    """Returns the path, below the crate, of the function that has a line, numbered from 1, in its head or its body."""
-    lines = text.split('\n')
-    head = head_above(lines, line - 1)
-    return path_of(path, lines, head) if head else None
-
-
 def path_of(path: str, lines: list[str], head: Head) -> str:
     """Returns the path of a function, as a check prints it below the crate."""
     if not head.indent:

@@ -11,9 +11,9 @@ verdict on its own function alone. Edits of different functions are therefore tr
 tried alone, as by `rt must-fail`: an edit that changes nothing or does not compile, one of a contract, a type, a definition
 or a proof, and one whose function no round refuses.
 
-An edit counts as refused only if a goal is left open: a clause, what a callee requires, an invariant, a check of the code, or
-a law over definitions. A proof file that names what the edit took away, a proof that is not made, or an error of types says
-nothing of a contract. Then the function is checked without its own proof files, so that it is seen whether it is proved.
+What refuses an edit is a goal that is left open: a clause, what a callee requires, an invariant or a measure, a check of the
+code, or a law over definitions. A proof file that names what the edit took away, or a proof that is not made, says nothing
+of a contract; such an edit counts as refused, and as one that no goal refused.
 The line before the last says how many edits each kind of goal refused. The last line is 'N passed, M failed'.
 """
 import hashlib
@@ -28,7 +28,7 @@ from pathlib import Path
 from typing import NamedTuple
 
 sys.path.insert(0, str(Path(__file__).resolve().parent))
-from bodies import function_at, function_with  # noqa: E402
+from bodies import function_at  # noqa: E402
 import kit  # noqa: E402
 
 # A round begins with a load of the crate, which takes 10 to 20 seconds. Smaller rounds use processors that are idle.
@@ -36,8 +36,9 @@ MOST = 12
 PAIR = re.compile(r'^(file|old|new): ?(.*)$', re.MULTILINE)
 LINE = re.compile(r'^fn (\S+): (.*)$', re.MULTILINE)
 OF_CALLEES = re.compile(r'it (calls|passes the block) .*?, which (is|are) not proved')
-# A goal that is left open, by its place in the code.
-OPEN = re.compile(r'(?:note: )?(?:\./)?(src/\S+?):(\d+):\d+: it is not proved that ([^;\n]*)')
+# The goals of a function that are left open, in its line; and one by its place in the code.
+SEARCHED = re.compile(r'`search` did not prove `(\S+?)`')
+OPEN = re.compile(r'(?:note: )?(?:\./)?src/\S+?:\d+:\d+: it is not proved that ([^;\n]*)')
 # An error in a proof file, but for names that are gone: in the answers of a function with the name of its goal, or in a proof of a law.
 NOT_OF_NAMES = r': error: (?!.*(?:has no field|is not in scope|has no `|was not admitted))'
 ANSWER = re.compile(r'(?:\./)?proofs/(\S+)/Answers\.antt:\d+:\d+' + NOT_OF_NAMES + r'`(\S+?)`: ')
@@ -45,7 +46,7 @@ LAW = re.compile(r'(?:note: )?(?:\./)?proofs/\S+:\d+:\d+' + NOT_OF_NAMES)
 # The kinds of goals, by words in what a check says of them or in their names.
 KINDS = {'what a callee requires': (' requires ', '-requires'), 'a clause': (' ensures ', 'returns'),
          'an invariant or a measure': ('loop', 'invariant', 'preserved', 'decreases')}
-OF_CODE, OF_A_LAW = 'a check of the code', 'a law'
+OF_CODE, OF_A_LAW, BY_NO_GOAL = 'a check of the code', 'a law', 'no goal that is named'
 
 
 class Round(NamedTuple):
@@ -121,13 +122,20 @@ def rounds_of(crate: kit.Crate, edits: list[Path]) -> tuple[list[Round], list[Pa
     return rounds, alone
 
 
-def goals_in(said: str, crate: kit.Crate, texts: dict[str, str]) -> list[tuple[str, str]]:
-    """Returns the goals that a check leaves open: the path of each one's function, and what the check says of it."""
-    found = []
-    for path, line, words in OPEN.findall(said):
-        text = texts.get(path) or (Path(crate.folder) / path).read_text()
-        found.append((function_with(path, text, int(line)) or path, words))
+def goals_in(said: str) -> list[tuple[str, str]]:
+    """Returns the goals that a check leaves open: the path of each one's function, and the name of the goal."""
+    found = [(name, goal) for name, why in LINE.findall(said) for goal in SEARCHED.findall(why)]
     return found + [(path.replace('/', '::'), goal) for path, goal in ANSWER.findall(said)]
+
+
+def has_own_reason(functions: set[str], said: str) -> bool:
+    """Whether a check refuses one of some functions, and not only for functions that it calls."""
+    for name, why in LINE.findall(said):
+        own = OF_CALLEES.sub('', why).removeprefix('no proof:').strip(' ;,')
+        if own and not why.startswith(('proved', 'could not tell', 'assumed')) \
+                and any(('::' + name).endswith('::' + function) for function in functions):
+            return True
+    return False
 
 
 def goal_of(functions: set[str], goals: list[tuple[str, str]]) -> str | None:
@@ -145,12 +153,15 @@ def tried(crate: kit.Crate, one: Round) -> dict[Path, Outcome]:
     said = kit.check(crate, one.texts, sorted(set().union(*one.functions.values())))
     if len(one.functions) > 1 and not LINE.search(said):
         return tried_by_halves(crate, list(one.functions))
-    goals = goals_in(said, crate, one.texts)
-    found = {}
+    goals, found = goals_in(said), {}
     for edit, names in one.functions.items():
-        goal = goal_of(names, goals)
-        found[edit] = tried_alone(crate, edit) if goal is None else \
-            Outcome(f'refused in {", ".join(sorted(names))}: {goal[:160]}', kind_of(goal))
+        goal, label = goal_of(names, goals), f'refused in {", ".join(sorted(names))}'
+        if goal is not None:
+            found[edit] = Outcome(f'{label}: {goal[:160]}', kind_of(goal))
+        elif has_own_reason(names, said):
+            found[edit] = Outcome(f'{label}, by {BY_NO_GOAL}', BY_NO_GOAL)
+        else:
+            found[edit] = tried_alone(crate, edit)
     return found
 
 
@@ -169,19 +180,7 @@ def tried_alone(crate: kit.Crate, edit: Path) -> Outcome:
     goal = OPEN.search(said) or ANSWER.search(said)
     if is_refused and goal:
         return Outcome(said, kind_of(goal[goal.re.groups]))
-    if is_refused and LAW.search(said):
-        return Outcome(said, OF_A_LAW)
-    if is_refused and is_proved_without_its_proofs(crate, edit):
-        return Outcome('NOT REFUSED: its function is proved without the proof files that name what the edit took away')
-    return Outcome(f'NO GOAL IS LEFT OPEN: {said}' if is_refused else said)
-
-
-def is_proved_without_its_proofs(crate: kit.Crate, edit: Path) -> bool:
-    """Whether the functions of an edit are proved if the proof files that were written for them are not there."""
-    names = functions_of(edit, crate)
-    said = kit.check_without_proofs(crate, kit.texts_with(edit, crate)[0], sorted(names))
-    verdicts = LINE.findall(said)
-    return bool(verdicts) and all(why.startswith('proved') for _, why in verdicts)
+    return Outcome(said, '' if not is_refused else OF_A_LAW if LAW.search(said) else BY_NO_GOAL)
 
 
 class Tries:
@@ -239,7 +238,7 @@ def told(crate: kit.Crate, outcomes: dict[Path, Outcome]) -> Counter[str]:
 def told_of_kinds(kinds: Counter[str]) -> str:
     """Returns what to say of the edits of all crates."""
     refused = ', '.join(f'{number} by {kind}' for kind, number in kinds.most_common() if kind)
-    return f'{kinds.total()} edits: {refused or "none refused"}; {kinds[""]} not refused by a goal'
+    return f'{kinds.total()} edits: {refused or "none refused"}; {kinds[""]} not refused'
 
 
 def told_of_others(crate: kit.Crate, others: list[Path]) -> int:

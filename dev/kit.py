@@ -1,5 +1,4 @@
 """The kit's command `rt` as a module: it knows how a crate is checked. This is the only file that names its parts."""
-import copy
 import importlib.machinery
 import importlib.util
 import os
@@ -7,7 +6,6 @@ import shutil
 import signal
 import subprocess
 import sys
-import tempfile
 from collections.abc import Mapping, Sequence
 from pathlib import Path
 from typing import Any, Protocol
@@ -72,20 +70,6 @@ def check(crate: Crate, texts: Mapping[str, str], functions: Sequence[str]) -> s
         ran = rt.checked(crate, texts, ['--jobs', '1', *only], None)
     said: str = ran.stdout
     return said
-
-
-def check_without_proofs(crate: Crate, texts: Mapping[str, str], functions: Sequence[str]) -> str:
-    """Checks as `check` does, in a copy of the crate without the proof files that were written for these functions."""
-    with tempfile.TemporaryDirectory(prefix='nfs3canon') as room:
-        for part in rt.rtlib.PARTS:
-            if Path(crate.folder, part).is_dir():
-                shutil.copytree(Path(crate.folder, part), Path(room, part))
-        for name in functions:
-            for folder in list(Path(room, 'proofs').glob(f'**/{name.replace("::", "/")}')):
-                shutil.rmtree(folder)
-        other = copy.copy(crate)
-        other.folder = room
-        return check(other, texts, functions)
 
 
 def refused_alone(crate: Crate, edit: Path) -> tuple[bool, str]:
