@@ -228,16 +228,22 @@ def memory_of_a_long_line(place: Place) -> None:
     place.want('lines', (answer[0], answer[1].count('\n')), (0, 120_001))
 
 
+# Runs a command, whose output is thrown away, and prints its status and the most memory that it had, in KiB.
+PEAK = """import resource, subprocess, sys
+status = subprocess.run(sys.argv[1:], stdout=subprocess.DEVNULL).returncode
+print(status, resource.getrusage(resource.RUSAGE_CHILDREN).ru_maxrss)"""
+
+
 def memory_of_the_longest_line(place: Place) -> None:
-    """A line is held until its record is judged. One of 16 MiB of words with the most digits each takes at most six times its record
-    beside what the smallest capture takes."""
+    """A line is held until its record is judged. One of 16 MiB of words with the most digits each takes less than six times its record."""
     head = success(1, word(0) + fh(b'root'))
     count = (LONGEST - len(head) - 4) // 4
     replies = [head + word(count) + b'\xff' * (4 * count)]
     place.write('a', messages.capture(([call(1, MOUNT, 3, 1, fh(b'/d'))], replies)))
-    answer = place.limited('-v %d' % (place.least_memory() + 6 * LONGEST // 1024), 'show', 'a')
-    place.want('status', answer[::2], (0, ''))
-    place.want('words', answer[1].count(' flavor=4294967295'), count)
+    status, out, error = place.run('show', 'a', before=[sys.executable, '-c', PEAK])
+    done, peak = map(int, out.split())
+    place.want('statuses', (status, done, error), (0, 0, ''))
+    place.want('memory', LONGEST < peak * 1024 < 6 * LONGEST, True)
 
 
 def streams_without_an_end(place: Place) -> None:
