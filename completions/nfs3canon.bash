@@ -20,41 +20,64 @@ _nfs3canon() {
 }
 complete -o filenames -F _nfs3canon nfs3canon
 
-# What fits a word of a tool's line: the words of the option before it, or options if it begins with a hyphen. Else bash offers files.
+# The tools. What follows is made by dev/completions.
 _nfs3_tool() {
   local tool=${1##*/} word=$2 option=$3 given='' words=''
   case "$tool $option" in
-    *'compare --mask')
+    'verdicts --color' | 'nfs3-verdicts --color')
+      words='auto always never'
+      ;;
+    'calls --sort' | 'nfs3-calls --sort')
+      words='time latency'
+      ;;
+    'calls --color' | 'nfs3-calls --color')
+      words='auto always never'
+      ;;
+    'procedures --sort' | 'nfs3-procedures --sort')
+      words='procedure calls again replies no-reply call-bytes reply-bytes median p99 most mean sum errors'
+      ;;
+    'procedures --color' | 'nfs3-procedures --color')
+      words='auto always never'
+      ;;
+    'nfs3-meaning --rule')
+      words='read-data read-eof read-past-end read-count-data read-count-asked write-size write-committed write-count-asked write-count-data verifier not-committed listing name-gone name-there name-object handle-object same-ctime returns set-attributes made-attributes made-type guard entries-size entries-none entry-cookies entry-names entry-fileid mode-bits nsec write-ctime dir-type access-asked fsinfo'
+      given=${word%"${word##*,}"}
+      ;;
+    'nfs3-meaning --explain')
+      words='read-data read-eof read-past-end read-count-data read-count-asked write-size write-committed write-count-asked write-count-data verifier not-committed listing name-gone name-there name-object handle-object same-ctime returns set-attributes made-attributes made-type guard entries-size entries-none entry-cookies entry-names entry-fileid mode-bits nsec write-ctime dir-type access-asked fsinfo'
+      ;;
+    'nfs3-meaning --color')
+      words='auto always never'
+      ;;
+    'nfs3-compare --mask')
       words='none times stamps machines space ids fsids cookies cookieverfs createverfs owners wcc sillynames raw'
       given=${word%"${word##*,}"}
       ;;
-    *' --color') words='auto always never' ;;
-    *'compare --order') words='strict any' ;;
-    *'compare --extra') words='asking none' ;;
-    *'calls --sort') words='time latency' ;;
-    *'meaning --explain' | *'meaning --rule')
-      words='read-data read-eof read-past-end read-count-data read-count-asked write-size write-committed write-count-asked write-count-data verifier not-committed listing name-gone name-there name-object handle-object same-ctime returns set-attributes made-attributes made-type guard entries-size entries-none entry-cookies entry-names entry-fileid mode-bits nsec write-ctime dir-type access-asked fsinfo'
+    'nfs3-compare --order')
+      words='strict any'
       ;;
-    *'procedures --sort') words='procedure calls again replies no-reply call-bytes reply-bytes median p99 most mean sum errors' ;;
+    'nfs3-compare --extra')
+      words='asking none'
+      ;;
+    'nfs3-compare --color')
+      words='auto always never'
+      ;;
     *) [[ $word != -* ]] || words=$(_nfs3_options "$tool") ;;
   esac
   mapfile -t COMPREPLY < <(compgen -P "$given" -W "$words" -- "${word#"$given"}")
 }
 
 _nfs3_options() {
-  local judging='--allow-losses --allow-not-checked --program'
-  echo --port --no-midstream --whole-records --filter --version --help
   case $1 in
-    *verdicts) echo "$judging" --color --quiet --follow --junit --json --html -j ;;
-    *calls) echo "$judging" --color --width --errors --no-reply --slow --procedure --path --user --client --from --to --sort --utc --json --csv ;;
-    *meaning) echo "$judging" --color --all --rule --notes --explain --accept --junit --html --json --csv ;;
-    *procedures) echo "$judging" --color --width --beside --total --from --to --sort --json --csv --html ;;
-    *compare) echo "$judging" --color --mask --order --extra --ignore --accept --accept-new --marks --all --brief --html --json --junit ;;
-    *cut) echo --origins --program ;;
+    from_pcap | nfs3-from-pcap) echo --help --version --filter --port ;;
+    nfs3-where) echo --help --version --filter --port ;;
+    verdicts | nfs3-verdicts) echo --help --version --quiet --junit --json --html -j --follow --color --program --filter --port --allow-losses --allow-not-checked ;;
+    calls | nfs3-calls) echo --help --version --errors --no-reply --slow --procedure --path --user --client --sort --json --csv --utc --from --to --width --color --program --filter --port --allow-losses --allow-not-checked ;;
+    procedures | nfs3-procedures) echo --help --version --beside --total --sort --json --csv --html --from --to --width --color --program --filter --port --allow-losses --allow-not-checked ;;
+    nfs3-meaning) echo --help --version --all --rule --notes --explain --accept --junit --html --json --csv --color --program --filter --port --allow-losses --allow-not-checked ;;
+    nfs3-compare) echo --help --version --mask --order --extra --ignore --accept --accept-new --marks --all --brief --html --json --junit --color --program --filter --port --allow-losses --allow-not-checked ;;
+    nfs3-explain) echo --help --version --filter --port ;;
+    nfs3-cut) echo --help --version --origins --program --filter --port ;;
   esac
 }
-
-# The tools, by the names under which they are installed, and those with a name of their own also by that: compare and where are
-# names of other programs.
-complete -o default -F _nfs3_tool from_pcap verdicts calls procedures nfs3-from-pcap nfs3-where nfs3-explain nfs3-verdicts nfs3-calls nfs3-meaning \
-  nfs3-procedures nfs3-cut nfs3-compare
+complete -o default -F _nfs3_tool from_pcap nfs3-from-pcap nfs3-where verdicts nfs3-verdicts calls nfs3-calls procedures nfs3-procedures nfs3-meaning nfs3-compare nfs3-explain nfs3-cut

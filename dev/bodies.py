@@ -18,8 +18,8 @@ class Head(NamedTuple):
 
 
 def function_at(path: str, text: str, at: int) -> str | None:
-    """Returns the path, below the crate, of the function in whose body a position of a file is. None stands for a
-    position in no body, as in a contract, a type or a constant."""
+    """Returns the path, below the crate, of the function in whose body a position of a file is.
+    None stands for a position in no body, as in a contract, a type or a constant."""
     lines = text.split('\n')
     line = text.count('\n', 0, at)
     head = head_above(lines, line)
@@ -27,6 +27,17 @@ def function_at(path: str, text: str, at: int) -> str | None:
     if head is None or line - (text[at:at + 1] != '\n') < last_line_of_head(lines, head):
         return None
     return path_of(path, lines, head)
+
+
+def function_of_line(path: str, text: str, number: int) -> str | None:
+    """Returns the path, below the crate, of the function that a line of a file is in. Its head and
+    its attributes are part of it. Lines count from 1.
+"""
+    lines = text.split('\n')
+    first = next((line for line in range(number - 1, len(lines))
+                  if not lines[line].lstrip().startswith('#')), number - 1)
+    head = head_above(lines, first)
+    return path_of(path, lines, head) if head else None
 
 
 def path_of(path: str, lines: list[str], head: Head) -> str:
@@ -49,7 +60,8 @@ def head_above(lines: list[str], line: int) -> Head | None:
 
 
 def last_line_of_head(lines: list[str], head: Head) -> int:
-    """Returns the line that opens the body of a function. A function with clauses has it on a line of its own."""
+    """Returns the line that opens the body of a function. A function with clauses has it on a line
+    of its own."""
     has_clauses = False
     for number in range(head.line, len(lines)):
         has_clauses = has_clauses or bool(CLAUSE.match(lines[number]))
@@ -59,7 +71,8 @@ def last_line_of_head(lines: list[str], head: Head) -> int:
 
 
 def owner_above(lines: list[str], line: int) -> str:
-    """Returns what stands before a method's name: its type, or its type and its trait in one word."""
+    """Returns what stands before a method's name: its type, or its type and its trait in one
+    word."""
     while not OWNER.match(lines[line]):
         line -= 1
     found = OWNER.match(lines[line])
@@ -84,11 +97,13 @@ def bare(words: str) -> str:
 
 
 def parameters(trait: str) -> str:
-    """Returns the types between the brackets of a trait as a check writes them: those of `From<io::Error>` are `IoError`."""
+    """Returns the types between the brackets of a trait as a check writes them: those of
+    `From<io::Error>` are `IoError`."""
     words = re.findall(r"(?<!')\b\w+", trait.partition('<')[2])
     return ''.join(word[:1].upper() + word[1:] for word in words)
 
 
 def module_of(path: str) -> str:
     """Returns the module of a file: that of src/a/b.rt is `a::b`."""
-    return re.sub(r'(^|/)(lib|main|mod)$', '', path.removeprefix('src/').removesuffix('.rt')).replace('/', '::')
+    return re.sub(r'(^|/)(lib|main|mod)$', '',
+                  path.removeprefix('src/').removesuffix('.rt')).replace('/', '::')

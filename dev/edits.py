@@ -5,16 +5,18 @@
 
 runs at the top of the repository, once the libraries below the crates are built (`rt lib`).
 
-An edit is one bug, in one function. A check goes on after a function that it refuses, and says of each function why it is
-not proved. Proofs read the contracts of the functions that they call, and not their bodies, so a bug in a body changes the
-verdict on its own function alone. Edits of different functions are therefore tried in one check, a round. All others are
-tried alone, as by `rt must-fail`: an edit that changes nothing or does not compile, one of a contract, a type, a definition
-or a proof, and one whose function no round refuses.
+An edit is one bug, in one function. A check goes on after a function that it refuses, and says of
+each function why it is not proved. Proofs read the contracts of the functions that they call, and
+not their bodies, so a bug in a body changes the verdict on its own function alone. Edits of
+different functions are therefore tried in one check, a round. All others are tried alone, as by `rt
+must-fail`: an edit that changes nothing or does not compile, one of a contract, a type, a
+definition or a proof, and one whose function no round refuses.
 
-What refuses an edit is a goal that is left open: a clause, what a callee requires, an invariant or a measure, a check of the
-code, or a law over definitions. A proof file that names what the edit took away, or a proof that is not made, says nothing
-of a contract; such an edit counts as refused, and as one that no goal refused.
-The line before the last says how many edits each kind of goal refused. The last line is 'N passed, M failed'.
+What refuses an edit is a goal that is left open: a clause, what a callee requires, an invariant or
+a measure, a check of the code, or a law over definitions. A proof file that names what the edit
+took away, or a proof that is not made, says nothing of a contract; such an edit fails. Change a
+value then, and keep the names. The line before the last says how many edits each kind of goal
+refused. The last line is 'N passed, M failed'.
 """
 import hashlib
 import json
@@ -22,31 +24,37 @@ import os
 import re
 import sys
 from collections import Counter
-from collections.abc import Iterator
+from collections.abc import Callable, Iterator
 from concurrent.futures import ThreadPoolExecutor
 from pathlib import Path
 from typing import NamedTuple
 
 sys.path.insert(0, str(Path(__file__).resolve().parent))
-from bodies import function_at  # noqa: E402
+from bodies import function_at, function_of_line  # noqa: E402
 import kit  # noqa: E402
 
-# A round begins with a load of the crate, which takes 10 to 20 seconds. Smaller rounds use processors that are idle.
+# A round begins with a load of the crate, which takes 10 to 20 seconds. Smaller rounds use
+# processors that are idle.
 MOST = 12
 PAIR = re.compile(r'^(file|old|new): ?(.*)$', re.MULTILINE)
 LINE = re.compile(r'^fn (\S+): (.*)$', re.MULTILINE)
 OF_CALLEES = re.compile(r'it (calls|passes the block) .*?, which (is|are) not proved')
-# The goals of a function that are left open, in its line; and one by its place in the code.
+# The goals of a function that are left open, in its line; one by its place in the code that some
+# values are known to break; and any by its place.
 SEARCHED = re.compile(r'`search` did not prove `(\S+?)`')
+FALSE = re.compile(r'^note: (?:\./)?(src/\S+?):(\d+):\d+: it is not proved that .*\(`(\S+?)`\); '
+                   r'the facts known there allow values', re.MULTILINE)
 OPEN = re.compile(r'(?:note: )?(?:\./)?src/\S+?:\d+:\d+: it is not proved that ([^;\n]*)')
-# An error in a proof file, but for names that are gone: in the answers of a function with the name of its goal, or in a proof of a law.
+# An error in a proof file, but for names that are gone: in the answers of a function with the name
+# of its goal, or in a proof of a law.
 NOT_OF_NAMES = r': error: (?!.*(?:has no field|is not in scope|has no `|was not admitted))'
 ANSWER = re.compile(r'(?:\./)?proofs/(\S+)/Answers\.antt:\d+:\d+' + NOT_OF_NAMES + r'`(\S+?)`: ')
 LAW = re.compile(r'(?:note: )?(?:\./)?proofs/\S+:\d+:\d+' + NOT_OF_NAMES)
 # The kinds of goals, by words in what a check says of them or in their names.
-KINDS = {'what a callee requires': (' requires ', '-requires'), 'a clause': (' ensures ', 'returns'),
+KINDS = {'what a callee requires': (' requires ', '-requires'),
+         'a clause': (' ensures ', 'returns'),
          'an invariant or a measure': ('loop', 'invariant', 'preserved', 'decreases')}
-OF_CODE, OF_A_LAW, BY_NO_GOAL = 'a check of the code', 'a law', 'no goal that is named'
+OF_CODE, OF_A_LAW, BY_NO_GOAL = 'a check of the code', 'a law', 'no goal'
 
 
 class Round(NamedTuple):
@@ -56,12 +64,13 @@ class Round(NamedTuple):
 
 
 class Outcome(NamedTuple):
-    """What became of an edit: what is said of it, and which kind of goal refused it, if one did."""
+    """What became of an edit: what is said of it, and which kind of goal refused it. The kind is
+    empty for one that was accepted or not tried."""
     said: str
     kind: str = ''
 
     @property
-    def is_refused(self) -> bool:
+    def is_tried(self) -> bool:
         return bool(self.kind)
 
 
@@ -78,7 +87,8 @@ def changes(edit: Path) -> Iterator[tuple[str, str, str]]:
 
 
 def functions_of(edit: Path, crate: kit.Crate) -> set[str]:
-    """Returns the functions in whose bodies an edit is. None at all stands for an edit that is tried alone."""
+    """Returns the functions in whose bodies an edit is. None at all stands for an edit that is
+    tried alone."""
     found: set[str] = set()
     texts: dict[str, str] = {}
     for path, old, new in changes(edit):
@@ -93,7 +103,8 @@ def functions_of(edit: Path, crate: kit.Crate) -> set[str]:
 
 
 def with_edit(texts: dict[str, str], edit: Path, crate: kit.Crate) -> dict[str, str] | None:
-    """Returns texts with an edit besides, or None if another edit has changed a line that it names."""
+    """Returns texts with an edit besides, or None if another edit has changed a line that it
+    names."""
     made = dict(texts)
     for path, old, new in changes(edit):
         text = made.get(path) or (Path(crate.folder) / path).read_text()
@@ -104,7 +115,8 @@ def with_edit(texts: dict[str, str], edit: Path, crate: kit.Crate) -> dict[str, 
 
 
 def rounds_of(crate: kit.Crate, edits: list[Path]) -> tuple[list[Round], list[Path]]:
-    """Returns rounds in which no two edits change one function, and the edits that are tried alone."""
+    """Returns rounds in which no two edits change one function, and the edits that are tried
+    alone."""
     rounds: list[Round] = []
     alone: list[Path] = []
     for edit in edits:
@@ -122,10 +134,13 @@ def rounds_of(crate: kit.Crate, edits: list[Path]) -> tuple[list[Round], list[Pa
     return rounds, alone
 
 
-def goals_in(said: str) -> list[tuple[str, str]]:
-    """Returns the goals that a check leaves open: the path of each one's function, and the name of the goal."""
+def goals_in(said: str, text_of: Callable[[str], str]) -> list[tuple[str, str]]:
+    """Returns the goals that a check leaves open: the path of each one's function, and the name of
+    the goal."""
     found = [(name, goal) for name, why in LINE.findall(said) for goal in SEARCHED.findall(why)]
-    return found + [(path.replace('/', '::'), goal) for path, goal in ANSWER.findall(said)]
+    found += [(path.replace('/', '::'), goal) for path, goal in ANSWER.findall(said)]
+    return found + [(function_of_line(path, text_of(path), int(line)) or '', goal)
+                    for path, line, goal in FALSE.findall(said)]
 
 
 def has_own_reason(functions: set[str], said: str) -> bool:
@@ -139,34 +154,40 @@ def has_own_reason(functions: set[str], said: str) -> bool:
 
 
 def goal_of(functions: set[str], goals: list[tuple[str, str]]) -> str | None:
-    """Returns the first goal of some functions, if there is one. Paths of methods have their types, not their modules."""
-    return next((goal for path, goal in goals if any(('::' + path).endswith('::' + name) for name in functions)), None)
+    """Returns the first goal of some functions, if there is one. Paths of methods have their types,
+    not their modules."""
+    return next((goal for path, goal in goals
+                 if any(('::' + path).endswith('::' + name) for name in functions)), None)
 
 
 def kind_of(goal: str) -> str:
     """Returns which kind of goal one is."""
-    return next((kind for kind, several in KINDS.items() if any(words in goal for words in several)), OF_CODE)
+    return next((kind for kind, several in KINDS.items()
+                 if any(words in goal for words in several)), OF_CODE)
 
 
 def tried(crate: kit.Crate, one: Round) -> dict[Path, Outcome]:
-    """Tries a round, and alone what it does not refuse. If one edit is no code, the check says nothing of any function."""
+    """Tries a round, and alone what it does not refuse. If one edit is no code, the check says
+    nothing of any function."""
     said = kit.check(crate, one.texts, sorted(set().union(*one.functions.values())))
     if len(one.functions) > 1 and not LINE.search(said):
         return tried_by_halves(crate, list(one.functions))
-    goals, found = goals_in(said), {}
+    goals, found = goals_in(said, lambda path: one.texts.get(path)
+                            or (Path(crate.folder) / path).read_text()), {}
     for edit, names in one.functions.items():
         goal, label = goal_of(names, goals), f'refused in {", ".join(sorted(names))}'
         if goal is not None:
             found[edit] = Outcome(f'{label}: {goal[:160]}', kind_of(goal))
         elif has_own_reason(names, said):
-            found[edit] = Outcome(f'{label}, by {BY_NO_GOAL}', BY_NO_GOAL)
+            found[edit] = Outcome(f'NOT BY A GOAL: {label}', BY_NO_GOAL)
         else:
             found[edit] = tried_alone(crate, edit)
     return found
 
 
 def tried_by_halves(crate: kit.Crate, edits: list[Path]) -> dict[Path, Outcome]:
-    """Tries the two halves of a round, so that an edit that is no code is soon alone. A try alone takes minutes in some crates."""
+    """Tries the two halves of a round, so that an edit that is no code is soon alone. A try alone
+    takes minutes in some crates."""
     found = {}
     for half in (edits[:len(edits) // 2], edits[len(edits) // 2:]):
         for one in rounds_of(crate, half)[0]:
@@ -178,13 +199,17 @@ def tried_alone(crate: kit.Crate, edit: Path) -> Outcome:
     """Tries an edit as `rt must-fail` does, and looks at the reason."""
     is_refused, said = kit.refused_alone(crate, edit)
     goal = OPEN.search(said) or ANSWER.search(said)
-    if is_refused and goal:
+    if not is_refused:
+        return Outcome(said)
+    if goal:
         return Outcome(said, kind_of(goal[goal.re.groups]))
-    return Outcome(said, '' if not is_refused else OF_A_LAW if LAW.search(said) else BY_NO_GOAL)
+    return Outcome(said, OF_A_LAW) if LAW.search(said) else Outcome(f'NOT BY A GOAL: {said}',
+                                                                    BY_NO_GOAL)
 
 
 class Tries:
-    """The tries of a crate's edits. What was refused is kept by a checksum of all that it rests on."""
+    """The tries of a crate's edits. What was refused is kept by a checksum of all that it rests
+    on."""
 
     def __init__(self, crate: kit.Crate, edits: list[Path], is_anew: bool) -> None:
         self.crate, self.is_anew = crate, is_anew
@@ -196,13 +221,15 @@ class Tries:
 
     def outcomes(self, number: int) -> dict[Path, Outcome]:
         """Returns what became of the edits of one check, from an earlier run if it is kept."""
-        edits = list(self.rounds[number].functions) if number < len(self.rounds) else [self.alone[number - len(self.rounds)]]
+        edits = list(self.rounds[number].functions) if number < len(self.rounds) else [
+            self.alone[number - len(self.rounds)]]
         place = self.place(edits)
         if place.exists() and not self.is_anew:
             kept = json.loads(place.read_text())
             return {edit: Outcome(*kept[edit.name]) for edit in edits}
-        found = tried(self.crate, self.rounds[number]) if number < len(self.rounds) else {edit: tried_alone(self.crate, edit) for edit in edits}
-        if all(outcome.is_refused for outcome in found.values()):
+        found = tried(self.crate, self.rounds[number]) if number < len(self.rounds) else {
+            edit: tried_alone(self.crate, edit) for edit in edits}
+        if all(outcome.is_tried for outcome in found.values()):
             keep(place, {edit.name: outcome for edit, outcome in found.items()})
         return found
 
@@ -210,7 +237,8 @@ class Tries:
         """Returns where a refusal of these edits is kept."""
         own = Path(__file__).resolve().parent
         read = [own / name for name in ('edits.py', 'bodies.py', 'kit.py')] + edits
-        made_of = [kit.sum_of(self.crate), *[edit.name for edit in edits], *[file.read_bytes().hex() for file in read]]
+        made_of = [kit.sum_of(self.crate), *[edit.name for edit in edits],
+                   *[file.read_bytes().hex() for file in read]]
         return kept_at() / hashlib.sha256('\n'.join(made_of).encode()).hexdigest()
 
 
@@ -228,7 +256,7 @@ def keep(place: Path, outcomes: dict[str, Outcome]) -> None:
 
 
 def told(crate: kit.Crate, outcomes: dict[Path, Outcome]) -> Counter[str]:
-    """Prints what became of edits. Returns how many each kind of goal refused; those that none did have no kind."""
+    """Prints what became of edits. Returns how many each kind of goal refused."""
     for edit, outcome in outcomes.items():
         label = '' if outcome.said.startswith('must-fail') else f'{crate.name}/{edit.name}: '
         print(f'{label}{outcome.said}'.splitlines()[0], flush=True)
@@ -241,10 +269,16 @@ def told_of_kinds(kinds: Counter[str]) -> str:
     return f'{kinds.total()} edits: {refused or "none refused"}; {kinds[""]} not refused'
 
 
+def failures(kinds: Counter[str]) -> int:
+    """Returns how many edits were not refused, or by no goal."""
+    return kinds[''] + kinds[BY_NO_GOAL]
+
+
 def told_of_others(crate: kit.Crate, others: list[Path]) -> int:
     """Prints the files of must-fail/ that are no edits. Returns how many there are."""
     for other in others:
-        print(f'{crate.name}/{other.name}: no edit. An edit stands right in must-fail/, and its name ends in .edit')
+        print(f'{crate.name}/{other.name}: no edit. An edit stands right in must-fail/, and its '
+              'name ends in .edit')
     return len(others)
 
 
@@ -258,10 +292,10 @@ def main(names: list[str]) -> int:
         with ThreadPoolExecutor(kit.processors()) as pool:
             for outcomes in pool.map(tries.outcomes, range(len(tries))):
                 kinds += told(crate, outcomes)
-    failed = bad + kinds['']
     print(told_of_kinds(kinds))
-    print(f'{kinds.total() - kinds[""]} passed, {failed} failed')
-    return int(failed > 0)
+    failed = failures(kinds)
+    print(f'{kinds.total() - failed} passed, {bad + failed} failed')
+    return int(bad + failed > 0)
 
 
 if __name__ == '__main__':

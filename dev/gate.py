@@ -9,11 +9,12 @@ Three things go on side by side:
 - the tests of that crate by `rt try --test`, which builds it with checks and proves nothing;
 - the edits of each crate (dev/edits.py), once the libraries below it are proved.
 
-Once the programs are proved and the edits are tried, the programs are compared with those in dist/, and the tests run on
-them, side by side. No test has to wait for a processor that an edit takes.
+Once the programs are proved and the edits are tried, the programs are compared with those in dist/,
+and the tests run on them, side by side. No test has to wait for a processor that an edit takes.
 
---anew takes nothing from earlier runs. --alone has `rt ci` try the tree as it is: it proves the crate of tests as
-well, and tries each edit in a check of its own. That takes about twice as long. The last line is 'N passed, M failed'.
+--anew takes nothing from earlier runs. --alone has `rt ci` try the tree as it is: it proves the
+crate of tests as well, and tries each edit in a check of its own. That takes about twice as long.
+The last line is 'N passed, M failed'.
 """
 import argparse
 import contextlib
@@ -34,8 +35,8 @@ import edits
 import kit
 
 TOP = Path(__file__).resolve().parent.parent
-# The crate of tests, whose proofs say only that a test is safe and ends. memory_tests is proved, since
-# tests/faults/memory.py runs what is built of it.
+# The crate of tests, whose proofs say only that a test is safe and ends. memory_tests is proved,
+# since tests/faults/memory.py runs what is built of it.
 TRIED = 'tests'
 # What the tests of tests/ run, by crates.
 BUILT = {'nfs3canon': 'nfs3canon', 'nfs3mask': 'nfs3mask', 'memory_tests': 'memory_tests_tests'}
@@ -53,7 +54,8 @@ SECONDS = 1.0  # how often a task that waits for memory looks again
 
 
 class Count:
-    """How much passed and failed so far, and which kinds of goals refused the edits. It is added to from several threads."""
+    """How much passed and failed so far, and which kinds of goals refused the edits. It is added to
+    from several threads."""
 
     def __init__(self) -> None:
         self.passed = self.failed = 0
@@ -65,8 +67,10 @@ class Count:
             self.passed, self.failed = self.passed + passed, self.failed + failed
 
     def add_edits(self, kinds: Counter[str]) -> None:
-        """Adds edits by the kinds of goals that refused them. Those that none did have no kind, and failed."""
-        self.add(kinds.total() - kinds[''], kinds[''])
+        """Adds edits by the kinds of goals that refused them. Those that were not refused, or by no
+        goal, failed."""
+        failed = edits.failures(kinds)
+        self.add(kinds.total() - failed, failed)
         with self.lock:
             self.kinds.update(kinds)
 
@@ -97,14 +101,16 @@ class Board:
 
 
 class Memory:
-    """The memory that tasks beside the proofs may take: one begins only if there is enough for it."""
+    """The memory that tasks beside the proofs may take: one begins only if there is enough for
+    it."""
 
     def __init__(self) -> None:
         self.lock = threading.Lock()
         self.begun: list[float] = []
 
     def wait(self) -> None:
-        """Waits until there is memory for one check more. One that just began does not have yet what it will take."""
+        """Waits until there is memory for one check more. One that just began does not have yet
+        what it will take."""
         while True:
             with self.lock:
                 now = time.monotonic()
@@ -128,7 +134,8 @@ def timed(name: str) -> Iterator[None]:
 
 
 def not_copied(folder: str, names: list[str]) -> set[str]:
-    """Returns which names of a folder are not copied. A folder below a crate may have the name of the crate of tests."""
+    """Returns which names of a folder are not copied. A folder below a crate may have the name of
+    the crate of tests."""
     return {'must-fail', 'out', *([TRIED] if Path(folder) == TOP / 'crates' else [])} & set(names)
 
 
@@ -138,21 +145,25 @@ def copied(room: Path) -> Path:
     (top / '.git').mkdir(parents=True)
     shutil.copy(TOP / 'HANDLES', top)
     lines = (TOP / 'crates.txt').read_text().splitlines(keepends=True)
-    (top / 'crates.txt').write_text(''.join(line for line in lines if line.split(':')[0].split(' ')[0] != TRIED))
+    (top / 'crates.txt').write_text(''.join(line for line in lines
+                                            if line.split(':')[0].split(' ')[0] != TRIED))
     shutil.copytree(TOP / 'crates', top / 'crates', ignore=not_copied)
     return top
 
 
 def lines_of(words: list[str], folder: Path, environment: dict[str, str]) -> Iterator[str]:
     """Runs a command, and yields the lines of both its outputs."""
-    with subprocess.Popen(words, cwd=folder, env=environment, stdin=subprocess.DEVNULL, stdout=subprocess.PIPE,
+    with subprocess.Popen(words, cwd=folder, env=environment, stdin=subprocess.DEVNULL,
+                          stdout=subprocess.PIPE,
                           stderr=subprocess.STDOUT, text=True, errors='replace') as process:
         assert process.stdout
         yield from process.stdout
 
 
-def counted(words: list[str], folder: Path, count: Count, look: Callable[[str], None] = lambda line: None) -> bool:
-    """Runs a command whose last line counts, prints its lines, and adds the count. Returns whether all passed."""
+def counted(words: list[str], folder: Path, count: Count,
+            look: Callable[[str], None] = lambda line: None) -> bool:
+    """Runs a command whose last line counts, prints its lines, and adds the count. Returns whether
+    all passed."""
     told = None
     for line in lines_of(words, folder, dict(os.environ)):
         print(line, end='', flush=True)
@@ -166,7 +177,8 @@ def counted(words: list[str], folder: Path, count: Count, look: Callable[[str], 
 def tries_of_tests(count: Count, memory: Memory) -> None:
     """Runs the tests of the crate of tests, with checks and no proof."""
     memory.wait()
-    said = ''.join(lines_of(['rt', 'try', TRIED, '--test'], TOP / 'crates' / TRIED, dict(os.environ)))
+    said = ''.join(lines_of(['rt', 'try', TRIED, '--test'], TOP / 'crates' / TRIED,
+                            dict(os.environ)))
     found = TRIED_COUNTS.search(said)
     passed, failed = (int(found[1]), int(found[2])) if found else (0, 1)
     if failed or not passed:
@@ -175,11 +187,13 @@ def tries_of_tests(count: Count, memory: Memory) -> None:
     count.add(passed, failed or int(not passed))
 
 
-def tries_of_edits(tries: edits.Tries, number: int, board: Board, count: Count, memory: Memory) -> None:
+def tries_of_edits(tries: edits.Tries, number: int, board: Board, count: Count,
+                   memory: Memory) -> None:
     """Tries edits of a crate that share a check, once the libraries below are proved."""
     crate = tries.crate
     if not board.has({below.name for below in crate.below()}):
-        print(f'{crate.name}: its edits are not tried, since a library below it is not proved', flush=True)
+        print(f'{crate.name}: its edits are not tried, since a library below it is not proved',
+              flush=True)
         count.add(0, 1)
         return
     memory.wait()
@@ -187,7 +201,8 @@ def tries_of_edits(tries: edits.Tries, number: int, board: Board, count: Count, 
 
 
 def checks_of_edits(top: Path, is_anew: bool, count: Count) -> list[tuple[edits.Tries, int]]:
-    """Returns each check of edits that is to be made over the libraries of a copy, lowest crates first."""
+    """Returns each check of edits that is to be made over the libraries of a copy, lowest crates
+    first."""
     copies = {crate.name: crate for crate in kit.crates(top)}
     found = []
     for crate in kit.crates(TOP):
@@ -200,7 +215,8 @@ def checks_of_edits(top: Path, is_anew: bool, count: Count) -> list[tuple[edits.
 
 
 def proved(top: Path, is_anew: bool, board: Board, count: Count) -> bool:
-    """Has `rt ci` prove the copy, and notes each crate that is proved. Returns whether all passed."""
+    """Has `rt ci` prove the copy, and notes each crate that is proved. Returns whether all
+    passed."""
     def look(line: str) -> None:
         found = PROVED.match(line)
         if found:
@@ -234,7 +250,8 @@ def tests_of(words: tuple[str, ...], count: Count) -> bool:
 
 
 def tested(count: Count) -> bool:
-    """Runs the tests of the built programs side by side, and then those of the tools, which do so themselves."""
+    """Runs the tests of the built programs side by side, and then those of the tools, which do so
+    themselves."""
     scripts = [(f'tests/{room}/{name}.py',) for room, names in TESTS.items() for name in names]
     with timed('the tests of the programs'), ThreadPoolExecutor(kit.processors()) as pool:
         are_well = list(pool.map(lambda words: tests_of(words, count), scripts))
@@ -243,7 +260,8 @@ def tested(count: Count) -> bool:
 
 
 def together(is_anew: bool, count: Count) -> bool:
-    """Proves, and beside it tries the edits and the crate of tests. Then tests the programs. Returns whether all was done."""
+    """Proves, and beside it tries the edits and the crate of tests. Then tests the programs.
+    Returns whether all was done."""
     board, memory = Board(), Memory()
     with tempfile.TemporaryDirectory(prefix='nfs3canon-gate') as room, \
             ThreadPoolExecutor(kit.processors(), initializer=os.nice, initargs=(10,)) as pool:
@@ -270,9 +288,11 @@ def alone(is_anew: bool, count: Count) -> bool:
 
 
 def main() -> int:
-    parser = argparse.ArgumentParser(description=__doc__, formatter_class=argparse.RawDescriptionHelpFormatter)
+    parser = argparse.ArgumentParser(description=__doc__,
+                                     formatter_class=argparse.RawDescriptionHelpFormatter)
     parser.add_argument('--anew', action='store_true', help='take nothing from earlier runs')
-    parser.add_argument('--alone', action='store_true', help='try each edit in a check of its own, as before a release')
+    parser.add_argument('--alone', action='store_true',
+                        help='try each edit in a check of its own, as before a release')
     asked = parser.parse_args()
     count, start = Count(), time.monotonic()
     (alone if asked.alone else together)(asked.anew, count)

@@ -1,4 +1,5 @@
-"""The kit's command `rt` as a module: it knows how a crate is checked. This is the only file that names its parts."""
+"""The kit's command `rt` as a module: it knows how a crate is checked. This is the only file that
+names its parts."""
 import importlib.machinery
 import importlib.util
 import os
@@ -23,7 +24,8 @@ class Crate(Protocol):
 
 
 def loaded() -> Any:
-    """Returns the module. Its own library sets a handler of signals, which only the main thread may."""
+    """Returns the module. Its own library sets a handler of signals, which only the main thread
+    may."""
     path = shutil.which('rt')
     if path is None:
         sys.exit('rt, the Rattle toolchain, is not on the PATH')
@@ -41,12 +43,14 @@ rt = loaded()
 
 def identity() -> str:
     """Returns the kit's line, as `rattle-kit-13f logic dac8208d650f15bf`."""
-    return subprocess.run(['rt', 'version'], stdout=subprocess.PIPE, text=True, check=True).stdout.strip()
+    return subprocess.run(['rt', 'version'], stdout=subprocess.PIPE, text=True,
+                          check=True).stdout.strip()
 
 
 def crates(top: Path) -> list[Crate]:
     """Returns the crates below a folder, each after those that it uses."""
-    found: list[Crate] = sorted(rt.rtlib.crates_below(str(top)), key=lambda crate: len(crate.below()))
+    found: list[Crate] = sorted(rt.rtlib.crates_below(str(top)),
+                                key=lambda crate: len(crate.below()))
     return found
 
 
@@ -63,7 +67,8 @@ def texts_with(edit: Path, crate: Crate) -> tuple[dict[str, str], str]:
 
 
 def check(crate: Crate, texts: Mapping[str, str], functions: Sequence[str]) -> str:
-    """Checks some functions of a copy of a crate that has these texts. Returns what the check printed."""
+    """Checks some functions of a copy of a crate that has these texts. Returns what the check
+    printed."""
     only = [word for name in functions for word in ('--only', name)]
     ran = rt.checked(crate, texts, ['--jobs', '1', *only], None)
     if ran.returncode == -signal.SIGKILL:  # most likely memory was short
@@ -73,7 +78,8 @@ def check(crate: Crate, texts: Mapping[str, str], functions: Sequence[str]) -> s
 
 
 def refused_alone(crate: Crate, edit: Path) -> tuple[bool, str]:
-    """Tries an edit by itself, as `rt must-fail` does. Returns whether the prover refuses it, and what to say."""
+    """Tries an edit by itself, as `rt must-fail` does. Returns whether the prover refuses it, and
+    what to say."""
     verdict, said = rt.must_fail(crate, str(edit), ['--jobs', '1'])
     if isinstance(verdict, bool):  # as kits before rattle-kit-13f have it
         return verdict, said
@@ -81,7 +87,8 @@ def refused_alone(crate: Crate, edit: Path) -> tuple[bool, str]:
 
 
 def sum_of(crate: Crate) -> str:
-    """Returns a checksum of all that a verdict on a crate rests on: the kit, its files, and those of the libraries below."""
+    """Returns a checksum of all that a verdict on a crate rests on: the kit, its files, and those
+    of the libraries below."""
     # kits before rattle-kit-13f have it as a method of the crate
     found: str = rt.stamp_of(crate, {}) if hasattr(rt, 'stamp_of') else getattr(crate, 'stamp')()
     return found

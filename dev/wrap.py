@@ -37,7 +37,8 @@ def words_of(line: str) -> list[Word]:
     words, depth = [], 0
     for text in re.findall(rf"(?:{QUOTED}|\S)+", line):
         bare = re.sub(QUOTED, "", text)
-        depth += sum(bare.count(opened) - bare.count(closed) for opened, closed in ("()", "[]", "{}"))
+        depth += sum(bare.count(opened) - bare.count(closed)
+                     for opened, closed in ("()", "[]", "{}"))
         words.append(Word(text, depth))
     return words
 

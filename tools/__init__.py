@@ -1,1 +1,2 @@
-"""The tools for testers. This folder is a package for its tests alone, which name modules from the top."""
+"""The tools for testers. This folder is a package for its tests alone, which name modules from the
+top."""

@@ -3,17 +3,23 @@
 
     make.py readdir OUT         a READDIR reply of 100,000 entries, and its call
     make.py long OUT            a raw call with the longest body that a record may have
-    make.py mixed MEGABYTES OUT what a file server sees: attributes, names, folders, and data of 32 to 64 KiB
+    make.py mixed MEGABYTES OUT what a file server sees: attributes, names, folders, and data of 32
+    to 64 KiB
     make.py small MEGABYTES OUT GETATTR, LOOKUP and ACCESS alone
     make.py recorded MEGABYTES OUT
-                                calls in the proportions and sizes of a recorded Linux client, with 400 files
-    make.py plain MEGABYTES OUT the same of a short recording without data: 53 handles, connections of 15 calls, and
+                                calls in the proportions and sizes of a recorded Linux client, with
+                                400 files
+    make.py plain MEGABYTES OUT the same of a short recording without data: 53 handles, connections
+    of 15 calls, and
                                 two chunks in each
     make.py interleaved MEGABYTES OUT
-                                the messages of `mixed` in version 2, each a chunk, in the order in which they are sent
-    make.py xids OUT            one connection of 1,000,000 NULL calls with different xids, and their replies
+                                the messages of `mixed` in version 2, each a chunk, in the order in
+                                which they are sent
+    make.py xids OUT            one connection of 1,000,000 NULL calls with different xids, and
+    their replies
 
-All are well formed, and the same at each run. Messages are written as they are made, so memory stays small.
+All are well formed, and the same at each run. Messages are written as they are made, so memory
+stays small.
 """
 import argparse
 import itertools
@@ -25,8 +31,9 @@ from typing import BinaryIO, NamedTuple, TypeVar
 
 sys.path.insert(0, str(pathlib.Path(__file__).resolve().parents[2]))
 from examples.messages import (
-    CLIENT, DIR, NFS, NFSACL, NFS_PROCEDURES, REG, SERVER, UNSTABLE, auth_sys, call, dirop, entries, entry, entryplus, fattr, fh,
-    hyper, ok, opaque, optional, post_op_attr, record, sattr, success, version_1, version_2, wcc, word)
+    CLIENT, DIR, NFS, NFSACL, NFS_PROCEDURES, REG, SERVER, UNSTABLE, auth_sys, call, dirop, entries,
+    entry, entryplus, fattr, fh, hyper, ok, opaque, optional, post_op_attr, record, sattr, success,
+    version_1, version_2, wcc, word)
 
 LONGEST_BODY = 16_777_216
 CALLS = 2_000               # in a connection, if nothing else is said
@@ -40,13 +47,14 @@ COOKIE_VERIFIER = bytes.fromhex('00000000000000c7')
 
 
 T = TypeVar('T')
-# The chunks of a connection, those of the calls and those of the replies, which are made as they are asked for.
+# The chunks of a connection, those of the calls and those of the replies, which are made as they
+# are asked for.
 Sides = tuple[Iterator[bytes], Iterator[bytes]]
 
 
 class Mix(NamedTuple):
-    """What is called: of a hundred calls, how many are of each procedure; and how many files there are. The first of them
-    are folders."""
+    """What is called: of a hundred calls, how many are of each procedure; and how many files there
+    are. The first of them are folders."""
     shares: dict[str, int]
     files: int = 10_000
     folders: int = 100
@@ -56,7 +64,8 @@ class Mix(NamedTuple):
 
 
 class Exchange(NamedTuple):
-    """A call and its reply: the procedure, the number of the file, and how many bytes are read or written."""
+    """A call and its reply: the procedure, the number of the file, and how many bytes are read or
+    written."""
     xid: int
     procedure: str
     file: int
@@ -64,7 +73,8 @@ class Exchange(NamedTuple):
 
 
 def handle(file: int) -> bytes:
-    """A handle of 28 bytes, as servers make them: a file system's number, the file's, and a generation."""
+    """A handle of 28 bytes, as servers make them: a file system's number, the file's, and a
+    generation."""
     return bytes.fromhex('01000701') + bytes(7) + b'\x42' + hyper(file) + hyper(0x5dee1f00)
 
 
@@ -106,11 +116,13 @@ class Server:
             case 'READ':
                 return this + hyper(0) + word(exchange.size)
             case 'WRITE':
-                return this + hyper(0) + word(exchange.size) + word(UNSTABLE) + opaque(self.content(exchange))
+                return this + hyper(0) + word(exchange.size) + word(UNSTABLE) + opaque(
+                    self.content(exchange))
             case 'COMMIT':
                 return this + hyper(0) + word(0)
             case 'READDIRPLUS':
-                return fh(self.handles[exchange.file % self.folders]) + hyper(0) + bytes(8) + word(8 * KIB) + word(32 * KIB)
+                return fh(self.handles[exchange.file % self.folders]) + hyper(0) + bytes(8) + word(
+                    8 * KIB) + word(32 * KIB)
         raise ValueError(exchange.procedure)
 
     def results(self, exchange: Exchange) -> bytes:
@@ -120,7 +132,8 @@ class Server:
             case 'GETATTR':
                 return ok(self.attributes[file])
             case 'LOOKUP':
-                return ok(fh(self.handles[file]), known, post_op_attr(self.attributes[file % self.folders]))
+                return ok(fh(self.handles[file]), known,
+                          post_op_attr(self.attributes[file % self.folders]))
             case 'ACCESS':
                 return ok(known, word(0x1f))
             case 'READ':
@@ -143,24 +156,30 @@ class Server:
         return entries(self.attributes[folder], COOKIE_VERIFIER, items, is_end=False)
 
 
-MIXED = Mix({'GETATTR': 26, 'LOOKUP': 20, 'ACCESS': 20, 'READ': 18, 'WRITE': 9, 'COMMIT': 4, 'READDIRPLUS': 3})
+MIXED = Mix({'GETATTR': 26, 'LOOKUP': 20, 'ACCESS': 20, 'READ': 18, 'WRITE': 9, 'COMMIT': 4,
+             'READDIRPLUS': 3})
 SMALL = Mix({'GETATTR': 40, 'LOOKUP': 35, 'ACCESS': 25})
-RECORDED = Mix({'GETATTR': 54, 'LOOKUP': 26, 'ACCESS': 2, 'READ': 9, 'WRITE': 7, 'COMMIT': 1, 'READDIRPLUS': 1},
+RECORDED = Mix({'GETATTR': 54, 'LOOKUP': 26, 'ACCESS': 2, 'READ': 9, 'WRITE': 7, 'COMMIT': 1,
+                'READDIRPLUS': 1},
                files=400, folders=20, least=4 * KIB, most=12 * KIB)
-PLAIN = Mix({'GETATTR': 12, 'SETATTR': 32, 'LOOKUP': 20, 'ACCESS': 7, 'REMOVE': 25, 'READDIRPLUS': 4},
+PLAIN = Mix({'GETATTR': 12, 'SETATTR': 32, 'LOOKUP': 20, 'ACCESS': 7, 'REMOVE': 25,
+             'READDIRPLUS': 4},
             files=53, folders=5, calls=15)
 
 # About how many bytes a call and its reply have, without data.
-BYTES = {'GETATTR': 260, 'SETATTR': 310, 'LOOKUP': 390, 'ACCESS': 260, 'REMOVE': 330, 'READ': 280, 'WRITE': 310, 'COMMIT': 300, 'READDIRPLUS': 8_000}
+BYTES = {'GETATTR': 260, 'SETATTR': 310, 'LOOKUP': 390, 'ACCESS': 260, 'REMOVE': 330, 'READ': 280,
+         'WRITE': 310, 'COMMIT': 300, 'READDIRPLUS': 8_000}
 
 
 def exchanges(chance: random.Random, mix: Mix, room: int) -> tuple[list[Exchange], int]:
-    """Returns a connection's exchanges, and about how many bytes they have. They end when the room is used up."""
+    """Returns a connection's exchanges, and about how many bytes they have. They end when the room
+    is used up."""
     first_xid = chance.getrandbits(31)
     taken, used = list[Exchange](), 0
     for procedure in chance.choices(list(mix.shares), list(mix.shares.values()), k=mix.calls):
         size = chance.randrange(mix.least, mix.most + 1) if procedure in ('READ', 'WRITE') else 0
-        taken.append(Exchange(first_xid + len(taken), procedure, chance.randrange(mix.folders, mix.files), size))
+        taken.append(Exchange(first_xid + len(taken), procedure,
+                              chance.randrange(mix.folders, mix.files), size))
         used += BYTES[procedure] + size
         if used >= room:
             break
@@ -168,7 +187,8 @@ def exchanges(chance: random.Random, mix: Mix, room: int) -> tuple[list[Exchange
 
 
 def reordered(chance: random.Random, items: Sequence[T]) -> list[T]:
-    """Returns the items, each less than `LATEST` places from its own: a server answers what is done first."""
+    """Returns the items, each less than `LATEST` places from its own: a server answers what is done
+    first."""
     places = [i + chance.uniform(0, LATEST) for i in range(len(items))]
     return [items[i] for i in sorted(range(len(items)), key=places.__getitem__)]
 
@@ -181,9 +201,11 @@ def conversations(mix: Mix, megabytes: int) -> Iterator[Sides]:
     while room > 0:
         taken, used = exchanges(chance, mix, room)
         room -= used
-        calls = (record(call(exchange.xid, NFS, 3, NFS_PROCEDURES.index(exchange.procedure), server.arguments(exchange),
+        calls = (record(call(exchange.xid, NFS, 3, NFS_PROCEDURES.index(exchange.procedure),
+                             server.arguments(exchange),
                              credential=CREDENTIAL)) for exchange in taken)
-        yield calls, (record(success(exchange.xid, server.results(exchange))) for exchange in reordered(chance, taken))
+        yield calls, (record(success(exchange.xid, server.results(exchange)))
+                      for exchange in reordered(chance, taken))
 
 
 def write_connections(out: BinaryIO, mix: Mix, megabytes: int) -> None:
@@ -192,7 +214,8 @@ def write_connections(out: BinaryIO, mix: Mix, megabytes: int) -> None:
 
 def write_streams(out: BinaryIO, mix: Mix, megabytes: int) -> None:
     """Writes each stream as one chunk."""
-    out.writelines(version_1((joined(calls), joined(replies)) for calls, replies in conversations(mix, megabytes)))
+    out.writelines(version_1((joined(calls), joined(replies))
+                             for calls, replies in conversations(mix, megabytes)))
 
 
 def joined(chunks: Iterable[bytes]) -> list[bytes]:
@@ -226,9 +249,11 @@ def write_long(out: BinaryIO) -> None:
 
 
 def write_xids(out: BinaryIO) -> None:
-    """Writes one connection of 1,000,000 NULL calls with different xids, and their replies in the other order."""
+    """Writes one connection of 1,000,000 NULL calls with different xids, and their replies in the
+    other order."""
     xids = range(1_000_000)
-    out.writelines(version_1([((record(call(xid, NFS, 3, 0)) for xid in xids), (record(success(xid)) for xid in reversed(xids)))]))
+    out.writelines(version_1([((record(call(xid, NFS, 3, 0)) for xid in xids),
+                               (record(success(xid)) for xid in reversed(xids)))]))
 
 
 def megabytes(text: str) -> int:
@@ -239,14 +264,17 @@ def megabytes(text: str) -> int:
 
 
 # What writes each kind of capture. Those of so many megabytes are by themselves.
-WHOLE: dict[str, Callable[[BinaryIO], None]] = {'readdir': write_readdir, 'long': write_long, 'xids': write_xids}
+WHOLE: dict[str, Callable[[BinaryIO], None]] = {'readdir': write_readdir, 'long': write_long,
+                                                'xids': write_xids}
 SIZED: dict[str, tuple[Callable[[BinaryIO, Mix, int], None], Mix]] = {
-    'mixed': (write_connections, MIXED), 'small': (write_connections, SMALL), 'recorded': (write_connections, RECORDED),
+    'mixed': (write_connections, MIXED), 'small': (write_connections, SMALL),
+    'recorded': (write_connections, RECORDED),
     'plain': (write_streams, PLAIN), 'interleaved': (write_interleaved, MIXED)}
 
 
 def main() -> None:
-    parser = argparse.ArgumentParser(description=__doc__, formatter_class=argparse.RawDescriptionHelpFormatter)
+    parser = argparse.ArgumentParser(description=__doc__,
+                                     formatter_class=argparse.RawDescriptionHelpFormatter)
     kinds = parser.add_subparsers(dest='kind', required=True)
     for kind in (*WHOLE, *SIZED):
         arguments = kinds.add_parser(kind)

@@ -3,8 +3,8 @@
 
     run.py PROGRAM FILE..
 
-The seconds are those of the fastest run, from its start to its end; the memory is the most that was resident in any run,
-as GNU time tells it.
+The seconds are those of the fastest run, from its start to its end; the memory is the most that was
+resident in any run, as GNU time tells it.
 """
 import argparse
 import pathlib
@@ -34,9 +34,11 @@ def run(program: str, file: str) -> Measured:
     with tempfile.NamedTemporaryFile('r') as kilobytes:
         timed = [GNU_TIME, '--quiet', '--format=%M', '--output', kilobytes.name]
         begin = time.perf_counter()
-        done = ended([program, 'check', file], '.', before=timed, stderr=subprocess.STDOUT, limit=None)
+        done = ended([program, 'check', file], '.', before=timed, stderr=subprocess.STDOUT,
+                     limit=None)
         seconds = time.perf_counter() - begin
-        return Measured(seconds, int(kilobytes.read()) * 1_024, done.out.decode().strip(), done.status)
+        return Measured(seconds, int(kilobytes.read()) * 1_024, done.out.decode().strip(),
+                        done.status)
 
 
 def measure(program: str, file: str, runs: int) -> None:
@@ -54,14 +56,16 @@ def measure(program: str, file: str, runs: int) -> None:
 
 
 def main() -> None:
-    parser = argparse.ArgumentParser(description=__doc__, formatter_class=argparse.RawDescriptionHelpFormatter)
+    parser = argparse.ArgumentParser(description=__doc__,
+                                     formatter_class=argparse.RawDescriptionHelpFormatter)
     parser.add_argument('program')
     parser.add_argument('files', nargs='+', metavar='file')
     parser.add_argument('--runs', type=int, default=3)
     chosen = parser.parse_args()
     if not pathlib.Path(GNU_TIME).exists():
         sys.exit(f'GNU time is needed, as {GNU_TIME}')
-    print('| File | Bytes | Best seconds | MB/s | Memory, MB | Answer | Status |\n|---|--:|--:|--:|--:|---|--:|')
+    print('| File | Bytes | Best seconds | MB/s | Memory, MB | Answer | Status '
+          '|\n|---|--:|--:|--:|--:|---|--:|')
     for file in chosen.files:
         measure(chosen.program, file, chosen.runs)
 

@@ -1,11 +1,13 @@
 #!/usr/bin/env python3
-"""Files that become others between two looks of the built programs at them: each file is compared again once it is open.
+"""Files that become others between two looks of the built programs at them: each file is compared
+again once it is open.
 
     python3 tests/faults/exchanged.py [PROGRAM] [--only TEXT] [-v]
 
-PROGRAM is crates/nfs3canon/out/nfs3canon if none is named. The programs run traced (tracing.py), and the files are exchanged just before
-one of their calls; that takes Linux on x86-64, and elsewhere all is skipped, with a word. The last line is 'N passed, M failed', and the
-status is 1 if any failed.
+PROGRAM is crates/nfs3canon/out/nfs3canon if none is named. The programs run traced (tracing.py),
+and the files are exchanged just before one of their calls; that takes Linux on x86-64, and
+elsewhere all is skipped, with a word. The last line is 'N passed, M failed', and the status is 1 if
+any failed.
 """
 import concurrent.futures
 import ctypes
@@ -27,21 +29,26 @@ TEXT = b'of somebody else'
 GOOD = (pathlib.Path(__file__).resolve().parents[2] / 'examples/getattr.nfs3cap').read_bytes()
 End = tuple[int, str, str]  # the status and both outputs
 NAMES_AN_INPUT, WRITE_FAILED = (4, '', 'output names an input\n'), (3, '', 'write failed\n')
-OWN_MOUNTS, PRIVATE = 0x20000, 0x44000  # flags of unshare(2) and mount(2): a process with mounts that no other sees
+# flags of unshare(2) and mount(2): a process with mounts that no other sees
+OWN_MOUNTS, PRIVATE = 0x20000, 0x44000
 
 
 class Place(Runs):
-    """A folder with a capture `a`, streams `s` and `t`, other files, and traced runs of a program there."""
+    """A folder with a capture `a`, streams `s` and `t`, other files, and traced runs of a program
+    there."""
 
     def begin_again(self) -> None:
         for name in self.names():
             path = self.path(name)
             shutil.rmtree(path) if os.path.isdir(path) else os.remove(path)
-        for name, content in (('a', GOOD), ('s', b''), ('t', b''), ('out', AS_IT_WAS), ('other', GOOD), ('text', TEXT)):
+        for name, content in (('a', GOOD), ('s', b''), ('t', b''), ('out', AS_IT_WAS),
+                              ('other', GOOD), ('text', TEXT)):
             self.write(name, content)
 
-    def trace(self, line: str, fault: Fault, stdout: IO[bytes] | None = None, prepare: Callable[[], object] | None = None) -> Answer:
-        return tracing.run(*command_of(self.program, line.split()), self.folder, fault, stdout=stdout, prepare=prepare)
+    def trace(self, line: str, fault: Fault, stdout: IO[bytes] | None = None,
+              prepare: Callable[[], object] | None = None) -> Answer:
+        return tracing.run(*command_of(self.program, line.split()), self.folder, fault,
+                           stdout=stdout, prepare=prepare)
 
     def linked(self, name: str, to: str) -> Callable[[], None]:
         """Gives a name to another file, which keeps its own."""
@@ -58,13 +65,15 @@ class Place(Runs):
         """It is refused, and no file is changed or left behind."""
         found = answer.status, answer.out, answer.error
         self.want(what, found in refusals or found, True)
-        self.want(what + ': inputs and others', [self.read(name) for name in ('a', 'other', 'text')], [GOOD, GOOD, TEXT])
+        self.want(what + ': inputs and others',
+                  [self.read(name) for name in ('a', 'other', 'text')], [GOOD, GOOD, TEXT])
         self.want(what + ': parts', [name for name in self.names() if PART.fullmatch(name)], [])
 
     def want_replaced(self, what: str, answer: Answer, old: str, new: str, mode: int) -> None:
         """A file that has another name, too, stays there as it is. The new one has its rights."""
         self.want(what, (answer.status, answer.error), (0, ''))
-        self.want(what + ': the old file', (self.read(old), os.path.samefile(self.path(old), self.path(new))), (GOOD, False))
+        self.want(what + ': the old file',
+                  (self.read(old), os.path.samefile(self.path(old), self.path(new))), (GOOD, False))
         self.want(what + ': rights', os.stat(self.path(new)).st_mode & 0o777, mode)
 
 
@@ -75,14 +84,16 @@ def unopened(name: str) -> End:
 # --- Inputs ---
 
 def streams_that_become_the_output(place: Place) -> None:
-    """A stream that is the output when it is opened is refused, also if it is the file that is not whole yet."""
+    """A stream that is the output when it is opened is refused, also if it is the file that is not
+    whole yet."""
     for stream in ('s', 't'):
         for output, name in (('out', 'out'), ('out', 'part'), ('new', 'part')):
             place.begin_again()
 
             def exchange() -> None:
                 place.linked(place.part() if name == 'part' else name, stream)()
-            answer = place.trace(f'pack {output} s t', Fault('open', 1, before=exchange, name=stream))
+            answer = place.trace(f'pack {output} s t',
+                                 Fault('open', 1, before=exchange, name=stream))
             place.want_refused(f'pack {output}, with {name} as {stream}', answer, NAMES_AN_INPUT)
             place.want('out', place.read('out'), AS_IT_WAS)
 
@@ -90,7 +101,9 @@ def streams_that_become_the_output(place: Place) -> None:
 def streams_that_become_standard_output(place: Place) -> None:
     place.begin_again()
     with open(place.path('out'), 'ab') as out:
-        answer = place.trace('pack /dev/stdout a s', Fault('open', 1, before=place.linked('out', 's'), name='s'), stdout=out)
+        answer = place.trace('pack /dev/stdout a s',
+                             Fault('open', 1, before=place.linked('out', 's'), name='s'),
+                             stdout=out)
     place.want('pack', (answer.status, answer.error), NAMES_AN_INPUT[::2])
 
 
@@ -104,7 +117,8 @@ def pipes_that_become_files(place: Place) -> None:
             for name in ('pipe', 'pipe 2'):
                 os.mkfifo(place.path(name))
             reader = os.open(place.path('pipe 2'), os.O_RDONLY | os.O_NONBLOCK)
-            answer = place.trace(line, Fault('open', 1, before=place.linked(other, 'pipe'), name='pipe'))
+            answer = place.trace(line, Fault('open', 1, before=place.linked(other, 'pipe'),
+                                             name='pipe'))
             place.want_refused(f'{line}, which becomes {other}', answer, unopened('pipe'))
             place.want('what came through', os.read(reader, 1), b'')
             os.close(reader)
@@ -115,18 +129,22 @@ def standard_output_that_loses_its_name(place: Place) -> None:
     for line in ('canon a out', 'nfs3mask a out', 'pack out a a'):
         place.begin_again()
         with open(place.path('out'), 'ab') as out:
-            answer = place.trace(line, Fault('open', 1, before=place.linked('text', 'out'), name='out'), stdout=out)
+            answer = place.trace(line, Fault('open', 1, before=place.linked('text', 'out'),
+                                             name='out'), stdout=out)
         place.want_refused(line, answer, unopened('out'))
 
 
 def pipes_that_become_files_of_their_number(place: Place) -> None:
     """A file of another device is another file, also if both have one number there."""
     def mount_both() -> None:
-        wanted = [tracing.LIBC.unshare(OWN_MOUNTS), tracing.LIBC.mount(b'none', b'/', None, ctypes.c_ulong(PRIVATE), None)]
-        wanted += [tracing.LIBC.mount(b'none', place.path(name).encode(), b'tmpfs', ctypes.c_ulong(0), None) for name in ('one', 'two')]
+        wanted = [tracing.LIBC.unshare(OWN_MOUNTS),
+                  tracing.LIBC.mount(b'none', b'/', None, ctypes.c_ulong(PRIVATE), None)]
+        wanted += [tracing.LIBC.mount(b'none', place.path(name).encode(), b'tmpfs',
+                                      ctypes.c_ulong(0), None) for name in ('one', 'two')]
         os.mkfifo(place.path('one/file'))
         place.write('two/file', AS_IT_WAS)
-        if any(wanted) or os.stat(place.path('one/file')).st_ino != os.stat(place.path('two/file')).st_ino:
+        if any(wanted) or os.stat(place.path('one/file')).st_ino != os.stat(
+            place.path('two/file')).st_ino:
             raise OSError('nothing is mounted')
 
     def exchange() -> None:
@@ -138,9 +156,11 @@ def pipes_that_become_files_of_their_number(place: Place) -> None:
             os.mkdir(place.path(name))
         os.symlink('one/file', place.path('link'))
         try:
-            answer = place.trace(line, Fault('open', 1, before=exchange, name='link'), prepare=mount_both)
+            answer = place.trace(line, Fault('open', 1, before=exchange, name='link'),
+                                 prepare=mount_both)
         except subprocess.SubprocessError:
-            print('left out, since nothing can be mounted here: pipes that become files of their number')
+            print('left out, since nothing can be mounted here: pipes that become files of their '
+                  'number')
             return
         place.want_refused(line, answer, unopened('link'))
 
@@ -148,13 +168,16 @@ def pipes_that_become_files_of_their_number(place: Place) -> None:
 # --- Outputs that are replaced ---
 
 def outputs_that_become_others(place: Place) -> None:
-    """An output that was exchanged when it is opened is looked at again: it may be an input, read-only, or replaced."""
+    """An output that was exchanged when it is opened is looked at again: it may be an input,
+    read-only, or replaced."""
     for line in ('canon a out', 'nfs3mask a out', 'pack out a s'):
-        for name, mode, refusals in (('a', 0o644, [unopened('out'), NAMES_AN_INPUT]), ('other', 0o444, [unopened('out')]),
+        for name, mode, refusals in (('a', 0o644, [unopened('out'), NAMES_AN_INPUT]),
+                                     ('other', 0o444, [unopened('out')]),
                                      ('other', 0o600, list[End]())):
             place.begin_again()
             os.chmod(place.path(name), mode)
-            answer = place.trace(line, Fault('open', 1, before=place.linked(name, 'out'), name='out'))
+            answer = place.trace(line, Fault('open', 1, before=place.linked(name, 'out'),
+                                             name='out'))
             what = f'{line}, which becomes {name} with mode {mode:o}'
             if refusals:
                 place.want_refused(what, answer, *refusals)
@@ -167,38 +190,48 @@ def new_names_that_are_taken(place: Place) -> None:
     for line in ('canon a new', 'nfs3mask a new', 'pack new a s'):
         for name, refusal in (('a', NAMES_AN_INPUT), ('text', None)):
             place.begin_again()
-            answer = place.trace(line, Fault('stat', 2, before=place.linked(name, 'new'), name='new'))
+            answer = place.trace(line, Fault('stat', 2, before=place.linked(name, 'new'),
+                                             name='new'))
             if refusal:
                 place.want_refused(f'{line}, which becomes {name}', answer, refusal)
             else:
                 place.want(line, (answer.status, answer.error, place.read('text')), (0, '', TEXT))
         place.begin_again()
-        answer = place.trace(line, Fault('stat', 2, before=lambda: os.symlink('absent', place.path('new')), name='new'))
+        answer = place.trace(line,
+                             Fault('stat', 2,
+                                   before=lambda: os.symlink('absent', place.path('new')),
+                                   name='new'))
         place.want_refused(f'{line}, which becomes a link to nothing', answer, unopened('new'))
 
 
 def names_that_are_taken_twice(place: Place) -> None:
-    """A capture that has got the name of the whole output is replaced. It is looked at again once it is open: what has got the name then
-    may be an input, read-only or no capture, and stays."""
-    for line, output in (('canon a out', 'out'), ('canon a new', 'new'), ('nfs3mask a out', 'out'), ('pack out a s', 'out'),
+    """A capture that has got the name of the whole output is replaced. It is looked at again once
+    it is open: what has got the name then may be an input, read-only or no capture, and stays."""
+    for line, output in (('canon a out', 'out'), ('canon a new', 'new'), ('nfs3mask a out', 'out'),
+                         ('pack out a s', 'out'),
                          ('pack new a s', 'new')):
-        for name, mode, refusal in (('a', 0o644, WRITE_FAILED), ('third', 0o444, WRITE_FAILED), ('text', 0o644, WRITE_FAILED),
+        for name, mode, refusal in (('a', 0o644, WRITE_FAILED), ('third', 0o444, WRITE_FAILED),
+                                    ('text', 0o644, WRITE_FAILED),
                                     ('third', 0o600, None)):
             place.begin_again()
             place.write('third', GOOD)
             os.chmod(place.path(name), mode)
             again = Fault('open', 1, before=place.linked(name, output), name=output)
-            answer = place.trace(line, Fault('sync', 1, before=place.linked('other', output), then=again))
+            answer = place.trace(line, Fault('sync', 1, before=place.linked('other', output),
+                                             then=again))
             what = f'{line}, which becomes {name} with mode {mode:o}'
             if refusal:
                 place.want_refused(what, answer, refusal)
-                place.want(what + ': stays', os.path.samefile(place.path(output), place.path(name)), True)
+                place.want(what + ': stays', os.path.samefile(place.path(output), place.path(name)),
+                           True)
             else:
                 place.want_replaced(what, answer, name, output, mode)
 
 
-TESTS = [streams_that_become_the_output, streams_that_become_standard_output, pipes_that_become_files, standard_output_that_loses_its_name,
-         pipes_that_become_files_of_their_number, outputs_that_become_others, new_names_that_are_taken, names_that_are_taken_twice]
+TESTS = [streams_that_become_the_output, streams_that_become_standard_output,
+         pipes_that_become_files, standard_output_that_loses_its_name,
+         pipes_that_become_files_of_their_number, outputs_that_become_others,
+         new_names_that_are_taken, names_that_are_taken_twice]
 
 
 if __name__ == '__main__':

@@ -1,11 +1,12 @@
 #!/usr/bin/env python3
-"""Refuses each growth of memory of the built program in turn, makes each call of the system fail, and counts the reads and writes.
+"""Refuses each growth of memory of the built program in turn, makes each call of the system fail,
+and counts the reads and writes.
 
     python3 tests/faults/failures.py [PROGRAM] [--only TEXT] [-v]
 
-PROGRAM is crates/nfs3canon/out/nfs3canon if none is named. Each try has a folder of its own, in which the program runs
-traced (tracing.py); that takes Linux on x86-64, and elsewhere all is skipped, with a word. The last line is
-'N passed, M failed', and the status is 1 if any failed.
+PROGRAM is crates/nfs3canon/out/nfs3canon if none is named. Each try has a folder of its own, in
+which the program runs traced (tracing.py); that takes Linux on x86-64, and elsewhere all is
+skipped, with a word. The last line is 'N passed, M failed', and the status is 1 if any failed.
 """
 import concurrent.futures
 import errno
@@ -35,35 +36,41 @@ BLOCK = 65_536
 GROWTHS_OF_THE_LINE = 6
 # The first calls for random bytes of a run: three hashers for each of two captures.
 OF_HASHERS = 6
-COMMANDS = ['check a', 'show a', 'canon a out', 'canon a /dev/stdout', 'same a a', 'pack out a a', 'pack /dev/stdout a a',
-            'nfs3mask a out', 'nfs3mask a /dev/stdout owners=number']
+COMMANDS = ['check a', 'show a', 'canon a out', 'canon a /dev/stdout', 'same a a', 'pack out a a',
+            'pack /dev/stdout a a', 'nfs3mask a out', 'nfs3mask a /dev/stdout owners=number']
 OTHER_LINES = ['check absent', 'same a absent', 'canon a ./a', 'canon a new', 'pack new a a',
-               'pack out a', 'check', 'shou a', '--help', 'nfs3mask a new', 'nfs3mask a ./a', 'nfs3mask a out times', 'nfs3mask a']
+               'pack out a', 'check', 'shou a', '--help', 'nfs3mask a new', 'nfs3mask a ./a',
+               'nfs3mask a out times', 'nfs3mask a']
 # The commands that read one capture and write another.
 REWRITING = ('canon', 'nfs3mask')
 # Examples, and how many bytes of each the system gives at once if reads are to fail.
-GIVEN_AT_ONCE = {'getattr': 3, 'two_connections': 7, 'bad_bool': 1, 'bad_server_record': 5, 'bad_file_length': 9,
+GIVEN_AT_ONCE = {'getattr': 3, 'two_connections': 7, 'bad_bool': 1, 'bad_server_record': 5,
+                 'bad_file_length': 9,
                  'every_procedure': 997, 'interleaved': 101}
 WRITTEN_AT_ONCE = 499
 # What `same` says of a file, by the number under which it is open.
 OF_FILE: dict[int | None, str] = {3: 'first: ', 4: 'second: '}
 # The calls of the system that each fail once for each kind of output, and how.
 LOOKING = (errno.ENOMEM, errno.EIO, errno.EACCES)
-FAILING = {'stat': (*LOOKING, errno.ENOENT), 'open': LOOKING, 'readlink': LOOKING, 'link': (errno.EIO, errno.EPERM, errno.EEXIST),
-           'rename': (errno.EIO,), 'unlink': (errno.EIO,), 'mode': (errno.EPERM,), 'owner': (errno.EPERM,), 'sync': (errno.EIO,),
+FAILING = {'stat': (*LOOKING, errno.ENOENT), 'open': LOOKING, 'readlink': LOOKING,
+           'link': (errno.EIO, errno.EPERM, errno.EEXIST),
+           'rename': (errno.EIO,), 'unlink': (errno.EIO,), 'mode': (errno.EPERM,),
+           'owner': (errno.EPERM,), 'sync': (errno.EIO,),
            'random': (errno.EAGAIN,)}
 MIXED = messages.interleaved(messages.in_turn([call(1, NFS, 3, 0)], [success(1)]))
 
 
 class Place(Runs):
-    """A folder with a capture `a`, and traced runs of the program there. `out` is there before each, as it was."""
+    """A folder with a capture `a`, and traced runs of the program there. `out` is there before
+    each, as it was."""
     capture = b''
 
     def put(self, capture: bytes) -> None:
         self.capture = capture
         self.write('a', capture)
 
-    def fail(self, line: str, fault: Fault | None = None, pieces: Mapping[str, int] | None = None) -> Answer:
+    def fail(self, line: str, fault: Fault | None = None,
+             pieces: Mapping[str, int] | None = None) -> Answer:
         """What a traced run ended with, in which the fault happens."""
         self.write('out', AS_IT_WAS)
         if os.path.exists(self.path('new')):
@@ -105,9 +112,12 @@ def drawn_mixed(seed: int) -> bytes:
 
 
 def of_long_lines() -> bytes:
-    """A capture whose lines have more than a megabyte of text, or data and a string of many bytes."""
-    entries = messages.entries(None, bytes(8), (messages.entry(number, b'name', number) for number in range(26_000)), True)
-    calls = [call(1, NFS, 3, 16, messages.fh(b'd') + bytes(20)), call(2, NFS, 3, 3, messages.dirop(b'd', b'"' * 20_000)),
+    """A capture whose lines have more than a megabyte of text, or data and a string of many
+    bytes."""
+    entries = messages.entries(None, bytes(8), (messages.entry(number, b'name', number)
+                                                for number in range(26_000)), True)
+    calls = [call(1, NFS, 3, 16, messages.fh(b'd') + bytes(20)),
+             call(2, NFS, 3, 3, messages.dirop(b'd', b'"' * 20_000)),
              call(3, NFSACL, 3, 1, bytes(20_000))]
     return messages.capture((calls, [success(1, messages.ok(entries))]))
 
@@ -115,7 +125,8 @@ def of_long_lines() -> bytes:
 # --- Memory ---
 
 def growths(line: str, capture: bytes, place: Place) -> None:
-    """If one growth is refused the program ends as if there were memory, since it can do without it, or memory ran out."""
+    """If one growth is refused the program ends as if there were memory, since it can do without
+    it, or memory ran out."""
     place.put(capture)
     plain = place.fail(line, Fault('growth', 0))
     written, last = place.files(), plain.counts['growth']
@@ -130,19 +141,25 @@ def growths(line: str, capture: bytes, place: Place) -> None:
             harmless += 1
         else:
             ran_out(place, what, answer, plain, last - number < GROWTHS_OF_THE_LINE, written)
-    place.want('growths without which %s ends alike' % line, harmless <= 1 or line not in COMMANDS, True)
+    place.want('growths without which %s ends alike' % line, harmless <= 1 or line not in COMMANDS,
+               True)
     if line == 'same a a':
-        place.want('captures for which memory ran out', {'first: ' + OUT_OF_MEMORY, 'second: ' + OUT_OF_MEMORY} <= told, True)
+        place.want('captures for which memory ran out',
+                   {'first: ' + OUT_OF_MEMORY, 'second: ' + OUT_OF_MEMORY} <= told, True)
 
 
-def ran_out(place: Place, what: str, answer: Answer, plain: Answer, is_of_the_line: bool, written: dict[str, bytes | None]) -> None:
-    """Memory ran out, what was listed or written before is a front, and no file is left half written."""
+def ran_out(place: Place, what: str, answer: Answer, plain: Answer, is_of_the_line: bool,
+            written: dict[str, bytes | None]) -> None:
+    """Memory ran out, what was listed or written before is a front, and no file is left half
+    written."""
     place.want(what, answer.status, 3)
     prefixes = ('first: ', 'second: ') if what.startswith('same') else ()
     lines = [prefix + OUT_OF_MEMORY for prefix in ('', *prefixes)] + [''] * is_of_the_line
     place.want(what, answer.error if answer.error not in lines else lines[0], lines[0])
-    place.want(what + ': a front', answer.out, plain.out[:len(answer.out)] if is_streamed(what) else '')
-    place.want(what + ': files', place.files() == (place.as_before() if answer.error else written), True)
+    place.want(what + ': a front', answer.out, plain.out[:len(answer.out)] if is_streamed(what)
+               else '')
+    place.want(what + ': files', place.files() == (place.as_before() if answer.error else written),
+               True)
 
 
 def is_streamed(line: str) -> bool:
@@ -208,13 +225,15 @@ def writes(line: str, capture: bytes, place: Place) -> None:
     written = place.files()
     for number in range(1, plain.counts['write'] + 1):
         what = '%s with write %d ' % (line, number)
-        for way, fault in (('failed', Fault('write', number)), ('on a full disk', Fault('write', number, errno.ENOSPC)),
+        for way, fault in (('failed', Fault('write', number)),
+                           ('on a full disk', Fault('write', number, errno.ENOSPC)),
                            ('of nothing', Fault('write', number, takes=0))):
             answer = place.fail(line, fault, pieces)
             place.want_end(what + way, answer, 3, plain.out[:len(answer.out)], WRITE_FAILED)
             place.want(what + way + ': no write after it', answer.counts['write'], number)
             is_of_the_line = answer.file == 1 and not is_streamed(line)
-            place.want(what + way + ': files', place.files() == (written if is_of_the_line else place.as_before()), True)
+            place.want(what + way + ': files',
+                       place.files() == (written if is_of_the_line else place.as_before()), True)
         answer = place.fail(line, Fault('write', number, takes=1), pieces)
         place.want_end(what + 'of a byte', answer, *printed(plain))
         place.want(what + 'of a byte: files', place.files() == written, True)
@@ -230,10 +249,12 @@ def syncs(line: str, place: Place) -> None:
 
 
 def randoms(line: str, place: Place) -> None:
-    """If the system gives no random bytes, nothing is read, listed or written. `pack` has no tables, and needs none for hashers."""
+    """If the system gives no random bytes, nothing is read, listed or written. `pack` has no
+    tables, and needs none for hashers."""
     place.put(example('getattr'))
     plain = place.fail(line)
-    written, last, prefix = place.files(), plain.counts['random'], 'first: ' if line.startswith('same') else ''
+    written, last, prefix = place.files(), plain.counts['random'], 'first: ' if line.startswith(
+        'same') else ''
     place.want('calls of ' + line, last > 0, True)
     for number in range(1, last + 1):
         answer = place.fail(line, Fault('random', number))
@@ -252,20 +273,23 @@ def unopened_names(line: str, told: str, place: Place) -> None:
     place.put(example('getattr'))
     last = place.fail(line, Fault('growth', 0)).counts['growth']
     errors = [place.fail(line, Fault('growth', number)).error for number in range(1, last + 1)]
-    place.want('growths of %s of which the file is told' % line, errors.count(told + OUT_OF_MEMORY), 1)
+    place.want('growths of %s of which the file is told' % line, errors.count(told + OUT_OF_MEMORY),
+               1)
 
 
 # --- Outputs ---
 
 class Seen(NamedTuple):
-    """A run, what the folder has after it, and what came through a pipe, a fifo or standard output."""
+    """A run, what the folder has after it, and what came through a pipe, a fifo or standard
+    output."""
     answer: Answer
     found: Found
     through: bytes
 
 
 def calls(setting: Setting, place: Place) -> None:
-    """If one call of the system fails, the inputs are as they were, and what has the name of the output is old or whole."""
+    """If one call of the system fails, the inputs are as they were, and what has the name of the
+    output is old or whole."""
     if not outputs.is_possible(setting):
         print('left out, since root alone makes devices: ' + setting.line)
         return
@@ -274,15 +298,18 @@ def calls(setting: Setting, place: Place) -> None:
     before = outputs.found_in(place.folder)
     plain = seen(place, setting)
     is_told = plain.answer.error.startswith('ok ') or plain.answer.out.startswith('ok ')
-    place.want(setting.line, (plain.answer.status, is_told), (setting.status, setting.status == 0 and setting.line.startswith(REWRITING)))
+    place.want(setting.line, (plain.answer.status, is_told),
+               (setting.status, setting.status == 0 and setting.line.startswith(REWRITING)))
     whole = PACKED if setting.line.startswith('pack') else form_of(place, setting, capture)
     place.want('what was written', written(setting, plain), expected(setting, whole))
     for kind, errors in FAILING.items():
         last = plain.answer.counts[kind]
         for number, error in itertools.product(range(1, last + 1), errors):
             outputs.make(place.folder, setting, capture)
-            what = '%s with %s %d of %d failed by %s' % (setting.line, kind, number, last, errno.errorcode[error])
-            old_or_whole(place, what, setting, seen(place, setting, Fault(kind, number, error)), plain, before)
+            what = '%s with %s %d of %d failed by %s' % (setting.line, kind, number, last,
+                                                         errno.errorcode[error])
+            old_or_whole(place, what, setting, seen(place, setting, Fault(kind, number, error)),
+                         plain, before)
 
 
 def seen(place: Place, setting: Setting, fault: Fault | None = None) -> Seen:
@@ -319,8 +346,10 @@ def expected(setting: Setting, whole: bytes | None) -> bytes | None:
     return AS_IT_WAS + (whole or b'') if setting.stdout == 'out' else whole
 
 
-def old_or_whole(place: Place, what: str, setting: Setting, run: Seen, plain: Seen, before: Found) -> None:
-    """A run ended as without a fault, or it was told that a file could not be opened, read or written, and nothing is changed."""
+def old_or_whole(place: Place, what: str, setting: Setting, run: Seen, plain: Seen,
+                 before: Found) -> None:
+    """A run ended as without a fault, or it was told that a file could not be opened, read or
+    written, and nothing is changed."""
     answer, found = run.answer, outputs.without_parts(run.found)
     if printed(answer) == printed(plain.answer):
         place.want(what + ': files', found, plain.found)
@@ -328,7 +357,8 @@ def old_or_whole(place: Place, what: str, setting: Setting, run: Seen, plain: Se
     else:
         names = {'open failed: %s\n' % word for word in setting.line.split()[1:]}
         place.want(what, (answer.status, answer.out), (3, ''))
-        place.want(what + ': ' + answer.error.strip(), answer.error in {READ_FAILED, WRITE_FAILED, *names}, True)
+        place.want(what + ': ' + answer.error.strip(),
+                   answer.error in {READ_FAILED, WRITE_FAILED, *names}, True)
         place.want(what + ': files', without_front(found, setting, before, plain.found), before)
         place.want(what + ': a front', plain.through.startswith(run.through), True)
     if ' unlink ' not in what:
@@ -362,30 +392,36 @@ def number_of_reads(make: Callable[[bytes], bytes], place: Place) -> None:
     for size in (100, BLOCK - 1, BLOCK, BLOCK + 1, 5 * BLOCK, 1_000_000):
         most = -(-size // BLOCK) + 1
         place.put(of_size(size))
-        for line, files in (('check a', 1), ('show a', 1), ('canon a new', 1), ('nfs3mask a new', 1), ('same a a', 2), ('pack new a a', 2)):
+        for line, files in (('check a', 1), ('show a', 1), ('canon a new', 1),
+                            ('nfs3mask a new', 1), ('same a a', 2), ('pack new a a', 2)):
             answer = place.fail(line)
-            place.want('%s of %d bytes' % (line, size), (answer.status, answer.counts['read']), (0, files * most))
+            place.want('%s of %d bytes' % (line, size), (answer.status, answer.counts['read']),
+                       (0, files * most))
         place.put(of_size(size) + bytes(3 * BLOCK))
         for line in ('check a', 'show a', 'canon a out', 'nfs3mask a out'):
             answer = place.fail(line)
-            place.want_end(line, answer, 2, answer.out if line == 'show a' else '', 'file %d: AfterEnd\n' % size)
+            place.want_end(line, answer, 2, answer.out if line == 'show a' else '',
+                           'file %d: AfterEnd\n' % size)
             place.want('%s, refused at %d' % (line, size), answer.counts['read'], size // BLOCK + 1)
-    for line in ('check /dev/zero', 'show /dev/zero', 'canon /dev/zero out', 'nfs3mask /dev/zero out'):
+    for line in ('check /dev/zero', 'show /dev/zero', 'canon /dev/zero out',
+                 'nfs3mask /dev/zero out'):
         answer = place.fail(line)
         place.want_end(line, answer, 2, '', 'file 0: BadMagic\n')
         place.want(line, answer.counts['read'], 1)
 
 
 def number_of_writes(place: Place) -> None:
-    """What is written is gathered in 65,536 bytes, of which at most one message's are left free; `pack` writes each chunk and each
-    word at once."""
-    capture = messages.capture(([call(number, NFSACL, 3, 1, bytes(4_000)) for number in range(1, 501)], []))
+    """What is written is gathered in 65,536 bytes, of which at most one message's are left free;
+    `pack` writes each chunk and each word at once."""
+    capture = messages.capture(([call(number, NFSACL, 3, 1, bytes(4_000))
+                                 for number in range(1, 501)], []))
     place.put(capture)
     listing = place.run('show', 'a')[1]
     longest = max(map(len, listing.splitlines())) + 1
     chunks = -(-len(capture) // BLOCK)
     rewritten = -(-len(capture) // (BLOCK - 4_100)) + 1
-    for line, most in (('canon a out', rewritten), ('nfs3mask a out', rewritten), ('show a', -(-len(listing) // (BLOCK - longest)))):
+    for line, most in (('canon a out', rewritten), ('nfs3mask a out', rewritten),
+                       ('show a', -(-len(listing) // (BLOCK - longest)))):
         answer = place.fail(line)
         place.want(line, (answer.status, answer.counts['write'] <= most), (0, True))
     answer = place.fail('pack out a a')
@@ -396,8 +432,10 @@ def number_of_writes(place: Place) -> None:
 def tries() -> Iterator[tuple[str, Callable[..., None], *tuple[object, ...]]]:
     """Each a name, what to call, and what to call it with before its place."""
     examples = {name: example(name) for name in GIVEN_AT_ONCE}
-    captures = {name: examples[name] for name in ('getattr', 'bad_server_record', 'every_procedure')}
-    captures.update({'drawn%d' % seed: drawn(seed) for seed in (1, 169)})  # The second has more than a block.
+    captures = {name: examples[name] for name in ('getattr', 'bad_server_record',
+                                                  'every_procedure')}
+    # The second has more than a block.
+    captures.update({'drawn%d' % seed: drawn(seed) for seed in (1, 169)})
     captures.update({'interleaved': examples['interleaved'], 'drawn_mixed169': drawn_mixed(169)})
     for name, capture in captures.items():
         for line in COMMANDS:
@@ -413,7 +451,8 @@ def tries() -> Iterator[tuple[str, Callable[..., None], *tuple[object, ...]]]:
         yield 'reads: %s of version 2 byte by byte' % line, reads, line, MIXED, 1
     for line in COMMANDS:
         yield 'interrupted reads: ' + line, interrupted, line
-    for line in ('canon a out', 'canon a new', 'nfs3mask a out', 'nfs3mask a new', 'pack out a a', 'pack new a a'):
+    for line in ('canon a out', 'canon a new', 'nfs3mask a out', 'nfs3mask a new', 'pack out a a',
+                 'pack new a a'):
         yield 'syncs: ' + line, syncs, line
     for line in ('check a', 'show a', 'canon a out', 'nfs3mask a out', 'same a a', 'pack out a a'):
         yield 'random bytes: ' + line, randoms, line

@@ -1,10 +1,12 @@
 #!/usr/bin/env python3
-"""Runs the built program with memory, disks, pipes and inputs that are as bad as a recording tool meets them.
+"""Runs the built program with memory, disks, pipes and inputs that are as bad as a recording tool
+meets them.
 
     python3 tests/faults/hostile.py [PROGRAM] [--only TEXT] [-v]
 
-PROGRAM is crates/nfs3canon/out/nfs3canon if none is named. Each test below is a function with a folder of its own. The
-last line is 'N passed, M failed', and the status is 1 if any failed. It takes less than a minute on four cores.
+PROGRAM is crates/nfs3canon/out/nfs3canon if none is named. Each test below is a function with a
+folder of its own. The last line is 'N passed, M failed', and the status is 1 if any failed. It
+takes less than a minute on four cores.
 """
 import fcntl
 import functools
@@ -25,8 +27,8 @@ from typing import IO
 sys.path.insert(0, str(pathlib.Path(__file__).resolve().parents[2]))
 from examples import messages
 from examples.messages import (
-    CLIENT, MAGIC_2, MOUNT, NFS, NFSACL, call, dirop, fh, fragment, hyper, in_turn, interleaved, success,
-    word)
+    CLIENT, MAGIC_2, MOUNT, NFS, NFSACL, call, dirop, fh, fragment, hyper, in_turn, interleaved,
+    success, word)
 from tests.shared.outputs import PART
 from tests.shared.running import (
     LIMIT, Answer, RunOptions, Runs, ended, pipe_of, pipe_without_reader, try_tests)
@@ -34,7 +36,8 @@ from tests.shared.texts import mixed
 
 Streams = tuple[bytes, bytes]  # the chunks of both sides, the client's first
 NOBODY = 65_534
-MOST_RATIO, ROUNDS = 2.6, 8  # of the time that twice as much takes; it is 4 if time grows by the square
+# of the time that twice as much takes; it is 4 if time grows by the square
+MOST_RATIO, ROUNDS = 2.6, 8
 MOST_IN_ANOTHER_ORDER = 3  # of the time that the same connections take if the large one is the last
 MOST_CONNECTIONS = 65_535
 LONGEST = 1 << 24  # the bytes that a record's body may have
@@ -44,7 +47,8 @@ GOOD = messages.capture(NULL)  # its own canonical form
 GOOD_2 = interleaved(in_turn(*NULL))
 GOOD_LINE = 'ok connections=1 calls=1 replies=1 handles=0\n'
 # So is this one; its listing is longer.
-LARGE = messages.capture(([call(number, NFSACL, 3, 1, bytes(4_000)) for number in range(1, 1_001)], []))
+LARGE = messages.capture(([call(number, NFSACL, 3, 1, bytes(4_000)) for number in range(1, 1_001)],
+                          []))
 LARGE_LINE = 'ok connections=1 calls=1000 replies=0 handles=0\n'
 REFUSED_LARGE = 'file 3000000: CaptureCut\n'
 
@@ -82,12 +86,14 @@ Test = Callable[[Place], None]
 
 
 def under(limit: str) -> list[str]:
-    """The words that run a program under `ulimit` in the shell's words. A file that gets too long is an error, and does not end it."""
+    """The words that run a program under `ulimit` in the shell's words. A file that gets too long
+    is an error, and does not end it."""
     return by_shell('trap "" XFSZ; ulimit %s; exec "$@"' % limit)
 
 
 def by_shell(script: str) -> list[str]:
-    """The words that run a program by a script of the shell, which has the program's command line as `"$@"`."""
+    """The words that run a program by a script of the shell, which has the program's command line
+    as `"$@"`."""
     return ['sh', '-c', script, 'sh']
 
 
@@ -130,11 +136,13 @@ def many(count: int) -> bytes:
 def many_in_version_2(count: int) -> bytes:
     """The same."""
     calls = [call(number, NFS, 3, 1, fh(hyper(number) * 3)) for number in range(count)]
-    return interleaved([(CLIENT, body) for body in calls], in_turn(*NULL), [(CLIENT, call(9, NFSACL, 3, 1, bytes(50 * count)))])
+    return interleaved([(CLIENT, body) for body in calls], in_turn(*NULL),
+                       [(CLIENT, call(9, NFSACL, 3, 1, bytes(50 * count)))])
 
 
 def memory_that_is_refused(place: Place) -> None:
-    """Under each limit the answer is the one of plenty of memory, or memory ran out, and OUT is whole or as it was."""
+    """Under each limit the answer is the one of plenty of memory, or memory ran out, and OUT is
+    whole or as it was."""
     refuse_memory(place, many(20_000))
 
 
@@ -144,7 +152,8 @@ def memory_that_is_refused_to_version_2(place: Place) -> None:
 
 def refuse_memory(place: Place, capture: bytes) -> None:
     place.write('a', capture)
-    commands = {'check': ['a'], 'show': ['a'], 'same': ['a', 'a'], 'canon': ['a', 'out'], 'nfs3mask': ['a', 'out', 'ids=keep']}
+    commands = {'check': ['a'], 'show': ['a'], 'same': ['a', 'a'], 'canon': ['a', 'out'],
+                'nfs3mask': ['a', 'out', 'ids=keep']}
     plenty: dict[str, Answer] = {}
     forms: dict[str, bytes | None] = {}
     refused: set[str] = set()
@@ -161,17 +170,20 @@ def refuse_memory(place: Place, capture: bytes) -> None:
             else:
                 place.want('%s with %d KiB' % (command, limit), answer, plenty[command])
             wanted = b'as it was' if is_refused else forms[command]
-            place.want('out is right after %s with %d KiB' % (command, limit), place.read('out') == wanted, True)
+            place.want('out is right after %s with %d KiB' % (command, limit),
+                       place.read('out') == wanted, True)
     place.want('commands that were refused memory', sorted(refused), sorted(commands))
     place.want('files', place.names(), ['a', 'out', 'small'])
 
 
 def ran_out(answer: Answer, plenty: Answer) -> bool:
-    """The answer says so, or says nothing if there was no memory for that either. Lines that are listed were right."""
+    """The answer says so, or says nothing if there was no memory for that either. Lines that are
+    listed were right."""
     status, out, error = answer
     front = plenty[1] if plenty[1].count('\n') > 1 else ''
     prefixes = ('first: ', 'second: ', '')
-    return status == 3 and front.startswith(out) and error in ['', *(prefix + 'out of memory\n' for prefix in prefixes)]
+    return status == 3 and front.startswith(out) and error in [
+        '', *(prefix + 'out of memory\n' for prefix in prefixes)]
 
 
 def lengths_with_nothing_after_them(place: Place) -> None:
@@ -185,31 +197,39 @@ def lengths_with_nothing_after_them(place: Place) -> None:
         (begin + word(4) + word(0x81000001) + word(0), head + '0: RecordTooLong\n'),
         (messages.MAGIC + word(1) + word(40_000_000), 'file 16: CaptureCut\n'),
         (messages.MAGIC + word(1) + word(4) + word(0x81000000), 'file 20: CaptureCut\n'),
-        (messages.MAGIC + word(1) + word(4) + word(0x81000000) + word(0) * 3, head + '0: RecordCut\n'),
-        (messages.MAGIC + word(1) + word(4) + word(0x81000001) + word(0) * 3, head + '0: RecordTooLong\n'),
+        (messages.MAGIC + word(1) + word(4) + word(0x81000000) + word(0) * 3,
+         head + '0: RecordCut\n'),
+        (messages.MAGIC + word(1) + word(4) + word(0x81000001) + word(0) * 3,
+         head + '0: RecordTooLong\n'),
         (messages.capture(([body], [])), head + '56: Short\n'),
-        (messages.capture(([call(1, NFS, 3, 7, fh(b'') + bytes(16) + word(40_000_000))], [])), head + '64: Short\n')]
+        (messages.capture(([call(1, NFS, 3, 7, fh(b'') + bytes(16) + word(40_000_000))], [])),
+         head + '64: Short\n')]
     limit = place.least_memory() + 2_048
     for number, (capture, line) in enumerate(cases):
         name = 'length%d' % number
         place.write(name, capture)
         for command in ('check', 'show'):
-            place.want('%s %s' % (command, name), place.limited('-v %d' % limit, command, name), (2, '', line))
+            place.want('%s %s' % (command, name), place.limited('-v %d' % limit, command, name),
+                       (2, '', line))
 
 
 def conversation(count: int, size: int) -> list[tuple[str, bytes]]:
-    """The chunks of calls and their replies in turn, each with so many bytes, of a raw procedure."""
+    """The chunks of calls and their replies in turn, each with so many bytes, of a raw
+    procedure."""
     return [chunk for xid in range(count)
-            for chunk in (('>', fragment(call(xid, NFSACL, 3, 1, bytes(size)))), ('<', fragment(success(xid, bytes(size)))))]
+            for chunk in (('>', fragment(call(xid, NFSACL, 3, 1, bytes(size)))),
+                          ('<', fragment(success(xid, bytes(size)))))]
 
 
 def memory_of_one_connection(place: Place) -> None:
-    """Of version 2 the streams of one connection are kept, at most thrice while they grow, and those of the next in their place: 1 MB of
-    streams, once and thirty times, and the same in chunks of a byte, takes 3 MB at most beside what the smallest capture takes."""
+    """Of version 2 the streams of one connection are kept, at most thrice while they grow, and
+    those of the next in their place: 1 MB of streams, once and thirty times, and the same in chunks
+    of a byte, takes 3 MB at most beside what the smallest capture takes."""
     once = conversation(50, 10_000)
     place.write('once', mixed([once]))
     place.write('often', mixed([once] * 30))
-    place.write('bytes', mixed([[(side, bytes([byte])) for side, content in once for byte in content]]))
+    place.write('bytes',
+                mixed([[(side, bytes([byte])) for side, content in once for byte in content]]))
     limit = place.least_memory() + 3_000
     for name, times in (('once', 1), ('often', 30), ('bytes', 1)):
         line = 'ok connections=%d calls=%d replies=%d handles=0\n' % (times, 50 * times, 50 * times)
@@ -218,8 +238,9 @@ def memory_of_one_connection(place: Place) -> None:
 
 
 def memory_of_a_long_line(place: Place) -> None:
-    """The text of a line is given back when its stream ends: one of 4 MB, and then 120,000 calls of another connection, take 9.5 MB at
-    most beside what the smallest capture takes. Both at once would take 11."""
+    """The text of a line is given back when its stream ends: one of 4 MB, and then 120,000 calls of
+    another connection, take 9.5 MB at most beside what the smallest capture takes. Both at once
+    would take 11."""
     long = [call(1, NFS, 3, 3, dirop(b'', bytes(1_000_000)))]
     others = [call(number * 0x9e3779b1 % 2 ** 32, NFS, 3, 0) for number in range(120_000)]
     place.write('a', messages.capture((long, []), (others, [])))
@@ -228,14 +249,16 @@ def memory_of_a_long_line(place: Place) -> None:
     place.want('lines', (answer[0], answer[1].count('\n')), (0, 120_001))
 
 
-# Runs a command, whose output is thrown away, and prints its status and the most memory that it had, in KiB.
+# Runs a command, whose output is thrown away, and prints its status and the most memory that it
+# had, in KiB.
 PEAK = """import resource, subprocess, sys
 status = subprocess.run(sys.argv[1:], stdout=subprocess.DEVNULL).returncode
 print(status, resource.getrusage(resource.RUSAGE_CHILDREN).ru_maxrss)"""
 
 
 def memory_of_the_longest_line(place: Place) -> None:
-    """A line is held until its record is judged. One of 16 MiB of words with the most digits each takes less than six times its record."""
+    """A line is held until its record is judged. One of 16 MiB of words with the most digits each
+    takes less than six times its record."""
     head = success(1, word(0) + fh(b'root'))
     count = (LONGEST - len(head) - 4) // 4
     replies = [head + word(count) + b'\xff' * (4 * count)]
@@ -247,11 +270,13 @@ def memory_of_the_longest_line(place: Place) -> None:
 
 
 def streams_without_an_end(place: Place) -> None:
-    """A connection of version 2 whose side word 0 does not come takes what memory there is, and no more."""
+    """A connection of version 2 whose side word 0 does not come takes what memory there is, and no
+    more."""
     place.write('good', GOOD)
     limit = under('-v %d' % (place.least_memory() + 8_192))
     chunk = MAGIC_2 + word(1) + word(2) + word(1 << 30)
-    for words, prefix in ((['check', '/dev/stdin'], ''), (['show', '/dev/stdin'], ''), (['same', '/dev/stdin', 'good'], 'first: ')):
+    for words, prefix in ((['check', '/dev/stdin'], ''), (['show', '/dev/stdin'], ''),
+                          (['same', '/dev/stdin', 'good'], 'first: ')):
         answer = place.fed(words, endless(chunk, bytes(65_536)), limit)
         place.want(' '.join(words), answer, (3, '', prefix + 'out of memory\n'))
 
@@ -265,7 +290,8 @@ def disks_that_are_full_in_the_middle(place: Place) -> None:
     for name in ('out', 'new'):
         for blocks in (0, 1, 200, 7_000):
             for words in (['canon', 'a', name], ['pack', name, 'a', 'a']):
-                place.want(' '.join(words), place.limited('-f %d' % blocks, *words), (3, '', 'write failed\n'))
+                place.want(' '.join(words), place.limited('-f %d' % blocks, *words),
+                           (3, '', 'write failed\n'))
     place.want('out', place.read('out'), b'as it was')
     place.want('files', place.names(), ['a', 'out'])
     for words in (['canon', 'a', '/dev/full'], ['pack', '/dev/full', 'a', 'a']):
@@ -279,7 +305,8 @@ def readers_that_go_away(place: Place) -> None:
         listing = pipe_of(process.stdout)
         listing.read(1)
         listing.close()
-        place.want(words[0], (process.wait(LIMIT), pipe_of(process.stderr).read()), (3, b'write failed\n'))
+        place.want(words[0], (process.wait(LIMIT), pipe_of(process.stderr).read()),
+                   (3, b'write failed\n'))
 
 
 def pipes_that_do_not_wait(place: Place) -> None:
@@ -305,7 +332,8 @@ def standard_files_that_are_closed(place: Place) -> None:
     place.write('a', GOOD)
     for closed in ('>&-', '<&- >&-', '<&- >&- 2>&-'):
         error = '' if closed.endswith('2>&-') else 'write failed\n'
-        for words, wanted in ((['check', 'a'], 3), (['show', 'a'], 3), (['canon', 'a', 'out'], 3), (['pack', 'out', 'a', 'a'], 0)):
+        for words, wanted in ((['check', 'a'], 3), (['show', 'a'], 3), (['canon', 'a', 'out'], 3),
+                              (['pack', 'out', 'a', 'a'], 0)):
             answer = place.run(*words, before=by_shell('exec "$@" ' + closed))
             place.want(' '.join(words), answer, (wanted, '', error if wanted else ''))
             place.want('what canon wrote', place.read('out') if words[0] == 'canon' else GOOD, GOOD)
@@ -323,9 +351,11 @@ def part_in(place: Place) -> str:
 
 
 def signals_in_the_middle(place: Place) -> None:
-    """What has the name of the output stays. What was written beside it stays too, is for its owner alone, and is in nobody's way."""
+    """What has the name of the output stays. What was written beside it stays too, is for its owner
+    alone, and is in nobody's way."""
     place.write('a', LARGE)
-    for words in (['canon', '/dev/stdin', 'out'], ['pack', 'out', '/dev/stdin', 'a'], ['canon', '/dev/stdin', 'new']):
+    for words in (['canon', '/dev/stdin', 'out'], ['pack', 'out', '/dev/stdin', 'a'],
+                  ['canon', '/dev/stdin', 'new']):
         for number in (signal.SIGTERM, signal.SIGINT, signal.SIGKILL):
             place.write('out', b'as it was')
             process = place.begin(*words, stdin=subprocess.PIPE)
@@ -344,7 +374,8 @@ def signals_in_the_middle(place: Place) -> None:
 
 
 def names_that_are_taken_in_the_middle(place: Place) -> None:
-    """If the whole output cannot get its name, what was written beside it is removed, and what has got the name stays."""
+    """If the whole output cannot get its name, what was written beside it is removed, and what has
+    got the name stays."""
     def take(name: str, make: Callable[[str], object], before: bytes | None) -> None:
         for old in place.names():
             remove(place.path(old))
@@ -357,7 +388,8 @@ def names_that_are_taken_in_the_middle(place: Place) -> None:
         remove(place.path(name))
         make(place.path(name))
         feed(given, [LARGE[2_000_000:]])
-        place.want('canon', (process.wait(LIMIT), pipe_of(process.stderr).read()), (3, b'write failed\n'))
+        place.want('canon', (process.wait(LIMIT), pipe_of(process.stderr).read()),
+                   (3, b'write failed\n'))
         place.want('files', place.names(), [name] if os.path.lexists(place.path(name)) else [])
 
     def other(path: str) -> None:
@@ -372,9 +404,10 @@ def names_that_are_taken_in_the_middle(place: Place) -> None:
 
 
 def files_that_get_the_name_in_the_middle(place: Place) -> None:
-    """A capture is replaced, as one that another run has put there, and the output has its rights. It is left alone if it is one of the
-    inputs or nobody may write it, as is any other file."""
-    def take(words: list[str], make: Callable[[str], object], answer: tuple[int, bytes], wanted: bool) -> None:
+    """A capture is replaced, as one that another run has put there, and the output has its rights.
+    It is left alone if it is one of the inputs or nobody may write it, as is any other file."""
+    def take(words: list[str], make: Callable[[str], object], answer: tuple[int, bytes],
+             wanted: bool) -> None:
         for old in place.names():
             remove(place.path(old))
         for name in ('a', 'out', 'other'):
@@ -408,9 +441,11 @@ def files_that_get_the_name_in_the_middle(place: Place) -> None:
 def runs_at_once(place: Place) -> None:
     """All of them succeed, whichever is the last."""
     sides = [[call(number, NFSACL, 3, 1, bytes(4_000))] * 100 for number in range(1, 13)]
-    captures, streams = [messages.capture((side, [])) for side in sides], [b''.join(map(fragment, side)) for side in sides]
+    captures, streams = [messages.capture((side, []))
+                         for side in sides], [b''.join(map(fragment, side)) for side in sides]
     place.write('no', b'')
-    for words, others in ((['canon', '/dev/stdin', 'out'], captures), (['nfs3mask', '/dev/stdin', 'out'], captures),
+    for words, others in ((['canon', '/dev/stdin', 'out'], captures),
+                          (['nfs3mask', '/dev/stdin', 'out'], captures),
                           (['pack', 'out', '/dev/stdin', 'no'], streams)):
         for before in (b'as it was', None):
             if before is None:
@@ -422,7 +457,8 @@ def runs_at_once(place: Place) -> None:
                 given = pipe_of(process.stdin)
                 given.write(content[:300_000])
                 given.flush()
-            wait_for(lambda: len([name for name in place.names() if PART.fullmatch(name) and place.read(name)]) == len(runs))
+            wait_for(lambda: len([name for name in place.names() if PART.fullmatch(name)
+                                  and place.read(name)]) == len(runs))
             for process, content in zip(runs, others):
                 feed(pipe_of(process.stdin), [content[300_000:]])
             ends = [(process.wait(LIMIT), pipe_of(process.stderr).read()) for process in runs]
@@ -430,7 +466,8 @@ def runs_at_once(place: Place) -> None:
                 pipe_of(process.stdout).close()
                 pipe_of(process.stderr).close()
             place.want('%s, before: %r' % (words[0], before), ends, [(0, b'')] * len(runs))
-            place.want('check of the output', place.run('check', 'out'), (0, 'ok connections=1 calls=100 replies=0 handles=0\n', ''))
+            place.want('check of the output', place.run('check', 'out'),
+                       (0, 'ok connections=1 calls=100 replies=0 handles=0\n', ''))
             place.want('files', place.names(), ['no', 'out'])
 
 
@@ -444,7 +481,8 @@ def remove(path: str) -> None:
 def many_streams_and_few_open_files(place: Place) -> None:
     place.write('call', fragment(NULL[0][0]))
     place.write('reply', fragment(NULL[1][0]))
-    place.want('pack', place.limited('-n 16', 'pack', 'out', *['call', 'reply'] * 3_000), (0, '', ''))
+    place.want('pack', place.limited('-n 16', 'pack', 'out', *['call', 'reply'] * 3_000),
+               (0, '', ''))
     place.want('what was packed', place.read('out') == messages.capture(*[NULL] * 3_000), True)
 
 
@@ -457,12 +495,15 @@ def names_of_the_most_bytes(place: Place) -> None:
         for _ in range(2):
             place.want('canon', place.run('canon', 'a', 'n' * size), (0, GOOD_LINE, ''))
             place.want('pack', place.run('pack', 'p' * size, 'a', 'a'), (0, '', ''))
-    place.want('a name of 256', place.run('canon', 'a', 'n' * 256), (3, '', 'open failed: %s\n' % ('n' * 256)))
-    place.want('files', place.names(), sorted(['a', *(kind * size for kind in 'np' for size in (250, 251, 255))]))
+    place.want('a name of 256', place.run('canon', 'a', 'n' * 256),
+               (3, '', 'open failed: %s\n' % ('n' * 256)))
+    place.want('files', place.names(),
+               sorted(['a', *(kind * size for kind in 'np' for size in (250, 251, 255))]))
 
 
 def folders_that_no_path_names(place: Place) -> None:
-    """An output is written again as the first time if the name of its folder is no text, or the path is longer than the system takes."""
+    """An output is written again as the first time if the name of its folder is no text, or the
+    path is longer than the system takes."""
     for names in ([b'\xff'], [b'd' * 200] * 30):
         folder = os.open(place.folder, os.O_RDONLY)
         for part in names:
@@ -478,7 +519,8 @@ def folders_that_no_path_names(place: Place) -> None:
 
 
 def chains_of_links(place: Place) -> None:
-    """Linux follows 40 links: the file behind so many is replaced, and each link stays. A longer chain is no output."""
+    """Linux follows 40 links: the file behind so many is replaced, and each link stays. A longer
+    chain is no output."""
     place.write('a', GOOD)
     place.write('l41', b'before')
     for number in range(41):
@@ -487,15 +529,18 @@ def chains_of_links(place: Place) -> None:
     place.want('what is left', place.read('l41'), b'before')
     place.want('40 links', place.run('canon', 'a', 'l1'), (0, GOOD_LINE, ''))
     place.want('what is there', place.read('l41'), GOOD)
-    place.want('links', [number for number in range(41) if not os.path.islink(place.path(f'l{number}'))], [])
+    place.want('links',
+               [number for number in range(41) if not os.path.islink(place.path(f'l{number}'))], [])
 
 
 def as_nobody(place: Place) -> Callable[..., Answer] | None:
-    """How somebody whom modes bind runs a copy of the program; nothing if the tests do not run as root."""
+    """How somebody whom modes bind runs a copy of the program; nothing if the tests do not run as
+    root."""
     if os.geteuid() != 0:
         return None
     os.chmod(place.folder, 0o777)
-    program = shutil.copy(place.program, place.folder)  # since the repository may be in a folder into which others may not look
+    # since the repository may be in a folder into which others may not look
+    program = shutil.copy(place.program, place.folder)
     return lambda *words: ended([program, *words], place.folder, user=NOBODY).text()
 
 
@@ -504,7 +549,8 @@ def outputs_that_are_refused_before_the_work(place: Place) -> None:
     place.write('a', messages.MAGIC)
     run = as_nobody(place)
     if run is None:
-        print('left out, since the tests do not run as root: outputs that are refused before the work')
+        print('left out, since the tests do not run as root: outputs that are refused before the '
+              'work')
         return
     place.write('of_root', b'as it was')
     os.mkdir(place.path('closed'), 0o755)
@@ -518,21 +564,24 @@ def outputs_that_are_refused_before_the_work(place: Place) -> None:
     if ended(['chattr', '+a', log], place.folder).status != 0:
         print('left out, since no file can be made append-only here: an append-only file')
     else:
-        place.want('an append-only file', place.run('canon', 'a', 'log'), (3, '', 'open failed: log\n'))
+        place.want('an append-only file', place.run('canon', 'a', 'log'),
+                   (3, '', 'open failed: log\n'))
         ended(['chattr', '-a', log], place.folder)
     for name in ('of_root', 'closed/open', 'log'):
         place.want(name, place.read(name), b'as it was')
-    place.want('files', place.names(), ['a', 'closed', 'log', os.path.basename(place.program), 'of_root'])
+    place.want('files', place.names(), ['a', 'closed', 'log', os.path.basename(place.program),
+                                        'of_root'])
     place.want('files', sorted(os.listdir(place.path('closed'))), ['open'])
 
 
 def rights_on_an_output(place: Place) -> None:
-    """A file that is replaced keeps its owner and who may open it, but for rights that its group has and others have not, and never
-    the bits that lend its owner's rights."""
+    """A file that is replaced keeps its owner and who may open it, but for rights that its group
+    has and others have not, and never the bits that lend its owner's rights."""
     place.write('a', GOOD)
     path = place.path('out')
 
-    def rights(mode: int, owner: int | None, run: Callable[..., Answer] = place.run) -> tuple[int, int, int]:
+    def rights(mode: int, owner: int | None,
+               run: Callable[..., Answer] = place.run) -> tuple[int, int, int]:
         """The mode, the owner and the group of an output that had these before the run."""
         place.write('out', b'as it was')
         if owner is not None:
@@ -542,31 +591,37 @@ def rights_on_an_output(place: Place) -> None:
         state = os.stat(path)
         return state.st_mode & 0o7777, state.st_uid, state.st_gid
     own = os.geteuid(), os.getegid()
-    kept = {0o644: 0o644, 0o600: 0o600, 0o6755: 0o755, 0o1606: 0o606, 0o640: 0o600, 0o664: 0o644, 0o770: 0o700}
+    kept = {0o644: 0o644, 0o600: 0o600, 0o6755: 0o755, 0o1606: 0o606, 0o640: 0o600, 0o664: 0o644,
+            0o770: 0o700}
     for mode, wanted in kept.items():
         place.want('rights of %o' % mode, rights(mode, None), (wanted, *own))
     run = as_nobody(place)
     if run is not None:
         for mode, wanted in {0o640: 0o600, 0o6755: 0o755}.items():
-            place.want('rights of %o, of nobody' % mode, rights(mode, NOBODY), (wanted, NOBODY, NOBODY))
-        place.want('rights that cannot be given back', rights(0o666, 0, run), (0o666 & ~umask(), NOBODY, NOBODY))
+            place.want('rights of %o, of nobody' % mode, rights(mode, NOBODY),
+                       (wanted, NOBODY, NOBODY))
+        place.want('rights that cannot be given back', rights(0o666, 0, run),
+                   (0o666 & ~umask(), NOBODY, NOBODY))
     for mask in (0o022, 0o027, 0o077):
         os.remove(path)
         answer = place.run('canon', 'a', 'out', before=by_shell('umask %o; exec "$@"' % mask))
-        place.want('canon to a new file', (answer, os.stat(path).st_mode & 0o7777), ((0, GOOD_LINE, ''), 0o666 & ~mask))
+        place.want('canon to a new file', (answer, os.stat(path).st_mode & 0o7777),
+                   ((0, GOOD_LINE, ''), 0o666 & ~mask))
 
 
 def rights_that_cannot_be_given_back(place: Place) -> None:
-    """Nobody but the owner of an output may do more with it than before. A class of which somebody may be in another one now has what
-    each of them had."""
+    """Nobody but the owner of an output may do more with it than before. A class of which somebody
+    may be in another one now has what each of them had."""
     place.write('a', GOOD)
     run = as_nobody(place)
     if run is None:
         print('left out, since the tests do not run as root: rights that cannot be given back')
         return
     path, new = place.path('out'), 0o666 & ~umask()
-    of_another_group = {0o600: 0o600, 0o640: 0o600, 0o644: 0o604, 0o664: 0o604, 0o755: 0o705, 0o606: 0o600, 0o2666: 0o606}
-    of_another_owner = {0o666: new, 0o622: new & 0o722, 0o606: new & 0o700, 0o266: new & 0o722, 0o676: new}
+    of_another_group = {0o600: 0o600, 0o640: 0o600, 0o644: 0o604, 0o664: 0o604, 0o755: 0o705,
+                        0o606: 0o600, 0o2666: 0o606}
+    of_another_owner = {0o666: new, 0o622: new & 0o722, 0o606: new & 0o700, 0o266: new & 0o722,
+                        0o676: new}
     for owner, modes in ((NOBODY, of_another_group), (0, of_another_owner)):
         for mode, wanted in modes.items():
             place.write('out', b'as it was')
@@ -575,16 +630,19 @@ def rights_that_cannot_be_given_back(place: Place) -> None:
             place.want('canon', run('canon', 'a', 'out'), (0, GOOD_LINE, ''))
             state = os.stat(path)
             found = state.st_mode & 0o7777, state.st_uid, state.st_gid
-            place.want('rights of %o, of %d and group 0' % (mode, owner), found, (wanted, NOBODY, NOBODY))
+            place.want('rights of %o, of %d and group 0' % (mode, owner), found,
+                       (wanted, NOBODY, NOBODY))
 
 
 def access_list(*entries: tuple[int, int, int]) -> bytes:
-    """An access control list as Linux keeps it in an extended attribute: for each entry its tag, its rights and a user or group."""
+    """An access control list as Linux keeps it in an extended attribute: for each entry its tag,
+    its rights and a user or group."""
     return struct.pack('<I', 2) + b''.join(struct.pack('<HHI', *entry) for entry in entries)
 
 
 def access_control_lists(place: Place) -> None:
-    """Neither the list of a file that is replaced, nor the default list of its folder, gives anybody a right that he had not."""
+    """Neither the list of a file that is replaced, nor the default list of its folder, gives
+    anybody a right that he had not."""
     owner, user, group, mask, others, nobody = 0x01, 0x02, 0x04, 0x10, 0x20, 0xffffffff
     path = place.path('out')
 
@@ -598,17 +656,20 @@ def access_control_lists(place: Place) -> None:
         place.want('canon', place.run('canon', 'a', 'out'), (0, GOOD_LINE, ''))
         return os.stat(path).st_mode & 0o777
     place.write('a', GOOD)
-    by_mask = {rights: access_list((owner, 6, nobody), (user, 6, NOBODY), (group, 0, nobody), (mask, rights, nobody), (others, 0, nobody))
+    by_mask = {rights: access_list((owner, 6, nobody), (user, 6, NOBODY), (group, 0, nobody),
+                                   (mask, rights, nobody), (others, 0, nobody))
                for rights in (6, 4)}
     try:
         place.want('a mask of rw-', mode_after(0o660, by_mask[6]), 0o600)
     except OSError as error:
-        print('left out, since the file system has no access control lists (%s): access control lists' % error.strerror)
+        print('left out, since the file system has no access control lists (%s): access control '
+              'lists' % error.strerror)
         return
     place.want('a mask of r--', mode_after(0o640, by_mask[4]), 0o600)
     os.remove(path)
     place.write('out', b'as it was')
-    default = access_list((owner, 7, nobody), (user, 6, NOBODY), (group, 5, nobody), (mask, 7, nobody), (others, 5, nobody))
+    default = access_list((owner, 7, nobody), (user, 6, NOBODY), (group, 5, nobody),
+                          (mask, 7, nobody), (others, 5, nobody))
     os.setxattr(place.folder, 'system.posix_acl_default', default)
     place.want('a default list of the folder', mode_after(0o640, None), 0o600)
     place.want('a default list, and rights of all others', mode_after(0o644, None), 0o644)
@@ -624,7 +685,10 @@ def mounted(place: Place, script: str, *words: str) -> Answer | None:
     """A run after a script that mounts something for it alone, or nothing if that may not be."""
     flags = '-m' if os.geteuid() == 0 else '-rm'
     try:
-        answer = place.run(*words, before=['unshare', flags, *by_shell('(%s) >/dev/null 2>&1 || exit 77; exec "$@"' % script)])
+        answer = place.run(*words,
+                           before=['unshare', flags,
+                                   *by_shell('(%s) >/dev/null 2>&1 || exit 77; exec "$@"'
+                                             % script)])
     except FileNotFoundError:
         return None
     return None if answer[0] == 77 or answer[2].startswith('unshare: ') else answer
@@ -637,10 +701,12 @@ def files_of_two_devices_with_one_number(place: Place) -> None:
         os.mkdir(place.path(name))
     script = ('mount -t tmpfs none one && mount -t tmpfs none two && cp a one/a && cp a two/out && '
               '[ "$(stat -c %i one/a)" = "$(stat -c %i two/out)" ]')
-    for words, out in ((['canon', 'one/a', 'two/out'], GOOD_LINE), (['pack', 'two/out', 'a', 'a', 'one/a', 'one/a'], '')):
+    for words, out in ((['canon', 'one/a', 'two/out'], GOOD_LINE),
+                       (['pack', 'two/out', 'a', 'a', 'one/a', 'one/a'], '')):
         answer = mounted(place, script, *words)
         if answer is None:
-            print('left out, since nothing can be mounted here: files of two devices with one number')
+            print('left out, since nothing can be mounted here: files of two devices with one '
+                  'number')
             return
         place.want(' '.join(words), answer, (0, out, ''))
 
@@ -651,10 +717,12 @@ def outputs_on_which_something_is_mounted(place: Place) -> None:
     place.write('out', b'as it was')
     place.write('other', b'as it was')
     os.mkdir(place.path('far'))
-    for script in ('mount --bind other out', 'mount -t tmpfs none far && cp other far && mount --bind far/other out'):
+    for script in ('mount --bind other out',
+                   'mount -t tmpfs none far && cp other far && mount --bind far/other out'):
         answer = mounted(place, script, 'canon', 'a', 'out')
         if answer is None:
-            print('left out, since nothing can be mounted here: outputs on which something is mounted')
+            print('left out, since nothing can be mounted here: outputs on which something is '
+                  'mounted')
             return
         place.want(script, answer, (3, '', 'open failed: out\n'))
     place.want('files', place.names(), ['a', 'far', 'other', 'out'])
@@ -667,10 +735,12 @@ def standard_output_without_its_name(place: Place) -> None:
     if before is None:
         print('left out, since nothing can be mounted here: standard output without its name')
         return
-    for words, wanted in ((['canon', 'a', '/proc/self/fd/1'], GOOD_LINE), (['nfs3mask', 'a', '/proc/self/fd/1', 'ids=keep'], GOOD_LINE),
+    for words, wanted in ((['canon', 'a', '/proc/self/fd/1'], GOOD_LINE),
+                          (['nfs3mask', 'a', '/proc/self/fd/1', 'ids=keep'], GOOD_LINE),
                           (['pack', '/proc/self/fd/1', 'a', 'a'], '')):
         found = place.ended(*words, before=before)
-        place.want(words[0], (found.status, found.error.decode().startswith(wanted), b'ok ' in found.out), (0, True, False))
+        place.want(words[0], (found.status, found.error.decode().startswith(wanted),
+                              b'ok ' in found.out), (0, True, False))
         if words[0] == 'canon':
             place.want('what was written', found.out, GOOD)
         with open(place.path('log'), 'wb') as log:
@@ -678,13 +748,15 @@ def standard_output_without_its_name(place: Place) -> None:
             log.flush()
             found = place.ended(*words, before=before, stdout=log)
         content = place.read('log') or b''
-        place.want(words[0] + ' to a file', (found.status, content.startswith(b'firstNFS3CAP1'), b'ok ' in content), (0, True, False))
+        place.want(words[0] + ' to a file', (found.status, content.startswith(b'firstNFS3CAP1'),
+                                             b'ok ' in content), (0, True, False))
 
 
 def hiding(folder: str) -> list[str] | None:
     """The words that run a program with nothing in this folder, or None if that may not be."""
     flags = '-m' if os.geteuid() == 0 else '-rm'
-    before = ['unshare', flags, *by_shell('mount -t tmpfs none %s 2>/dev/null || exit 77; exec "$@"' % folder)]
+    before = ['unshare', flags, *by_shell('mount -t tmpfs none %s 2>/dev/null || exit 77; exec "$@"'
+                                          % folder)]
     try:
         return before if ended([*before, '/bin/true'], '/').status == 0 else None
     except FileNotFoundError:
@@ -692,19 +764,24 @@ def hiding(folder: str) -> list[str] | None:
 
 
 def removed_files_by_their_numbers(place: Place) -> None:
-    """The link in /proc to a removed file leads to that file, and not to the one that has the name which it tells."""
+    """The link in /proc to a removed file leads to that file, and not to the one that has the name
+    which it tells."""
     place.write('a', GOOD)
-    for words in (['canon', 'a', '/proc/self/fd/7'], ['pack', '/proc/self/fd/7', 'a', 'a'], ['nfs3mask', 'a', '/proc/self/fd/7']):
+    for words in (['canon', 'a', '/proc/self/fd/7'], ['pack', '/proc/self/fd/7', 'a', 'a'],
+                  ['nfs3mask', 'a', '/proc/self/fd/7']):
         for other in (b'of somebody else', GOOD, None):
             if other is not None:
                 place.write('del (deleted)', other)
-            answer = place.run(*words, before=by_shell('echo as it was > del; exec 7<> del; rm del; exec "$@"'))
+            answer = place.run(*words,
+                               before=by_shell('echo as it was > del; exec 7<> del; rm del; exec '
+                                               '"$@"'))
             place.want(words[0], answer, (3, '', 'open failed: /proc/self/fd/7\n'))
             place.want('the other file', place.read('del (deleted)'), other)
             if other is not None:
                 os.remove(place.path('del (deleted)'))
     place.want('files', place.names(), ['a'])
-    answer = place.run('canon', 'a', '/proc/self/fd/7', before=by_shell('echo as it was > out; exec 7<> out; exec "$@"'))
+    answer = place.run('canon', 'a', '/proc/self/fd/7',
+                       before=by_shell('echo as it was > out; exec 7<> out; exec "$@"'))
     place.want('a file that has its name', (answer, place.read('out')), ((0, GOOD_LINE, ''), GOOD))
 
 
@@ -722,14 +799,16 @@ def inputs_that_never_end(place: Place) -> None:
         (endless(GOOD_2, b'y\n' * 32_768), stdin, 'file 108: AfterEnd\n'),
         (endless(MAGIC_2 + word(1), b'y\n' * 32_768), stdin, 'file 12: BadMark\n'),
         (endless(MAGIC_2, word(1) + word(0)), stdin, 'file 524288: TooManyConnections\n'),
-        (endless(first, zeros), stdin, 'connection 1 client record 1 byte 16777216: RecordTooLong\n'),
+        (endless(first, zeros), stdin,
+         'connection 1 client record 1 byte 16777216: RecordTooLong\n'),
         (endless(b'', GOOD), ['same', 'good', '/dev/stdin'], 'second: file 104: AfterEnd\n'),
         (endless(b'', GOOD), ['canon', '/dev/stdin', 'out'], 'file 104: AfterEnd\n')]
     for pieces, words, line in cases:
         place.want(' '.join(words), place.fed(words, pieces), (2, '', line))
     place.want('check /dev/zero', place.run('check', '/dev/zero'), (2, '', 'file 0: BadMagic\n'))
     # After 16,384 chunks of 65,536 bytes.
-    place.want('pack /dev/zero', place.run('pack', '/dev/null', '/dev/zero', 'good'), (2, '', 'file 1073807372: TooManyBytes\n'))
+    place.want('pack /dev/zero', place.run('pack', '/dev/null', '/dev/zero', 'good'),
+               (2, '', 'file 1073807372: TooManyBytes\n'))
     place.want('files', place.names(), ['good'])
 
 
@@ -737,7 +816,8 @@ def fifos(place: Place) -> None:
     """As shells make them for `<(..)`: the program reads what comes, also byte by byte."""
     os.mkfifo(place.path('fifo'))
     cases: list[tuple[list[bytes], int, str]] = [
-        ([GOOD], 0, GOOD_LINE), ([bytes([byte]) for byte in GOOD], 0, GOOD_LINE), ([GOOD[:50]], 2, 'file 50: CaptureCut\n'),
+        ([GOOD], 0, GOOD_LINE), ([bytes([byte]) for byte in GOOD], 0, GOOD_LINE),
+        ([GOOD[:50]], 2, 'file 50: CaptureCut\n'),
         ([], 2, 'file 0: CaptureCut\n'), ([bytes([byte]) for byte in GOOD_2], 0, GOOD_LINE),
         ([GOOD_2[:103]], 2, 'file 103: CaptureCut\n')]
     for pieces, status, line in cases:
@@ -757,25 +837,31 @@ def in_two_reads(path: str, content: bytes, cut: int) -> None:
 
 
 def reads_cut_at_each_length(place: Place) -> None:
-    """Known bytes through each command, of which the first read gives a part: whatever the part, the answer is that of all bytes."""
+    """Known bytes through each command, of which the first read gives a part: whatever the part,
+    the answer is that of all bytes."""
     client, server = (b''.join(map(fragment, side)) for side in NULL)
-    listing = ('1 client 1 xid=1 NFSPROC3_NULL mtype=0 rpcvers=2 prog=100003 vers=3 proc=0 cred_flavor=0 cred_body= verf_flavor=0 '
-               'verf_body=\n1 server 1 xid=1 NFSPROC3_NULL mtype=1 reply_stat=0 verf_flavor=0 verf_body= accept_stat=0\n')
+    listing = ('1 client 1 xid=1 NFSPROC3_NULL mtype=0 rpcvers=2 prog=100003 vers=3 proc=0 '
+               'cred_flavor=0 cred_body= verf_flavor=0 '
+               'verf_body=\n1 server 1 xid=1 NFSPROC3_NULL mtype=1 reply_stat=0 verf_flavor=0 '
+               'verf_body= accept_stat=0\n')
     same = 'same\n'
     fifo = place.path('fifo')
     os.mkfifo(fifo)
     place.write('good', GOOD)
     place.write('server', server)
     cases: list[tuple[str, bytes, str, bytes | None]] = [
-        ('check fifo', GOOD, GOOD_LINE, None), ('show fifo', GOOD, listing, None), ('canon fifo out', GOOD, GOOD_LINE, GOOD),
-        ('same fifo good', GOOD, same, None), ('same good fifo', GOOD_2, same, None), ('pack out fifo server', client, '', GOOD)]
+        ('check fifo', GOOD, GOOD_LINE, None), ('show fifo', GOOD, listing, None),
+        ('canon fifo out', GOOD, GOOD_LINE, GOOD),
+        ('same fifo good', GOOD, same, None), ('same good fifo', GOOD_2, same, None),
+        ('pack out fifo server', client, '', GOOD)]
     for line, content, wanted, written in cases:
         for cut in range(1, len(content)):
             writer = threading.Thread(target=in_two_reads, args=(fifo, content, cut), daemon=True)
             writer.start()
             found, out, error = place.run(*line.split())
             writer.join(LIMIT)
-            place.want('%s, cut at %d' % (line, cut), (found, error, out, place.read('out')), (0, '', wanted, written))
+            place.want('%s, cut at %d' % (line, cut), (found, error, out, place.read('out')),
+                       (0, '', wanted, written))
             if written is not None:
                 os.remove(place.path('out'))
 
@@ -787,20 +873,25 @@ def files_that_may_not_be_read(place: Place) -> None:
     os.chmod(place.path('secret'), 0)
     os.chmod(place.folder, 0o755)
     reader: RunOptions = {'user': NOBODY} if os.geteuid() == 0 else {}
-    program = shutil.copy(place.program, place.folder)  # since the repository may be in a folder into which others may not look
-    for words in (['check', 'secret'], ['show', 'secret'], ['same', 'good', 'secret'], ['canon', 'secret', 'out']):
+    # since the repository may be in a folder into which others may not look
+    program = shutil.copy(place.program, place.folder)
+    for words in (['check', 'secret'], ['show', 'secret'], ['same', 'good', 'secret'],
+                  ['canon', 'secret', 'out']):
         answer = ended([program, *words], place.folder, **reader).text()
         place.want(' '.join(words), answer, (3, '', 'open failed: secret\n'))
     if reader:
         answer = ended([program, 'canon', 'good', 'out'], place.folder, **reader).text()
-        place.want('canon into a folder that may not be written', answer, (3, '', 'open failed: out\n'))
+        place.want('canon into a folder that may not be written', answer,
+                   (3, '', 'open failed: out\n'))
     os.remove(program)
     place.want('files', place.names(), ['good', 'secret'])
 
 
 def files_that_change_while_they_are_read(place: Place) -> None:
-    """The program waits for its reader, near the beginning of the file, when the file gets shorter or longer."""
-    for size, status, line in ((3_000_000, 2, REFUSED_LARGE), (len(LARGE) + 1, 2, 'file %d: AfterEnd\n' % len(LARGE))):
+    """The program waits for its reader, near the beginning of the file, when the file gets shorter
+    or longer."""
+    for size, status, line in ((3_000_000, 2, REFUSED_LARGE),
+                               (len(LARGE) + 1, 2, 'file %d: AfterEnd\n' % len(LARGE))):
         place.write('a', LARGE)
         process = place.begin('canon', 'a', '/dev/stdout')
         written = pipe_of(process.stdout)
@@ -808,7 +899,8 @@ def files_that_change_while_they_are_read(place: Place) -> None:
         os.truncate(place.path('a'), size)
         form = front + written.read()
         place.want('a front of the form', LARGE.startswith(form), True)
-        place.want('canon', (process.wait(LIMIT), pipe_of(process.stderr).read().decode()), (status, line))
+        place.want('canon', (process.wait(LIMIT), pipe_of(process.stderr).read().decode()),
+                   (status, line))
 
 
 # --- Time ---
@@ -816,36 +908,44 @@ def files_that_change_while_they_are_read(place: Place) -> None:
 def xids(count: int) -> Streams:
     """NULL calls with different xids, and their replies, the last one first."""
     calls, reply = call(0, NFS, 3, 0)[4:], success(0)[4:]
-    client = b''.join(b'\0\0\0\x2c\x80\0\0\x28%b%b' % (word(number), calls) for number in range(count))
-    server = b''.join(b'\0\0\0\x1c\x80\0\0\x18%b%b' % (word(number), reply) for number in reversed(range(count)))
+    client = b''.join(b'\0\0\0\x2c\x80\0\0\x28%b%b' % (word(number), calls)
+                      for number in range(count))
+    server = b''.join(b'\0\0\0\x1c\x80\0\0\x18%b%b' % (word(number), reply)
+                      for number in reversed(range(count)))
     return client, server
 
 
 def handles(count: int) -> Streams:
     """GETATTR calls of one xid."""
     head = call(7, NFS, 3, 1, word(8))
-    return b''.join(b'\0\0\0\x38\x80\0\0\x34%b%b' % (head, hyper(number * 0x9e3779b97f4a7c15 % (1 << 64))) for number in range(count)), b''
+    return b''.join(b'\0\0\0\x38\x80\0\0\x34%b%b'
+                    % (head, hyper(number * 0x9e3779b97f4a7c15 % (1 << 64)))
+                    for number in range(count)), b''
 
 
 def handles_before(end: bytes) -> Callable[[int], Streams]:
     """GETATTR calls of one xid, on handles of eight bytes that differ and these eight."""
     def make(count: int) -> Streams:
         head = call(7, NFS, 3, 1, word(16))
-        return b''.join(b'\0\0\0\x40\x80\0\0\x3c%b%b%b' % (head, hyper(number), end) for number in range(count)), b''
+        return b''.join(b'\0\0\0\x40\x80\0\0\x3c%b%b%b' % (head, hyper(number), end)
+                        for number in range(count)), b''
     return make
 
 
 def handles_chosen_against_known_words(place: Place) -> None:
-    """Under a word that is known, all of these handles have one hash: the second factor of the product is 0. That is so of the word of the
-    hasher that an `IndexMap` has if none is named, and of 0, which a system that gives no random bytes would leave. The program's words
-    are random, so these handles cost what others do."""
+    """Under a word that is known, all of these handles have one hash: the second factor of the
+    product is 0. That is so of the word of the hasher that an `IndexMap` has if none is named, and
+    of 0, which a system that gives no random bytes would leave. The program's words are random, so
+    these handles cost what others do."""
     place.write('half', version_1(handles_before(hyper(0x0123456789abcdef))(1_000_000)))
     for word_of_hasher in (KNOWN_WORD, 0):
-        place.write('whole', version_1(handles_before(word_of_hasher.to_bytes(8, 'little'))(1_000_000)))
+        place.write('whole',
+                    version_1(handles_before(word_of_hasher.to_bytes(8, 'little'))(1_000_000)))
         for command, *more in (('check',), ('canon', '/dev/null'), ('show',)):
             found = ratio(place, command, *more)
             if found > MOST_RATIO:
-                place.wrong.append(f'{command} takes {found:.1f} times as long for handles chosen against {word_of_hasher:x}')
+                place.wrong.append(f'{command} takes {found:.1f} times as long for handles chosen '
+                                   f'against {word_of_hasher:x}')
 
 
 def empty_fragments(count: int) -> Streams:
@@ -863,14 +963,17 @@ def single_bytes(count: int) -> Streams:
 def in_turns(count: int) -> bytes:
     """NULL calls with different xids, each with its reply right after it."""
     calls, reply = call(0, NFS, 3, 0)[4:], success(0)[4:]
-    return b''.join(b'\0\0\0\x01\0\0\0\x2c\x80\0\0\x28%b%b\0\0\0\x02\0\0\0\x1c\x80\0\0\x18%b%b' % (xid, calls, xid, reply)
+    return b''.join(b'\0\0\0\x01\0\0\0\x2c\x80\0\0\x28%b%b\0\0\0\x02\0\0\0\x1c\x80\0\0\x18%b%b'
+                    % (xid, calls, xid, reply)
                     for xid in map(word, range(count)))
 
 
 def bytes_in_turns(count: int) -> bytes:
     """A raw call and its reply in chunks of a byte, of both sides in turn."""
-    client, server = (fragment(body) for body in (call(1, NFSACL, 3, 1, bytes(count // 2)), success(1, bytes(count // 2 + 16))))
-    return b''.join(b'\0\0\0\x01\0\0\0\x01%c\0\0\0\x02\0\0\0\x01%c' % pair for pair in zip(client, server))
+    client, server = (fragment(body) for body in (call(1, NFSACL, 3, 1, bytes(count // 2)),
+                                                  success(1, bytes(count // 2 + 16))))
+    return b''.join(b'\0\0\0\x01\0\0\0\x01%c\0\0\0\x02\0\0\0\x01%c' % pair
+                    for pair in zip(client, server))
 
 
 def version_2(chunks: bytes) -> bytes:
@@ -894,14 +997,16 @@ def seconds(place: Place, command: str, *names: str) -> float:
 def seconds_at_most(place: Place, limit: int, command: str, *names: str) -> tuple[bool, float]:
     """Whether a run ends well in so many seconds of processor time, and how many it took."""
     with open(os.devnull, 'wb') as nothing:
-        process = place.begin(command, *names, before=under('-t %d' % limit), stdout=nothing, stderr=nothing)
+        process = place.begin(command, *names, before=under('-t %d' % limit), stdout=nothing,
+                              stderr=nothing)
         _, status, used = os.wait4(process.pid, 0)
         process.returncode = os.waitstatus_to_exitcode(status)
     return process.returncode == 0, used.ru_utime + used.ru_stime
 
 
 def ratio(place: Place, command: str, *more: str) -> float:
-    """How much longer `whole` takes than `half`: the least of some rounds, since other programs run beside them."""
+    """How much longer `whole` takes than `half`: the least of some rounds, since other programs run
+    beside them."""
     least = float('inf')
     for _ in range(ROUNDS):
         half, whole = (seconds(place, command, name, *more) for name in ('half', 'whole'))
@@ -919,7 +1024,8 @@ def is_linear(name: str, make: Callable[[int], bytes], count: int) -> Test:
         for command, *more in (('check',), ('canon', '/dev/null'), ('show',)):
             found = ratio(place, command, *more)
             if found > MOST_RATIO:
-                place.wrong.append('%s takes %.1f times as long for twice as much' % (command, found))
+                place.wrong.append('%s takes %.1f times as long for twice as much'
+                                   % (command, found))
     test.__name__ = 'time_of_' + name
     return test
 
@@ -937,7 +1043,8 @@ def linear_in_version_2(make: Callable[[int], bytes], count: int) -> Test:
 def records_of(count: int, before: bytes = b'', step: int = 1) -> bytes:
     """NULL calls with different xids, which are so far apart, each after these bytes."""
     calls = call(0, NFS, 3, 0)[4:]
-    return b''.join(b'%b\x80\0\0\x28%b%b' % (before, word(number * step % (1 << 32)), calls) for number in range(count))
+    return b''.join(b'%b\x80\0\0\x28%b%b' % (before, word(number * step % (1 << 32)), calls)
+                    for number in range(count))
 
 
 def connection(count: int) -> bytes:
@@ -956,9 +1063,10 @@ def connection_2(count: int) -> bytes:
 
 
 def orders_differ(place: Place, command: str) -> bool:
-    """Whether a large connection and then small ones take much longer than the small ones first, by the least of some rounds. A
-    run that takes far too long is ended."""
-    names = {order: (order, order) if command == 'same' else (order, '/dev/null') if command == 'canon' else (order,)
+    """Whether a large connection and then small ones take much longer than the small ones first, by
+    the least of some rounds. A run that takes far too long is ended."""
+    names = {order: (order, order) if command == 'same' else (order, '/dev/null')
+             if command == 'canon' else (order,)
              for order in ('first', 'last')}
     for _ in range(ROUNDS):
         most = MOST_IN_ANOTHER_ORDER * max(seconds(place, command, *names['last']), 0.01)
@@ -968,7 +1076,8 @@ def orders_differ(place: Place, command: str) -> bool:
     return True
 
 
-def after_a_large_connection(count: int, small: int, make: Callable[[int], bytes] = connection, magic: bytes = messages.MAGIC,
+def after_a_large_connection(count: int, small: int, make: Callable[[int], bytes] = connection,
+                             magic: bytes = messages.MAGIC,
                              commands: Sequence[str] = ('check', 'canon', 'show', 'same')) -> Test:
     """A test that a connection costs what it has, and not what the largest one before it had."""
     def test(place: Place) -> None:
@@ -977,29 +1086,34 @@ def after_a_large_connection(count: int, small: int, make: Callable[[int], bytes
         place.write('last', magic + others + large + word(0))
         for command in commands:
             if orders_differ(place, command):
-                place.wrong.append('%s takes more than %d times as long after the large connection' % (command, MOST_IN_ANOTHER_ORDER))
+                place.wrong.append('%s takes more than %d times as long after the large connection'
+                                   % (command, MOST_IN_ANOTHER_ORDER))
     test.__name__ = 'time_of_%d_calls_each_after_%d_%s' % (small, count, make.__name__)
     return test
 
 
 TESTS: list[Test] = [
     after_a_large_connection(1_000_000, 0), after_a_large_connection(1_000_000, 1),
-    after_a_large_connection(1_000_000, 1, connection_2, MAGIC_2), after_a_large_connection(2_000_000, 0, commands=('canon',)),
+    after_a_large_connection(1_000_000, 1, connection_2, MAGIC_2),
+    after_a_large_connection(2_000_000, 0, commands=('canon',)),
     after_a_large_connection(1_000_000, 5, connection_in_no_order),
     handles_chosen_against_known_words,
-    linear(xids, 1_000_000), linear(handles, 1_000_000), linear(empty_fragments, 2_000_000), linear(single_bytes, 2_000_000),
+    linear(xids, 1_000_000), linear(handles, 1_000_000), linear(empty_fragments, 2_000_000),
+    linear(single_bytes, 2_000_000),
     linear_in_version_2(in_turns, 500_000), linear_in_version_2(bytes_in_turns, 2_000_000),
-    memory_that_is_refused, memory_that_is_refused_to_version_2, memory_of_one_connection, memory_of_a_long_line,
-    memory_of_the_longest_line,
-    streams_without_an_end, lengths_with_nothing_after_them, disks_that_are_full_in_the_middle, readers_that_go_away,
+    memory_that_is_refused, memory_that_is_refused_to_version_2, memory_of_one_connection,
+    memory_of_a_long_line, memory_of_the_longest_line,
+    streams_without_an_end, lengths_with_nothing_after_them, disks_that_are_full_in_the_middle,
+    readers_that_go_away,
     standard_error_that_nobody_reads, standard_files_that_are_closed, signals_in_the_middle,
-    names_that_are_taken_in_the_middle, files_that_get_the_name_in_the_middle, runs_at_once, pipes_that_do_not_wait,
-    names_of_the_most_bytes, folders_that_no_path_names,
-    chains_of_links, outputs_that_are_refused_before_the_work, rights_on_an_output, access_control_lists,
-    rights_that_cannot_be_given_back,
-    standard_output_without_its_name, removed_files_by_their_numbers, files_of_two_devices_with_one_number,
-    outputs_on_which_something_is_mounted, many_streams_and_few_open_files, inputs_that_never_end, fifos,
-    reads_cut_at_each_length,
+    names_that_are_taken_in_the_middle, files_that_get_the_name_in_the_middle, runs_at_once,
+    pipes_that_do_not_wait, names_of_the_most_bytes, folders_that_no_path_names,
+    chains_of_links, outputs_that_are_refused_before_the_work, rights_on_an_output,
+    access_control_lists, rights_that_cannot_be_given_back,
+    standard_output_without_its_name, removed_files_by_their_numbers,
+    files_of_two_devices_with_one_number,
+    outputs_on_which_something_is_mounted, many_streams_and_few_open_files, inputs_that_never_end,
+    fifos, reads_cut_at_each_length,
     files_that_may_not_be_read, files_that_change_while_they_are_read]
 
 

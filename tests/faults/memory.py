@@ -1,11 +1,13 @@
 #!/usr/bin/env python3
-"""Runs the tests of crates/memory_tests, which the gate has built, with each growth of memory refused in turn.
+"""Runs the tests of crates/memory_tests, which the gate has built, with each growth of memory
+refused in turn.
 
     python3 tests/faults/memory.py [TESTS] [--only TEXT] [-v]
 
-TESTS is crates/memory_tests/out/memory_tests_tests if none is named. Each test holds whichever growth is refused: it is run
-with its first refused, then its second and so on, up to a run that meets none. That takes Linux on x86-64 (tracing.py), and
-elsewhere all is skipped, with a word. The last line is 'N passed, M failed', and the status is 1 if any failed.
+TESTS is crates/memory_tests/out/memory_tests_tests if none is named. Each test holds whichever
+growth is refused: it is run with its first refused, then its second and so on, up to a run that
+meets none. That takes Linux on x86-64 (tracing.py), and elsewhere all is skipped, with a word. The
+last line is 'N passed, M failed', and the status is 1 if any failed.
 """
 import concurrent.futures
 import os
@@ -17,7 +19,8 @@ from tests.shared import tracing
 from tests.shared.running import Try, ended, try_all, words_of
 from tests.shared.tracing import Fault
 
-TESTS = pathlib.Path(__file__).resolve().parents[2] / 'crates' / 'memory_tests' / 'out' / 'memory_tests_tests'
+TESTS = pathlib.Path(__file__).resolve().parents[
+    2] / 'crates' / 'memory_tests' / 'out' / 'memory_tests_tests'
 
 
 def without_each_growth(program: str, test: str) -> list[str]:
@@ -27,7 +30,8 @@ def without_each_growth(program: str, test: str) -> list[str]:
     for number in range(last + 1):
         answer = tracing.run(program, [test], '.', Fault('growth', number))
         if answer.status != 0:
-            wrong.append('without its growth %d: status %d, %s' % (number, answer.status, (answer.out + answer.error)[-300:]))
+            wrong.append('without its growth %d: status %d, %s'
+                         % (number, answer.status, (answer.out + answer.error)[-300:]))
     return wrong
 
 
@@ -36,7 +40,8 @@ def names_of(program: str) -> list[str]:
     listed = ended([program, '--list'], '.')
     if listed.status != 0:
         raise SystemExit('%s --list ended with status %d' % (program, listed.status))
-    return [line.split(': ')[0] for line in listed.out.decode().splitlines() if line.endswith(': test')]
+    return [line.split(': ')[0] for line in listed.out.decode().splitlines()
+            if line.endswith(': test')]
 
 
 def main() -> None:

@@ -1,34 +1,44 @@
 #!/usr/bin/env python3
-"""Runs every command of the built program on the captures of captures.rows and the pairs of pairs.rows.
+"""Runs every command of the built program on the captures of captures.rows and the pairs of
+pairs.rows.
 
     python3 tests/program/captures.py [PROGRAM] [--only TEXT] [-v]
 
-PROGRAM is crates/nfs3canon/out/nfs3canon if none is named. The last line is 'N passed, M failed', and the
-status is 1 if any failed.
+PROGRAM is crates/nfs3canon/out/nfs3canon if none is named. The last line is 'N passed, M failed',
+and the status is 1 if any failed.
 
-A row of captures.rows has a comment, a capture, and `line`, which `check` prints of it. The capture is one of
+A row of captures.rows has a comment, a capture, and `line`, which `check` prints of it. The capture
+is one of
 
-- `capture`: the bodies of its records, `>` from the client and `<` from the server, `|` before the next connection;
+- `capture`: the bodies of its records, `>` from the client and `<` from the server, `|` before the
+  next connection;
 - `mixed`: the same in version 2, a chunk for each record, in the order of the text;
 - `file`: all its bytes.
 
 On each row these are tried:
 
-- `check` and `canon` give that line, on the right output and with the right status, also by standard input. A refused `canon`
+- `check` and `canon` give that line, on the right output and with the right status, also by
+  standard input. A refused `canon`
   leaves nothing.
-- If it is accepted, `canon` of the canonical form writes the same bytes again, `same` of both is `same`, and `show` prints as
+- If it is accepted, `canon` of the canonical form writes the same bytes again, `same` of both is
+  `same`, and `show` prints as
   many lines as there are calls and replies.
-- If it is refused, `show` ends with that line, and `same` with it after `first: ` and `second: `. The listing of `show`, and the
+- If it is refused, `show` ends with that line, and `same` with it after `first: ` and `second: `.
+  The listing of `show`, and the
   output of `canon` on a device, are those of a capture of the messages before the fault.
-- Each record in three fragments, one of them empty, and each byte a chunk: the same answer, and the same canonical bytes.
-- The same records in the other version, the server's stream first, and byte by byte with both sides in turn: the same answer,
+- Each record in three fragments, one of them empty, and each byte a chunk: the same answer, and the
+  same canonical bytes.
+- The same records in the other version, the server's stream first, and byte by byte with both sides
+  in turn: the same answer,
   listing and canonical bytes.
-- Prefixes of the capture (all of them if the row has `fronts all`) are cut at their length, or have the fault of the whole. Of
-  version 2 the answer is that of a model (containers.py): the container's fault, or the answer of version 1 for the connections
+- Prefixes of the capture (all of them if the row has `fronts all`) are cut at their length, or have
+  the fault of the whole. Of
+  version 2 the answer is that of a model (containers.py): the container's fault, or the answer of
+  version 1 for the connections
   whose side word 0 is there.
 
-pairs.rows has two captures a row and the answer of `same` for them, tried in both orders and in both versions. Their canonical
-forms have equal bytes exactly if the answer is `same`.
+pairs.rows has two captures a row and the answer of `same` for them, tried in both orders and in
+both versions. Their canonical forms have equal bytes exactly if the answer is `same`.
 """
 import itertools
 import os
@@ -63,14 +73,17 @@ def in_fragments(body: bytes) -> bytes:
 
 
 def server_first(records: Sequence[Record]) -> list[Chunk]:
-    """Returns the chunks of a connection of version 2: the server's stream whole, and then the client's."""
+    """Returns the chunks of a connection of version 2: the server's stream whole, and then the
+    client's."""
     streams = [(side, b''.join(map(fragment, sent(records, side)))) for side in '<>']
     return [(side, stream) for side, stream in streams if stream]
 
 
 def byte_by_byte(records: Sequence[Record]) -> list[Chunk]:
-    """Returns the chunks of a connection of version 2, each a byte: one of the server, one of the client, and so on."""
-    streams = [[(side, bytes([byte])) for body in sent(records, side) for byte in in_fragments(body)] for side in '<>']
+    """Returns the chunks of a connection of version 2, each a byte: one of the server, one of the
+    client, and so on."""
+    streams = [[(side, bytes([byte])) for body in sent(records, side)
+                for byte in in_fragments(body)] for side in '<>']
     return [piece for pair in itertools.zip_longest(*streams) for piece in pair if piece]
 
 
@@ -85,8 +98,8 @@ def accepted(runs: Runs, line: str, form: bytes) -> None:
 
 
 def front_of(capture: bytes, line: str) -> tuple[bytes, int]:
-    """Returns what comes before the fault of the line, as a capture of its own, and how many of its last bytes are not reached.
-    The fault is in a record, or is the first of the container."""
+    """Returns what comes before the fault of the line, as a capture of its own, and how many of its
+    last bytes are not reached. The fault is in a record, or is the first of the container."""
     place = PLACE.match(line)
     fault = (int(place[1]), place[2], int(place[3])) if place else (0, '', 0)
     connections = list[tuple[list[bytes], list[bytes]]]()
@@ -102,7 +115,8 @@ def front_of(capture: bytes, line: str) -> tuple[bytes, int]:
 
 
 def refused(runs: Runs, capture: bytes, line: str) -> None:
-    """Tries a capture `a` that is refused. What comes before the fault is listed and written, and nothing else."""
+    """Tries a capture `a` that is refused. What comes before the fault is listed and written, and
+    nothing else."""
     if line.startswith('file '):
         runs.want('the model', Container(capture).line, line + '\n')
     front, missing = front_of(capture, line)
@@ -138,19 +152,21 @@ def cut_short(runs: Runs, capture: bytes, line: str, every: bool) -> None:
 
 
 def as_the_model(runs: Runs, container: Container, known: dict[bytes, list[Answer]]) -> None:
-    """Tries `check` and `show` on the prefix `front`, which print what the model tells. `known` has what they print of the older files so
-    far."""
+    """Tries `check` and `show` on the prefix `front`, which print what the model tells. `known` has
+    what they print of the older files so far."""
     older = container.older()
     if older not in known:
         runs.write('older', older)
         known[older] = [runs.run(command, 'older') for command in ('check', 'show')]
     for command, answer in zip(('check', 'show'), known[older]):
-        runs.want('%s of the first %d bytes' % (command, len(container.capture)), runs.run(command, 'front'),
-                  container.answer(command, answer))
+        runs.want('%s of the first %d bytes' % (command, len(container.capture)),
+                  runs.run(command, 'front'), container.answer(command, answer))
 
 
-def in_version_2(runs: Runs, text: str, line: str, form: bytes | None, orders: Iterable[Order]) -> None:
-    """Tries the same records in version 2, whose answers are the same for any order of the chunks."""
+def in_version_2(runs: Runs, text: str, line: str, form: bytes | None,
+                 orders: Iterable[Order]) -> None:
+    """Tries the same records in version 2, whose answers are the same for any order of the
+    chunks."""
     listed = runs.run('show', 'a')
     for order in orders:
         name = order.__name__
@@ -172,7 +188,8 @@ def try_capture(program: str, row: Row) -> list[str]:
             accepted(runs, line, form)
         if len(capture) <= SMALL:
             wanted = (0, line + '\n', '') if is_accepted else (2, '', line + '\n')
-            runs.want('check by standard input', runs.run('check', '/dev/stdin', stdin=capture), wanted)
+            runs.want('check by standard input', runs.run('check', '/dev/stdin', stdin=capture),
+                      wanted)
             cut_short(runs, capture, line, 'fronts' in row)
             if 'mixed' in row:
                 runs.write('older', capture_of(row['mixed']))
@@ -192,7 +209,8 @@ def try_pair(program: str, row: Row) -> list[str]:
         runs, line = Runs(program, folder), row['line']
         runs.write('a', capture_of(row['first']))
         runs.write('b', capture_of(row['second']))
-        wanted = (0, line + '\n', '') if line == 'same' else (1, line + '\n', '') if line.startswith('differ') else (2, '', line + '\n')
+        wanted = (0, line + '\n', '') if line == 'same' else (
+            1, line + '\n', '') if line.startswith('differ') else (2, '', line + '\n')
         for name, key in (('a2', 'first'), ('b2', 'second')):
             runs.write(name, mixed(map(server_first, records_of(row[key]))))
         for pair in (('a', 'b'), ('a2', 'b'), ('a', 'b2'), ('a2', 'b2')):
@@ -207,7 +225,8 @@ def try_pair(program: str, row: Row) -> list[str]:
 
 def main() -> None:
     tries = [('%s: %s' % (comment, row['line']), trial, row)
-             for trial, file in ((try_capture, 'captures.rows'), (try_pair, 'pairs.rows')) for comment, row in rows_of(file)]
+             for trial, file in ((try_capture, 'captures.rows'), (try_pair, 'pairs.rows'))
+             for comment, row in rows_of(file)]
     try_all(words_of(__doc__), tries, 2 * (os.cpu_count() or 2))
 
 

@@ -3,9 +3,10 @@
 
     python3 tests/program/fuzz.py [PROGRAM] [--seed N] [--count N]
 
-PROGRAM is crates/nfs3canon/out/nfs3canon if none is named. The captures are those of the seeds N, N + 1, .., and on each two
-of the laws below are tried, the same at each run. If one fails, its name, the capture's seed and the folder with the files
-are printed. The last line is 'N passed, M failed', and the status is 1 if any failed.
+PROGRAM is crates/nfs3canon/out/nfs3canon if none is named. The captures are those of the seeds N, N
++ 1, .., and on each two of the laws below are tried, the same at each run. If one fails, its name,
+the capture's seed and the folder with the files are printed. The last line is 'N passed, M failed',
+and the status is 1 if any failed.
 """
 import argparse
 import concurrent.futures
@@ -68,8 +69,10 @@ class Trial(Runs):
         """What `check` prints."""
         sides = [[len(side) for side in connection] for connection in self.traffic.connections]
         calls, replies = (sum(side) for side in zip((0, 0), *sides))
-        handles = {number for _, values in self.traffic.seen for kind, number in values if kind == 'handles' and number}
-        return 'ok connections=%d calls=%d replies=%d handles=%d\n' % (len(sides), calls, replies, len(handles))
+        handles = {number for _, values in self.traffic.seen for kind, number in values
+                   if kind == 'handles' and number}
+        return 'ok connections=%d calls=%d replies=%d handles=%d\n' % (len(sides), calls, replies,
+                                                                       len(handles))
 
     def want(self, what: str, got: object, wanted: object) -> None:
         if got != wanted:
@@ -101,38 +104,45 @@ def merging_two_values_parts_at_the_second(trial: Trial) -> None:
     for place, values in trial.traffic.seen:
         for value in values:
             first.setdefault(value, place)
-    kinds = [[value for value in first if value[0] == kind and value != ('handles', 0)] for kind in ('handles', 'verifiers')]
+    kinds = [[value for value in first if value[0] == kind and value != ('handles', 0)]
+             for kind in ('handles', 'verifiers')]
     known = trial.chance.choice([values for values in kinds if len(values) > 1] or [[]])
     if known:
         kept, lost = sorted(trial.chance.sample(known, 2), key=known.index)
         trial.write('merged', trial.named(trial.names.merged(*kept, lost[1])))
         pair = trial.chance.choice((('a', 'merged'), ('merged', 'a')))
-        trial.want('same', trial.answer('same', *pair), (1, b'differ at %s\n' % first[lost].encode(), ''))
+        trial.want('same', trial.answer('same', *pair),
+                   (1, b'differ at %s\n' % first[lost].encode(), ''))
 
 
 def a_line_is_shown_for_each_message(trial: Trial) -> None:
     status, listing, error = trial.answer('show', 'a')
     trial.want('show', (status, error), (0, ''))
     trial.want('lines', [b' '.join(line.split()[:3]) for line in listing.splitlines()],
-               [place.replace('connection ', '').replace('record ', '').encode() for place, _ in trial.traffic.seen])
+               [place.replace('connection ', '').replace('record ', '').encode()
+                for place, _ in trial.traffic.seen])
 
 
 def packing_the_streams_gives_the_capture(trial: Trial) -> None:
     """Each stream in chunks of 65,536 bytes and one of what is left."""
-    streams = {'%s%d' % (side, number): b''.join(map(fragment, bodies)) for number, connection in enumerate(trial.traffic.connections)
+    streams = {'%s%d' % (side, number): b''.join(map(fragment, bodies))
+               for number, connection in enumerate(trial.traffic.connections)
                for side, bodies in zip(('client', 'server'), connection)}
     for name, stream in streams.items():
         trial.write(name, stream)
     if streams:
-        sides = [[chunk(stream[at:at + 65_536]) for at in range(0, len(stream), 65_536)] for stream in streams.values()]
+        sides = [[chunk(stream[at:at + 65_536]) for at in range(0, len(stream), 65_536)]
+                 for stream in streams.values()]
         status, packed, error = trial.answer('pack', '/dev/stdout', *streams)
-        trial.want('pack', (status, packed, error), (0, b''.join(version_1(zip(sides[::2], sides[1::2]))), ''))
+        trial.want('pack', (status, packed, error),
+                   (0, b''.join(version_1(zip(sides[::2], sides[1::2]))), ''))
         trial.write('packed', packed)
         trial.want('canon of what was packed', trial.form('packed'), trial.form('a'))
 
 
 def a_flipped_bit_shows(trial: Trial) -> None:
-    """It changes the canonical bytes or is refused if it is in no renamed value, and changes nothing in a residual byte."""
+    """It changes the canonical bytes or is refused if it is in no renamed value, and changes
+    nothing in a residual byte."""
     padded, turned = trial.named(trial.names.padded()), trial.named(trial.names.turned())
     own = trial.form('a')
     for at in trial.chance.sample(range(len(trial.capture)), FLIPS):
@@ -159,7 +169,8 @@ def a_front_is_cut_or_has_the_fault(trial: Trial) -> None:
     """Of a capture, and of one with a flipped bit."""
     at, end = trial.chance.randrange(len(trial.capture)), trial.chance.randrange(len(trial.capture))
     status, _, fault = flipped(trial, at)
-    name = 'flipped' if status == 2 and not fault.endswith('AfterEnd\n') and trial.chance.random() < 0.7 else 'a'
+    name = 'flipped' if status == 2 and not fault.endswith(
+        'AfterEnd\n') and trial.chance.random() < 0.7 else 'a'
     trial.write('front', pathlib.Path(trial.folder, name).read_bytes()[:end])
     status, out, line = trial.answer('check', 'front')
     answers = {'file %d: CaptureCut\n' % end} | ({fault} if name == 'flipped' else set())
@@ -168,7 +179,8 @@ def a_front_is_cut_or_has_the_fault(trial: Trial) -> None:
 
 def version_2_changes_nothing(trial: Trial) -> None:
     """The streams of both sides in one list of chunks, cut anywhere, in any order."""
-    trial.write('mixed', in_version_2(trial.chance, streams_of(trial.chance, trial.traffic.connections)))
+    trial.write('mixed',
+                in_version_2(trial.chance, streams_of(trial.chance, trial.traffic.connections)))
     trial.want('canon of version 2', trial.form('mixed'), trial.form('a'))
     trial.want('show of version 2', trial.answer('show', 'mixed'), trial.answer('show', 'a'))
     pair = trial.chance.choice((('a', 'mixed'), ('mixed', 'a'), ('mixed', 'mixed')))
@@ -176,9 +188,10 @@ def version_2_changes_nothing(trial: Trial) -> None:
 
 
 def version_2_has_its_first_fault(trial: Trial) -> None:
-    """Of streams and of a container that may be damaged: what the container shows, or what version 1 shows of the connections whose
-    side word 0 is there."""
-    streams = [[spoilt(trial.chance, stream) for stream in pair] for pair in streams_of(trial.chance, trial.traffic.connections)]
+    """Of streams and of a container that may be damaged: what the container shows, or what version
+    1 shows of the connections whose side word 0 is there."""
+    streams = [[spoilt(trial.chance, stream) for stream in pair]
+               for pair in streams_of(trial.chance, trial.traffic.connections)]
     capture = damaged(trial.chance, in_version_2(trial.chance, streams))
     container = Container(capture)
     trial.write('mixed', capture)
@@ -193,7 +206,8 @@ def version_2_has_its_first_fault(trial: Trial) -> None:
 
 
 def spoilt(chance: random.Random, stream: bytes) -> bytes:
-    """A stream that may have a flipped bit, end early, or end with the header of a record that is too long."""
+    """A stream that may have a flipped bit, end early, or end with the header of a record that is
+    too long."""
     kind, at = chance.randrange(9), chance.randrange(len(stream) or 1)
     if kind == 0 and stream:
         return stream[:at] + bytes([stream[at] ^ 1 << chance.randrange(8)]) + stream[at + 1:]
@@ -201,14 +215,16 @@ def spoilt(chance: random.Random, stream: bytes) -> bytes:
 
 
 def damaged(chance: random.Random, capture: bytes) -> bytes:
-    """A capture that may have a flipped bit, another word in the place of a small one, end early, or go on after its end."""
+    """A capture that may have a flipped bit, another word in the place of a small one, end early,
+    or go on after its end."""
     kind, at = chance.randrange(8), chance.randrange(len(capture))
     if kind == 0:
         return capture[:at] + bytes([capture[at] ^ 1 << chance.randrange(8)]) + capture[at + 1:]
     if kind < 3:
         at = chance.choice([found.start() for found in re.finditer(rb'\0\0\0[\0-\2]', capture)])
         return capture[:at] + word(chance.randrange(4)) + capture[at + 4:]
-    return capture[:at] if kind == 3 else capture + word(0)[chance.randrange(4):] if kind == 4 else capture
+    return capture[:at] if kind == 3 else capture + word(0)[
+        chance.randrange(4):] if kind == 4 else capture
 
 
 # The words of nfs3mask without a way, and what each class is in the order of its lines.
@@ -239,19 +255,24 @@ def masked_form(trial: Trial, name: str, ways: dict[str, str], words: list[str])
 
 
 def masked_values_are_those_of_a_model(trial: Trial) -> None:
-    """Byte for byte those of a masker that goes by other layouts; the counts stay, and masking again changes nothing."""
+    """Byte for byte those of a masker that goes by other layouts; the counts stay, and masking
+    again changes nothing."""
     ways, words = drawn_mask(trial.chance)
     form = masked_form(trial, 'a', ways, words)
-    trial.want('the model', form, messages.capture(*masked_bodies(trial.traffic.connections, Masker(model_of(ways)))))
+    trial.want('the model', form,
+               messages.capture(*masked_bodies(trial.traffic.connections, Masker(model_of(ways)))))
     trial.write('masked', form)
-    trial.want('check of the masked', trial.answer('check', 'masked'), (0, trial.counts().encode(), ''))
+    trial.want('check of the masked', trial.answer('check', 'masked'),
+               (0, trial.counts().encode(), ''))
     trial.want('masked again', masked_form(trial, 'masked', ways, words), form)
 
 
 def masked_values_do_not_count(trial: Trial) -> None:
-    """Two captures that differ in them, and in names, are the same once they are masked; also of version 2."""
+    """Two captures that differ in them, and in names, are the same once they are masked; also of
+    version 2."""
     ways, words = drawn_mask(trial.chance)
-    other = list(masked_bodies(Traffic(trial.seed, Names.drawn(trial.chance)).connections, Renamer(model_of(ways), trial.chance)))
+    other = list(masked_bodies(Traffic(trial.seed, Names.drawn(trial.chance)).connections,
+                               Renamer(model_of(ways), trial.chance)))
     trial.write('other', in_version_2(trial.chance, streams_of(trial.chance, other)))
     for name in ('a', 'other'):
         trial.write('masked_' + name, masked_form(trial, name, ways, words))
@@ -267,9 +288,12 @@ def masking_and_canon_go_in_either_order(trial: Trial) -> None:
 
 
 LAWS: list[Callable[[Trial], None]] = [
-    numbers_are_those_of_the_traffic, canonical_again_is_the_same, renaming_one_to_one_keeps_the_form,
-    merging_two_values_parts_at_the_second, a_line_is_shown_for_each_message, packing_the_streams_gives_the_capture,
-    a_flipped_bit_shows, pieces_do_not_count, a_front_is_cut_or_has_the_fault, version_2_changes_nothing,
+    numbers_are_those_of_the_traffic, canonical_again_is_the_same,
+    renaming_one_to_one_keeps_the_form,
+    merging_two_values_parts_at_the_second, a_line_is_shown_for_each_message,
+    packing_the_streams_gives_the_capture,
+    a_flipped_bit_shows, pieces_do_not_count, a_front_is_cut_or_has_the_fault,
+    version_2_changes_nothing,
     version_2_has_its_first_fault, masked_values_are_those_of_a_model, masked_values_do_not_count,
     masking_and_canon_go_in_either_order]
 
@@ -289,7 +313,8 @@ def broken_by(program: str, seed: int) -> str | None:
 
 
 def main() -> None:
-    parser = argparse.ArgumentParser(description=__doc__, formatter_class=argparse.RawDescriptionHelpFormatter)
+    parser = argparse.ArgumentParser(description=__doc__,
+                                     formatter_class=argparse.RawDescriptionHelpFormatter)
     parser.add_argument('program', nargs='?', default=str(BUILT))
     parser.add_argument('--seed', type=int, default=1813)
     parser.add_argument('--count', type=int, default=4_000)
@@ -297,7 +322,8 @@ def main() -> None:
     try_one = functools.partial(broken_by, os.path.abspath(chosen.program))
     failed = 0
     with concurrent.futures.ProcessPoolExecutor(os.cpu_count()) as pool:
-        for told in pool.map(try_one, range(chosen.seed, chosen.seed + chosen.count), chunksize=CAPTURES_AT_ONCE):
+        for told in pool.map(try_one, range(chosen.seed, chosen.seed + chosen.count),
+                             chunksize=CAPTURES_AT_ONCE):
             if told:
                 failed += 1
                 print(told, flush=True)

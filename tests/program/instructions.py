@@ -1,13 +1,15 @@
 #!/usr/bin/env python3
-"""Counts the instructions of the built program, by valgrind's callgrind, and compares them with limits.
+"""Counts the instructions of the built program, by valgrind's callgrind, and compares them with
+limits.
 
     python3 tests/program/instructions.py [PROGRAM] [--only TEXT] [-v]
 
-PROGRAM is crates/nfs3canon/out/nfs3canon if none is named. Each command runs on a made capture of one megabyte; a count
-does not move with what else the machine does, as a time would. A limit is 5 % above what was counted if it was set last, so
-who makes a command slower sees it here. If a command has become faster, its limit is lowered. The counts are of the program
-alone on x86-64. If valgrind is not installed, all is left out, with a word. The last line is 'N passed, M failed', and
-the status is 1 if any failed.
+PROGRAM is crates/nfs3canon/out/nfs3canon if none is named. Each command runs on a made capture of
+one megabyte; a count does not move with what else the machine does, as a time would. A limit is 5 %
+above what was counted if it was set last, so who makes a command slower sees it here. If a command
+has become faster, its limit is lowered. The counts are of the program alone on x86-64. If valgrind
+is not installed, all is left out, with a word. The last line is 'N passed, M failed', and the
+status is 1 if any failed.
 """
 import os
 import pathlib
@@ -76,10 +78,12 @@ def words_for(command: str, name: str) -> list[str]:
 def millions(program: str, folder: pathlib.Path, command: str, name: str) -> float:
     """How many million instructions the run takes; it has to end with status 0."""
     path, words = command_of(program, words_for(command, name))
-    run = ended([path, *words], folder, before=['valgrind', '--tool=callgrind', '--callgrind-out-file=/dev/null'], limit=None)
+    run = ended([path, *words], folder, before=['valgrind', '--tool=callgrind',
+                                                '--callgrind-out-file=/dev/null'], limit=None)
     counted = re.search(rb'Collected : (\d+)', run.error)
     if run.status != 0 or not counted:
-        raise ValueError('callgrind ended with status %d, and tells no count: %r' % (run.status, run.error[-300:]))
+        raise ValueError('callgrind ended with status %d, and tells no count: %r'
+                         % (run.status, run.error[-300:]))
     return int(counted[1]) / 1e6
 
 

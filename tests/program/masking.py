@@ -1,6 +1,7 @@
 """A masker by the layouts of `tools/nfs3tools/shared/layouts.py`, with which nfs3mask is compared.
 
-It knows the classes by the names of `tools/compare`, and `raw`: the bodies of other programs and versions.
+It knows the classes by the names of `tools/compare`, and `raw`: the bodies of other programs and
+versions.
 """
 import random
 import re
@@ -18,8 +19,9 @@ SILLY_NAME = re.compile(rb'\.nfs[0-9a-f]{24}')
 
 
 def with_changing(items: Iterable[Item], is_call: bool) -> Iterator[tuple[Item, bool]]:
-    """Yields each item, and whether others may change meanwhile what it says if it is a size or a count of links: it is of a reply, in
-    the attributes of a directory, or after the word that begins wcc_data (RFC 1813, section 2.6)."""
+    """Yields each item, and whether others may change meanwhile what it says if it is a size or a
+    count of links: it is of a reply, in the attributes of a directory, or after the word that
+    begins wcc_data (RFC 1813, section 2.6)."""
     is_directory = is_wcc = False
     for item in items:
         is_wcc = is_wcc or item.name == 'before'
@@ -29,16 +31,21 @@ def with_changing(items: Iterable[Item], is_call: bool) -> Iterator[tuple[Item, 
 
 
 class Masker:
-    """Masks the bodies of messages, in the order of the capture: the numbers of values go on from body to body."""
+    """Masks the bodies of messages, in the order of the capture: the numbers of values go on from
+    body to body."""
 
     def __init__(self, mask: Mask) -> None:
         self.mask = mask
-        self.numbers: dict[str, dict[int, int]] = {name: {} for name, way in mask.items() if way is Way.NUMBER}
+        self.numbers: dict[str, dict[int, int]] = {name: {} for name, way in mask.items()
+                                                   if way is Way.NUMBER}
 
-    def class_of(self, name: str, content: bytes, is_call: bool, is_changing: bool) -> ValueClass | None:
+    def class_of(self, name: str, content: bytes, is_call: bool,
+                 is_changing: bool) -> ValueClass | None:
         """Returns the class that is masked of a value of this name, where it has one."""
-        found = next((one for one in CLASSES if one.name in self.mask and one.has(name, is_call)), None)
-        if found and (found.name == 'wcc' and not is_changing or found.name == 'sillynames' and not SILLY_NAME.fullmatch(content)):
+        found = next((one for one in CLASSES if one.name in self.mask and one.has(name, is_call)),
+                     None)
+        if found and (found.name == 'wcc' and not is_changing or found.name == 'sillynames'
+                      and not SILLY_NAME.fullmatch(content)):
             return None
         return found
 
@@ -47,7 +54,8 @@ class Masker:
         if self.mask[owner.name] is Way.ZERO or owner.keeps_zero and not any(content):
             return bytes(len(content))
         numbers = self.numbers[owner.name]
-        return numbers.setdefault(int.from_bytes(content, 'big'), len(numbers) + 1).to_bytes(len(content), 'big')
+        return numbers.setdefault(int.from_bytes(content, 'big'),
+                                  len(numbers) + 1).to_bytes(len(content), 'big')
 
     def body(self, body: bytes, is_call: bool, procedure: Procedure) -> bytes:
         """Returns the body of a well-formed message with its masked values."""
@@ -67,7 +75,8 @@ class Masker:
         for owner, item in reversed(named):
             more = put_text(out, item, self.name_in(owner))
             if length and item.name == 'machinename':
-                out[length.begin:length.end] = word(int.from_bytes(out[length.begin:length.end], 'big') + more)
+                out[length.begin:length.end] = word(int.from_bytes(out[length.begin:length.end],
+                                                                   'big') + more)
         return bytes(out)
 
     def raw(self, size: int) -> bytes:
@@ -75,12 +84,14 @@ class Masker:
         return bytes(size)
 
     def name_in(self, owner: ValueClass) -> bytes:
-        """Returns what stands for a name: of a machine, or of a file that was removed while it was open."""
+        """Returns what stands for a name: of a machine, or of a file that was removed while it was
+        open."""
         return b'' if owner.name == 'machines' else b'.nfs' + b'0' * 24
 
 
 def put_text(body: bytearray, item: Item, text: bytes) -> int:
-    """Puts a text in place of one, with its length and residual bytes, and returns how many bytes more there are."""
+    """Puts a text in place of one, with its length and residual bytes, and returns how many bytes
+    more there are."""
     begin, end = item.begin - 4, item.end + -(item.end - item.begin) % 4
     spelled = word(len(text)) + text + bytes(-len(text) % 4)
     body[begin:end] = spelled
@@ -90,14 +101,16 @@ def put_text(body: bytearray, item: Item, text: bytes) -> int:
 def masked_bodies(connections: Iterable[Bodies], masker: Masker) -> Iterator[Bodies]:
     """Returns the bodies of each connection's calls and replies, with masked values."""
     for calls, replies in connections:
-        procedures = {body[:4]: procedure_of(*(int.from_bytes(body[at:at + 4], 'big') for at in (12, 16, 20))) for body in reversed(calls)}
+        procedures = {body[:4]: procedure_of(*(int.from_bytes(body[at:at + 4], 'big')
+                                               for at in (12, 16, 20))) for body in reversed(calls)}
         first = [masker.body(body, True, procedures[body[:4]]) for body in calls]
         yield first, [masker.body(body, False, procedures[body[:4]]) for body in replies]
 
 
 class Renamer(Masker):
-    """Puts other values in the place of those of the classes: one to one if they are numbered, and any if they become zero. Any name of a
-    machine stands for another, and so does any name of a removed file, and any body of one length that is not checked."""
+    """Puts other values in the place of those of the classes: one to one if they are numbered, and
+    any if they become zero. Any name of a machine stands for another, and so does any name of a
+    removed file, and any body of one length that is not checked."""
 
     def __init__(self, mask: Mask, chance: random.Random) -> None:
         super().__init__(mask)

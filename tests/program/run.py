@@ -3,24 +3,28 @@
 
     python3 tests/program/run.py [PROGRAM] [--only TEXT] [-v]
 
-PROGRAM is crates/nfs3canon/out/nfs3canon if none is named. Each case runs in a folder of its own, and
-many run at once. The last line is 'N passed, M failed', and the status is 1 if any failed.
+PROGRAM is crates/nfs3canon/out/nfs3canon if none is named. Each case runs in a folder of its own,
+and many run at once. The last line is 'N passed, M failed', and the status is 1 if any failed.
 
-commands.cases has each command and its endings, masks.cases all of nfs3mask, lines.cases command lines that are refused, and
-files.cases the files that are left. A case begins with `case NAME`. Its other lines:
+commands.cases has each command and its endings, masks.cases all of nfs3mask, lines.cases command
+lines that are refused, and files.cases the files that are left. A case begins with `case NAME`. Its
+other lines:
 
     file NAME: HEX                       a file with these bytes is there before the program runs
-    capture NAME: > HEX < HEX | ..       a capture: `>` begins the body of a call and `<` that of a reply, each one chunk and one
+    capture NAME: > HEX < HEX | ..       a capture: `>` begins the body of a call and `<` that of a
+    reply, each one chunk and one
                                          fragment; `|` begins the next connection
     mixed NAME: > HEX < HEX | ..         the same in version 2, the chunks in the order of the text
     folder NAME, fifo NAME, symlink NAME -> TARGET, hardlink NAME -> TARGET, mode NAME OCTAL
                                          is there before, too
-    run WORD ..                          the command line without the program's name; `\\xHH` is a byte
+    run WORD ..                          the command line without the program's name; `\\xHH` is a
+    byte
     mask WORD ..                         the same of nfs3mask
     stdin NAME                           where standard input comes from
     stdout NAME, stdout >> NAME, stdout closed-pipe
                                          where standard output goes
-    status N, out LINE, err LINE         the status (0 without this line), and the lines of both outputs (none)
+    status N, out LINE, err LINE         the status (0 without this line), and the lines of both
+    outputs (none)
     err-begins TEXT                      standard error begins so and ends with exactly one newline
     holds NAME: HEX, holds-capture NAME: ..
                                          the file is there afterwards with these bytes
@@ -28,8 +32,8 @@ files.cases the files that are left. A case begins with `case NAME`. Its other l
     reads NAME: HEX                      comes out of the fifo
     gone NAME                            the file is there no more
 
-All that was there before must be there afterwards as it was, and nothing else, but for `holds` and `gone`. HEX is as in
-`texts.bytes_of`, and `#` begins a comment.
+All that was there before must be there afterwards as it was, and nothing else, but for `holds` and
+`gone`. HEX is as in `texts.bytes_of`, and `#` begins a comment.
 """
 import contextlib
 import os
@@ -58,16 +62,20 @@ def text_of(text: str) -> bytes:
     return out.replace(b'\\n', b'\n')
 
 
-MAKES: dict[str, Callable[[str], bytes]] = {'file': bytes_of, 'capture': capture_of, 'mixed': mixed_of}
-HOLDS: dict[str, Callable[[str], bytes]] = {'holds': bytes_of, 'holds-capture': capture_of, 'holds-text': text_of}
+MAKES: dict[str, Callable[[str], bytes]] = {'file': bytes_of, 'capture': capture_of,
+                                            'mixed': mixed_of}
+HOLDS: dict[str, Callable[[str], bytes]] = {'holds': bytes_of, 'holds-capture': capture_of,
+                                            'holds-text': text_of}
 
 
 class Case:
-    """A case as its lines say it: what is there before the run, the command line, and what is wanted."""
+    """A case as its lines say it: what is there before the run, the command line, and what is
+    wanted."""
 
     def __init__(self, name: str, place: str) -> None:
         self.name, self.place = name, place
-        self.making: list[tuple[str, str, str]] = []  # kind, name and target, or the digits of a mode
+        # kind, name and target, or the digits of a mode
+        self.making: list[tuple[str, str, str]] = []
         self.content: dict[str, bytes] = {}
         self.name_of_program = ''  # that of nfs3canon if it is empty
         self.args: list[bytes] = []
@@ -80,7 +88,8 @@ class Case:
 
     def add(self, key: str, value: str) -> None:
         """A line of the case."""
-        if not (self.add_before(key, value) or self.add_run(key, value) or self.add_wanted(key, value)):
+        if not (self.add_before(key, value) or self.add_run(key, value)
+                or self.add_wanted(key, value)):
             raise SystemExit('%s: no such line: %s' % (self.place, key))
 
     def add_before(self, key: str, value: str) -> bool:
@@ -211,8 +220,10 @@ def judge(case: Case, done: Ended, folder: str, before: Found, got: dict[str, by
     if not case.stdout and done.out != case.out:
         wrong.append('standard output %r, wanted %r' % (done.out[:300], case.out[:300]))
     if case.err_begins:
-        if not done.error.startswith(case.err) or done.error[-1:] != b'\n' or done.error[-2:] == b'\n\n':
-            wrong.append('standard error %r, wanted %r first and one newline last' % (done.error[:300], case.err))
+        if not done.error.startswith(case.err) or done.error[-1:] != b'\n' or done.error[
+            -2:] == b'\n\n':
+            wrong.append('standard error %r, wanted %r first and one newline last'
+                         % (done.error[:300], case.err))
     elif done.error != case.err:
         wrong.append('standard error %r, wanted %r' % (done.error[:300], case.err[:300]))
     wrong += differing(case, before, what_is_there(folder))
@@ -237,7 +248,8 @@ def run_in(case: Case, program: str, folder: str) -> Ended:
             options['stdout'] = opened.enter_context(open(pipe_without_reader(), 'wb'))
         elif case.stdout:
             mode = 'ab' if case.stdout.startswith('>>') else 'wb'
-            options['stdout'] = opened.enter_context(open(os.path.join(folder, case.stdout.lstrip('> ')), mode))
+            options['stdout'] = opened.enter_context(
+                open(os.path.join(folder, case.stdout.lstrip('> ')), mode))
         return ended([path, *case.args], folder, **options)
 
 
@@ -249,7 +261,8 @@ def run(program: str, case: Case) -> list[str]:
         got: dict[str, bytes] = {}
         readers: list[threading.Thread] = []
         for name in case.through:
-            reader = threading.Thread(target=read_fifo, args=(os.path.join(folder, name), got, name), daemon=True)
+            reader = threading.Thread(target=read_fifo,
+                                      args=(os.path.join(folder, name), got, name), daemon=True)
             reader.start()
             readers.append(reader)
         try:
@@ -263,7 +276,8 @@ def run(program: str, case: Case) -> list[str]:
 
 def main() -> None:
     cases = [case for path in sorted(HERE.glob('*.cases')) for case in cases_of(path)]
-    try_all(words_of(__doc__), [('%s (%s)' % (case.name, case.place), run, case) for case in cases], 2 * (os.cpu_count() or 2))
+    try_all(words_of(__doc__), [('%s (%s)' % (case.name, case.place), run, case) for case in cases],
+            2 * (os.cpu_count() or 2))
 
 
 if __name__ == '__main__':

@@ -3,8 +3,8 @@
 
     python3 tests/program/shipped.py [PROGRAM] [--only TEXT] [-v]
 
-PROGRAM plays no part. Each test has a copy of the repository as a clone has it, with nothing built, and no `rt` on the PATH. The
-last line is 'N passed, M failed', and the status is 1 if any failed.
+PROGRAM plays no part. Each test has a copy of the repository as a clone has it, with nothing built,
+and no `rt` on the PATH. The last line is 'N passed, M failed', and the status is 1 if any failed.
 """
 import hashlib
 import os
@@ -31,8 +31,11 @@ class Clone(Runs):
 
     def command(self, *words: str) -> Answer:
         """Returns what a command ended with. Commands of the toolchain are not found."""
-        places = [place for place in os.environ['PATH'].split(':') if not pathlib.Path(place, 'rt').exists()]
-        return ended(words, self.folder, env={**os.environ, 'PATH': ':'.join([*places, self.path('.commands')])}).text('replace')
+        places = [place for place in os.environ['PATH'].split(':')
+                  if not pathlib.Path(place, 'rt').exists()]
+        return ended(words, self.folder,
+                     env={**os.environ, 'PATH': ':'.join([*places, self.path('.commands')])}).text(
+                         'replace')
 
     def change(self, name: str) -> None:
         """Changes a file a little."""
@@ -47,7 +50,8 @@ def checksums() -> dict[str, str]:
 def the_first_answer(clone: Clone) -> None:
     """It comes at once, and the program that gives it is the one whose checksum is there."""
     begun = time.monotonic()
-    clone.want('check', clone.command('./nfs3canon', 'check', 'examples/null.nfs3cap'), (0, NULL, ''))
+    clone.want('check', clone.command('./nfs3canon', 'check', 'examples/null.nfs3cap'),
+               (0, NULL, ''))
     clone.want('seconds', time.monotonic() - begun < 2, True)
     clone.want('mask', clone.command('./nfs3mask', 'examples/null.nfs3cap', 'masked')[0], 0)
     for name in PROGRAMS:
@@ -83,7 +87,8 @@ def help_through_the_launchers(clone: Clone) -> None:
 def recordings_through_the_launchers(clone: Clone) -> None:
     """After the line of a program that got a recording, the launcher says which tool reads it. The
     status is the program's."""
-    begins = {'little': b'\xd4\xc3\xb2\xa1', 'big': b'\xa1\xb2\xc3\xd4', 'nano': b'\x4d\x3c\xb2\xa1',
+    begins = {'little': b'\xd4\xc3\xb2\xa1', 'big': b'\xa1\xb2\xc3\xd4',
+              'nano': b'\x4d\x3c\xb2\xa1',
               'big nano': b'\xa1\xb2\x3c\x4d', 'pcapng': b'\x0a\x0d\x0d\x0a'}
     for name, begin in begins.items():
         clone.write(name, begin + bytes(20))
@@ -115,29 +120,35 @@ def recordings_through_the_launchers(clone: Clone) -> None:
 
 
 def a_changed_source(clone: Clone) -> None:
-    """The program that comes with the repository does not stand for other sources: it is proved and built, which takes `rt`. Without that
-    one line says so, and the status is none that an answer has."""
-    for name in ('crates/xdr3/src/lib.rt', 'crates/canon3/specs/Renaming.antt', 'crates/line3/proofs/Lib.antt', 'crates.txt'):
+    """The program that comes with the repository does not stand for other sources: it is proved and
+    built, which takes `rt`. Without that one line says so, and the status is none that an answer
+    has."""
+    for name in ('crates/xdr3/src/lib.rt', 'crates/canon3/specs/Renaming.antt',
+                 'crates/line3/proofs/Lib.antt', 'crates.txt'):
         was = clone.read(name)
         clone.change(name)
         status, out, error = clone.command('./nfs3canon', 'check', 'examples/null.nfs3cap')
         clone.want(name, (status, out, error), (
-            3, '', 'nfs3canon: a source was changed (git status shows which), and rt, which proves and builds the program, is not there\n'))
+            3, '', 'nfs3canon: a source was changed (git status shows which), and rt, which proves '
+            'and builds the program, is not there\n'))
         clone.write(name, was or b'')
-    clone.want('changed back', clone.command('./nfs3canon', 'check', 'examples/null.nfs3cap'), (0, NULL, ''))
+    clone.want('changed back', clone.command('./nfs3canon', 'check', 'examples/null.nfs3cap'),
+               (0, NULL, ''))
 
 
 def a_source_that_plays_no_part(clone: Clone) -> None:
     """Test crates and pages are not what the programs are made of."""
     clone.change('crates/tests/src/lib.rt')
     clone.change('README.md')
-    clone.want('check', clone.command('./nfs3canon', 'check', 'examples/null.nfs3cap'), (0, NULL, ''))
+    clone.want('check', clone.command('./nfs3canon', 'check', 'examples/null.nfs3cap'),
+               (0, NULL, ''))
 
 
 def asked_to_prove(clone: Clone) -> None:
     """`--prove` does not take what comes with the repository."""
     status, out, error = clone.command('./nfs3canon', '--prove', 'check', 'examples/null.nfs3cap')
-    clone.want('prove', (status, out, error), (3, '', 'nfs3canon: rt, which proves and builds the program, is not there\n'))
+    clone.want('prove', (status, out, error),
+               (3, '', 'nfs3canon: rt, which proves and builds the program, is not there\n'))
 
 
 def a_damaged_program(clone: Clone) -> None:
@@ -146,7 +157,8 @@ def a_damaged_program(clone: Clone) -> None:
     for content in (b'', b'no program', other or b''):
         clone.write('dist/nfs3canon.xz', content)
         status, out, error = clone.command('./nfs3canon', 'check', 'examples/null.nfs3cap')
-        clone.want('damaged', (status, out, 'cannot be unpacked' in error, error.count('\n')), (3, '', True, 1))
+        clone.want('damaged', (status, out, 'cannot be unpacked' in error, error.count('\n')),
+                   (3, '', True, 1))
         clone.want('what is left', os.listdir(clone.path('crates/nfs3canon/out')), [])
 
 
@@ -155,8 +167,8 @@ AS_NOBODY = ['setpriv', f'--reuid={NOBODY}', f'--regid={NOBODY}', '--clear-group
 
 
 def a_clone_that_cannot_be_written(clone: Clone) -> None:
-    """The program is kept in the cache of the user, or in a temporary folder while it runs; without either one line says so. Each answer has
-    the status that the program has."""
+    """The program is kept in the cache of the user, or in a temporary folder while it runs; without
+    either one line says so. Each answer has the status that the program has."""
     if os.getuid() or not shutil.which('setpriv'):
         print('left out: a clone that cannot be written, since only root may try that')
         return
@@ -169,20 +181,29 @@ def a_clone_that_cannot_be_written(clone: Clone) -> None:
     os.chmod(home / 'no', 0o500)
     kept = home / 'tmp/cache/nfs3canon/programs' / checksums()['nfs3canon'] / 'nfs3canon'
     path = f'PATH={os.environ["PATH"]}'
-    cache, no_cache, temporary, no_temporary = (f'XDG_CACHE_HOME={home}/tmp/cache', f'XDG_CACHE_HOME={home}/no/cache',
+    cache, no_cache, temporary, no_temporary = (f'XDG_CACHE_HOME={home}/tmp/cache',
+                                                f'XDG_CACHE_HOME={home}/no/cache',
                                                 f'TMPDIR={home}/tmp', f'TMPDIR={home}/no')
     for variables in ([cache, no_temporary], [cache, no_temporary], [no_cache, temporary]):
         run = [*AS_NOBODY, path, *variables]
-        clone.want(f'check {variables}', clone.command(*run, './nfs3canon', 'check', 'examples/null.nfs3cap'), (0, NULL, ''))
-        same = clone.command(*run, './nfs3canon', 'same', 'examples/null.nfs3cap', 'examples/getattr.nfs3cap')
-        clone.want(f'same {variables}', (same[0], same[1].startswith('differ at '), same[2]), (1, True, ''))
-        clone.want(f'verdicts {variables}', clone.command(*run, 'tools/verdicts', 'examples/null.nfs3cap')[0], 0)
+        clone.want(f'check {variables}', clone.command(*run, './nfs3canon', 'check',
+                                                       'examples/null.nfs3cap'), (0, NULL, ''))
+        same = clone.command(*run, './nfs3canon', 'same', 'examples/null.nfs3cap',
+                             'examples/getattr.nfs3cap')
+        clone.want(f'same {variables}', (same[0], same[1].startswith('differ at '), same[2]),
+                   (1, True, ''))
+        clone.want(f'verdicts {variables}',
+                   clone.command(*run, 'tools/verdicts', 'examples/null.nfs3cap')[0], 0)
     clone.want('kept', hashlib.sha256(kept.read_bytes()).hexdigest(), checksums()['nfs3canon'])
-    clone.want('what is left', [sorted(os.listdir(home / name)) for name in ('tmp', 'no')], [['cache'], []])
+    clone.want('what is left', [sorted(os.listdir(home / name)) for name in ('tmp', 'no')],
+               [['cache'], []])
     kept.write_bytes(b'another')
-    clone.want('a damaged one', clone.command(*AS_NOBODY, path, cache, './nfs3canon', 'check', 'examples/null.nfs3cap'), (0, NULL, ''))
-    status, out, error = clone.command(*AS_NOBODY, path, no_cache, no_temporary, './nfs3canon', 'check', 'examples/null.nfs3cap')
-    clone.want('nowhere', (status, out, error.startswith('nfs3canon: '), error.count('\n')), (3, '', True, 1))
+    clone.want('a damaged one', clone.command(*AS_NOBODY, path, cache, './nfs3canon', 'check',
+                                              'examples/null.nfs3cap'), (0, NULL, ''))
+    status, out, error = clone.command(*AS_NOBODY, path, no_cache, no_temporary, './nfs3canon',
+                                       'check', 'examples/null.nfs3cap')
+    clone.want('nowhere', (status, out, error.startswith('nfs3canon: '), error.count('\n')),
+               (3, '', True, 1))
 
 
 def checked(clone: Clone) -> Answer:
@@ -191,23 +212,26 @@ def checked(clone: Clone) -> Answer:
 
 
 def a_stale_folder(clone: Clone) -> None:
-    """dev/dist --check refuses a folder that was made of other sources, a damaged one, and none. It is made anew, since
-    programs that another kit made are not compared."""
+    """dev/dist --check refuses a folder that was made of other sources, a damaged one, and none. It
+    is made anew, since programs that another kit made are not compared."""
     for name in PROGRAMS:
         os.makedirs(clone.path(f'crates/{name}/out'))
         shutil.copy2(TOP / f'crates/{name}/out/{name}', clone.path(f'crates/{name}/out/{name}'))
     clone.want('made', ended(['dev/dist'], clone.folder, limit=None).text(), (0, '', ''))
     clone.want('as it is', checked(clone)[::2], (0, ''))
     clone.write('crates/nfs3mask/out/nfs3mask', b'another')
-    clone.want('another program', checked(clone), (1, '', 'dev/dist: dist/nfs3mask.xz is not the program that was built here\n'))
+    clone.want('another program', checked(clone),
+               (1, '', 'dev/dist: dist/nfs3mask.xz is not the program that was built here\n'))
     clone.change('crates/xdr3/src/lib.rt')
-    clone.want('stale', checked(clone), (1, '', 'dev/dist: dist/ is not made of these sources: run dev/dist\n'))
+    clone.want('stale', checked(clone),
+               (1, '', 'dev/dist: dist/ is not made of these sources: run dev/dist\n'))
     shutil.rmtree(clone.path('dist'))
     clone.want('none', checked(clone), (1, '', 'dev/dist: dist/ is not made: run dev/dist\n'))
 
 
 def another_kit(clone: Clone) -> None:
-    """Programs that another kit made may differ in their bytes, so they are not compared, and that is said."""
+    """Programs that another kit made may differ in their bytes, so they are not compared, and that
+    is said."""
     made = (clone.read('dist/MADE-OF') or b'').decode()
     clone.write('dist/MADE-OF', re.sub('^kit .*', 'kit another', made, flags=re.M).encode())
     status, out, error = checked(clone)
@@ -215,7 +239,8 @@ def another_kit(clone: Clone) -> None:
 
 
 def what_was_built_here(clone: Clone) -> None:
-    """dist/ of this repository is made of its sources, and has the programs that were built here."""
+    """dist/ of this repository is made of its sources, and has the programs that were built
+    here."""
     clone.want('dist', ended(['dev/dist', '--check'], TOP, limit=None).text()[::2], (0, ''))
 
 
@@ -226,22 +251,24 @@ def a_release(clone: Clone) -> None:
     for archive in pathlib.Path(clone.path('release')).glob('*.tar.xz'):
         with tarfile.open(archive) as tar:
             for name in PROGRAMS:
-                file = tar.extractfile(f'{archive.name.removesuffix(".tar.xz")}/libexec/nfs3canon/{name}')
-                clone.want(name, file and hashlib.sha256(file.read()).hexdigest(), checksums()[name])
+                file = tar.extractfile(
+                    f'{archive.name.removesuffix(".tar.xz")}/libexec/nfs3canon/{name}')
+                clone.want(name, file and hashlib.sha256(file.read()).hexdigest(),
+                           checksums()[name])
 
 
 TESTS: tuple[Callable[[Clone], None], ...] = (
     the_first_answer, tools_at_once, help_through_the_launchers, recordings_through_the_launchers,
     a_changed_source, a_source_that_plays_no_part, asked_to_prove, a_damaged_program,
-    a_clone_that_cannot_be_written, a_stale_folder,
-    another_kit, what_was_built_here, a_release)
+    a_clone_that_cannot_be_written, a_stale_folder, another_kit, what_was_built_here, a_release)
 
 
 def tried(program: str, test: Callable[[Clone], None]) -> list[str]:
     """What is wrong in a test, which has a clone of its own."""
     with tempfile.TemporaryDirectory(prefix='nfs3canon') as folder:
         top = pathlib.Path(folder, 'clone')
-        shutil.copytree(TOP, top, symlinks=True, ignore=shutil.ignore_patterns('out', '.git', '__pycache__'))
+        shutil.copytree(TOP, top, symlinks=True,
+                        ignore=shutil.ignore_patterns('out', '.git', '__pycache__'))
         clone = Clone(program, str(top))
         test(clone)
         return clone.wrong

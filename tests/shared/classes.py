@@ -1,4 +1,5 @@
-"""The table of classes of masked values: their names and their usual ways, in order, and the texts that list them."""
+"""The table of classes of masked values: their names and their usual ways, in order, and the texts
+that list them."""
 import pathlib
 import re
 
@@ -21,16 +22,20 @@ TABLES = {
 
 def usual_ways() -> dict[str, str]:
     """The usual way of each class, by its name."""
-    rows = re.findall(r'^row \w+ = record \{ place = (\d+); name = codes "(\w+)"; usual = (\w+) \}$', TABLE.read_text(), re.M)
+    rows = re.findall(
+        r'^row \w+ = record \{ place = (\d+); name = codes "(\w+)"; usual = (\w+) \}$',
+        TABLE.read_text(), re.M)
     assert [int(place) for place, _, _ in rows] == list(range(len(rows)))
     return {name: way.lower() for _, name, way in rows}
 
 
 def listed() -> dict[str, list[str]]:
     """The names in each text that lists them."""
-    return {path: re.findall(r'[a-z]+', ''.join(re.findall(form, (TOP / path).read_text()))) for path, form in LISTS.items()}
+    return {path: re.findall(r'[a-z]+', ''.join(re.findall(form, (TOP / path).read_text())))
+            for path, form in LISTS.items()}
 
 
 def with_ways() -> dict[str, dict[str, str]]:
     """The usual ways in each text that tells them."""
-    return {path: dict(re.findall(form, (TOP / path).read_text(), re.M)) for path, form in TABLES.items()}
+    return {path: dict(re.findall(form, (TOP / path).read_text(), re.M))
+            for path, form in TABLES.items()}

@@ -1,6 +1,8 @@
-"""What a capture shows by its container alone: a model beside the program's, which looks into no record, and the reader of the tests.
+"""What a capture shows by its container alone: a model beside the program's, which looks into no
+record, and the reader of the tests.
 
-It does not use the reader of tools/nfs3tools/recordings/container.py, which tells neither the place of a fault nor its reason.
+It does not use the reader of tools/nfs3tools/recordings/container.py, which tells neither the place
+of a fault nor its reason.
 """
 from dataclasses import dataclass, field
 from typing import NoReturn, TypeVar
@@ -23,15 +25,15 @@ def no_streams() -> Streams:
 
 @dataclass
 class Connection:
-    """The streams of the client and of the server, as far as they can be looked at, and how many of them are whole. In version 2 none
-    can be looked at before the side word 0."""
+    """The streams of the client and of the server, as far as they can be looked at, and how many of
+    them are whole. In version 2 none can be looked at before the side word 0."""
     streams: Streams = field(default_factory=no_streams)
     whole: int = 0
 
 
 class Container:
-    """A capture, read up to the first fault of its container: `connections` has each whose word 1 is there, and `line` is the fault, or
-    None."""
+    """A capture, read up to the first fault of its container: `connections` has each whose word 1
+    is there, and `line` is the fault, or None."""
 
     def __init__(self, capture: bytes) -> None:
         self.capture, self.at, self.total = capture, 0, 0
@@ -47,7 +49,8 @@ class Container:
         for wanted in zip(MAGIC, MAGIC_2):
             if self.taken(1)[0] not in wanted:
                 self.refuse(self.at - 1, 'BadMagic')
-        read_connection = self.read_version_2 if self.capture.startswith(MAGIC_2) else self.read_version_1
+        read_connection = self.read_version_2 if self.capture.startswith(
+            MAGIC_2) else self.read_version_1
         while self.word(1):
             if len(self.connections) == MOST_CONNECTIONS:
                 self.refuse(self.at - 4, 'TooManyConnections')
@@ -81,7 +84,8 @@ class Container:
         return number
 
     def length(self, least: int) -> int:
-        """Reads a length word, which is at least `least`, and adds it to the bytes of all streams."""
+        """Reads a length word, which is at least `least`, and adds it to the bytes of all
+        streams."""
         number = int.from_bytes(self.taken(4), 'big')
         self.total += number
         if number < least:
@@ -106,17 +110,21 @@ class Container:
         return [connection.streams for connection in self.connections if connection.whole == 2]
 
     def older(self) -> bytes:
-        """Returns the connections that are whole as a capture of version 1, a chunk for each stream."""
-        return b''.join(version_1((in_one(client), in_one(server)) for client, server in self.whole()))
+        """Returns the connections that are whole as a capture of version 1, a chunk for each
+        stream."""
+        return b''.join(version_1((in_one(client), in_one(server))
+                                  for client, server in self.whole()))
 
     def answer(self, command: str, older: tuple[int, Out, str]) -> tuple[int, Out, str]:
-        """Returns the status and the outputs of a command for a capture of version 2, from those for `older`. `canon` writes to standard
-        output. A record's fault is known at its connection's side word 0, and so before the container's."""
+        """Returns the status and the outputs of a command for a capture of version 2, from those
+        for `older`. `canon` writes to standard output. A record's fault is known at its
+        connection's side word 0, and so before the container's."""
         status, out, _ = older
         if status != 0 or self.line is None:
             return older
         if isinstance(out, bytes) and command == 'canon':
-            return 2, out[:-4] + word(1) * (len(self.connections) - len(self.whole())) if self.connections else b'', self.line
+            return (2, out[:-4] + word(1) * (len(self.connections) - len(self.whole()))
+                    if self.connections else b'', self.line)
         return 2, out if command == 'show' else out[:0], self.line
 
 

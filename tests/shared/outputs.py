@@ -21,8 +21,9 @@ Found = dict[str, tuple[str, object]]
 
 @dataclass(frozen=True)
 class Setting:
-    """A command line, and what its output is: links, devices and fifos that are made beside the files `a`, `out`, `c` and `s`, and where
-    standard output goes: to the file `stdout`, which is appended to, into a pipe, or to a file of the test."""
+    """A command line, and what its output is: links, devices and fifos that are made beside the
+    files `a`, `out`, `c` and `s`, and where standard output goes: to the file `stdout`, which is
+    appended to, into a pipe, or to a file of the test."""
     line: str
     written: str  # the file that has the output afterwards; standard output if it is empty
     made: tuple[tuple[str, str, str], ...] = ()
@@ -35,7 +36,8 @@ SETTINGS = {
     'a file': Setting('canon a out', 'out'),
     'a new name': Setting('canon a new', 'new'),
     'a link': Setting('canon a link', 'out', (('symlink', 'link', 'out'),)),
-    'a link to a link': Setting('canon a far', 'out', (('symlink', 'link', './out'), ('symlink', 'far', 'link'))),
+    'a link to a link': Setting('canon a far', 'out',
+                                (('symlink', 'link', './out'), ('symlink', 'far', 'link'))),
     'a link to nothing': Setting('canon a link', '', (('symlink', 'link', 'absent'),), status=3),
     'a device': Setting('canon a node', 'node', (('device', 'node', ''),)),
     'a fifo': Setting('canon a fifo', 'fifo', (('fifo', 'fifo', ''),)),
@@ -43,7 +45,8 @@ SETTINGS = {
     'the file that standard output is': Setting('canon a out', 'out', stdout='out'),
     'standard output, a pipe': Setting('canon a /dev/stdout', '', stdout='pipe'),
     'standard output by its number, a pipe': Setting('canon a /proc/self/fd/1', '', stdout='pipe'),
-    'standard output by its number, a file': Setting('canon a /proc/self/fd/1', 'out', stdout='out'),
+    'standard output by its number, a file': Setting('canon a /proc/self/fd/1', 'out',
+                                                     stdout='out'),
     'standard output that is closed': Setting('canon a /dev/stdout', '', closed=(1,), status=4),
     'the input': Setting('canon a ./a', 'a', status=4),
     'a link to the input': Setting('canon a link', '', (('symlink', 'link', 'a'),), status=4),
@@ -57,10 +60,14 @@ SETTINGS = {
     'standard output of streams': Setting('pack /dev/stdout c s', 'out', stdout='out'),
     'a stream': Setting('pack ./s c s', '', status=4),
     'the fourth stream': Setting('pack ./s c c c s', '', status=4),
-    'a hard link to the fourth stream': Setting('pack link c c c s', '', (('hardlink', 'link', 's'),), status=4),
-    'a link to the fourth stream': Setting('pack link c c c s', '', (('symlink', 'link', 's'),), status=4),
-    'a stream by standard input, which is closed': Setting('pack new c /dev/stdin', '', closed=(0,), status=4),
-    'a file, and standard input is closed': Setting('pack out c /dev/stdin', '', closed=(0,), status=4),
+    'a hard link to the fourth stream': Setting('pack link c c c s', '',
+                                                (('hardlink', 'link', 's'),), status=4),
+    'a link to the fourth stream': Setting('pack link c c c s', '', (('symlink', 'link', 's'),),
+                                           status=4),
+    'a stream by standard input, which is closed': Setting('pack new c /dev/stdin', '', closed=(0,),
+                                                           status=4),
+    'a file, and standard input is closed': Setting('pack out c /dev/stdin', '', closed=(0,),
+                                                    status=4),
 }
 
 
@@ -104,7 +111,8 @@ def is_possible(setting: Setting) -> bool:
     return os.geteuid() == 0 or all(kind != 'device' for kind, _, _ in setting.made)
 
 
-def run(program: str, folder: str, setting: Setting, fault: Optional[Fault] = None) -> tuple[Answer, bytes]:
+def run(program: str, folder: str, setting: Setting,
+        fault: Optional[Fault] = None) -> tuple[Answer, bytes]:
     """A traced run, and what came through the pipe or the fifo."""
     through, out = None, None
     if setting.stdout == 'pipe':
@@ -114,7 +122,8 @@ def run(program: str, folder: str, setting: Setting, fault: Optional[Fault] = No
     elif ('fifo', 'fifo', '') in setting.made:
         through = os.open(os.path.join(folder, 'fifo'), os.O_RDWR)
     try:
-        answer = tracing.run(*command_of(program, setting.line.split()), folder, fault, stdout=out, closed=setting.closed)
+        answer = tracing.run(*command_of(program, setting.line.split()), folder, fault, stdout=out,
+                             closed=setting.closed)
         return answer, drained(through)
     finally:
         for file in (through, out):

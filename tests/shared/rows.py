@@ -1,4 +1,5 @@
-"""The rows of tests/program/captures.rows and pairs.rows; tests/program/captures.py has their form."""
+"""The rows of tests/program/captures.rows and pairs.rows; tests/program/captures.py has their
+form."""
 import pathlib
 from collections.abc import Callable
 
@@ -28,5 +29,6 @@ def rows_of(name: str) -> list[tuple[str, Row]]:
 
 def capture_in(row: Row) -> bytes:
     """Returns the capture of a row, however it is written there."""
-    makes: dict[str, Callable[[str], bytes]] = {'capture': capture_of, 'mixed': mixed_of, 'file': bytes_of}
+    makes: dict[str, Callable[[str], bytes]] = {'capture': capture_of, 'mixed': mixed_of,
+                                                'file': bytes_of}
     return next(make(row[key]) for key, make in makes.items() if key in row)

@@ -1,6 +1,7 @@
 """What the scripts of this folder share: how they run programs, their words, and their count.
 
-Each program is started by `begin`, and `ended` is a run to its end. `Runs` has the built program and a folder for it.
+Each program is started by `begin`, and `ended` is a run to its end. `Runs` has the built program
+and a folder for it.
 """
 import argparse
 import concurrent.futures
@@ -11,14 +12,16 @@ import select
 import subprocess
 import sys
 import tempfile
+import unittest
 from collections.abc import Callable, Iterable, Mapping, Sequence
-from typing import IO, NamedTuple, TypeVar, TypedDict, Unpack
+from typing import IO, NamedTuple, NoReturn, TypeVar, TypedDict, Unpack
 
 BUILT = pathlib.Path(__file__).resolve().parents[2] / 'crates/nfs3canon/out/nfs3canon'
 LIMIT = 60  # the seconds that a run may take if nothing else is said
 
 Answer = tuple[int, str, str]  # the status and both outputs of a run
-Try = tuple[str, Callable[..., list[str]], *tuple[object, ...]]  # a name, what to call, and what to call it with after the program
+# a name, what to call, and what to call it with after the program
+Try = tuple[str, Callable[..., list[str]], *tuple[object, ...]]
 
 
 class Ended(NamedTuple):
@@ -28,7 +31,8 @@ class Ended(NamedTuple):
     error: bytes
 
     def text(self, errors: str = 'strict') -> Answer:
-        """The same with both outputs as text; `errors` says what becomes of bytes of standard output that are no text."""
+        """The same with both outputs as text; `errors` says what becomes of bytes of standard
+        output that are no text."""
         return self.status, self.out.decode(errors=errors), self.error.decode()
 
 
@@ -39,19 +43,26 @@ class RunOptions(TypedDict, total=False):
     stdout: int | IO[bytes]  # where its outputs go
     stderr: int | IO[bytes]
     env: Mapping[str, str]  # instead of the variables of the tests
-    user: int  # whose rights it has, and those of the group with the same number; root alone may say so
+    # whose rights it has, and those of the group with the same number; root alone may say so
+    user: int
     prepare: Callable[[], object]  # is called in the new process before the program begins
     limit: float | None  # the seconds that it may take; None for as many as it likes
 
 
-def begin(words: Sequence[str | bytes], folder: str | pathlib.Path, **options: Unpack[RunOptions]) -> subprocess.Popen[bytes]:
-    """Begins a run in a folder. Bytes for its standard input are not written here, but go into a pipe."""
+def begin(words: Sequence[str | bytes], folder: str | pathlib.Path,
+          **options: Unpack[RunOptions]) -> subprocess.Popen[bytes]:
+    """Begins a run in a folder. Bytes for its standard input are not written here, but go into a
+    pipe."""
     stdin, user = options.get('stdin'), options.get('user')
-    source: int | IO[bytes] = subprocess.DEVNULL if stdin is None else subprocess.PIPE if isinstance(stdin, bytes) else stdin
+    source: int | IO[
+        bytes] = subprocess.DEVNULL if stdin is None else subprocess.PIPE if isinstance(
+            stdin, bytes) else stdin
     return subprocess.Popen(
         [*options.get('before', ()), *words], cwd=folder, stdin=source,
-        stdout=options.get('stdout', subprocess.PIPE), stderr=options.get('stderr', subprocess.PIPE), env=options.get('env'),
-        user=user, group=user, extra_groups=None if user is None else [], preexec_fn=options.get('prepare'))
+        stdout=options.get('stdout', subprocess.PIPE),
+        stderr=options.get('stderr', subprocess.PIPE), env=options.get('env'),
+        user=user, group=user, extra_groups=None if user is None else [],
+        preexec_fn=options.get('prepare'))
 
 
 def pipe_of(pipe: IO[bytes] | None) -> IO[bytes]:
@@ -61,7 +72,8 @@ def pipe_of(pipe: IO[bytes] | None) -> IO[bytes]:
 
 
 def pipe_without_reader() -> int:
-    """Where to write to a pipe that nobody reads. A child that another thread begins has its other end too, until it execs."""
+    """Where to write to a pipe that nobody reads. A child that another thread begins has its other
+    end too, until it execs."""
     reader, writer = os.pipe()
     os.close(reader)
     waiting = select.poll()
@@ -71,7 +83,8 @@ def pipe_without_reader() -> int:
     return writer
 
 
-def ended(words: Sequence[str | bytes], folder: str | pathlib.Path, **options: Unpack[RunOptions]) -> Ended:
+def ended(words: Sequence[str | bytes], folder: str | pathlib.Path,
+          **options: Unpack[RunOptions]) -> Ended:
     """Returns what a run in a folder ended with.
 
     Raises `subprocess.TimeoutExpired` if it takes too long.
@@ -79,7 +92,8 @@ def ended(words: Sequence[str | bytes], folder: str | pathlib.Path, **options: U
     stdin = options.get('stdin')
     with begin(words, folder, **options) as process:
         try:
-            out, error = process.communicate(stdin if isinstance(stdin, bytes) else None, options.get('limit', LIMIT))
+            out, error = process.communicate(stdin if isinstance(stdin, bytes) else None,
+                                             options.get('limit', LIMIT))
         except BaseException:
             process.kill()
             raise
@@ -142,7 +156,8 @@ class Runs:
         self.want('canon ' + name, self.run('canon', name, name + '.out'), wanted)
         form = self.read(name + '.out')
         self.want('what canon made of ' + name, form is not None, accepted)
-        self.want('what canon left beside it', [other for other in self.names() if other.startswith('.')], [])
+        self.want('what canon left beside it',
+                  [other for other in self.names() if other.startswith('.')], [])
         return form
 
 
@@ -156,19 +171,24 @@ class Words(argparse.Namespace):
 
 
 def program_named(name: str, program: str | pathlib.Path = BUILT) -> str:
-    """The path of a program of this repository, if `program` is that of nfs3canon: what is built for its own crate, or beside it."""
+    """The path of a program of this repository, if `program` is that of nfs3canon: what is built
+    for its own crate, or beside it."""
     path = pathlib.Path(program)
-    return str(path.parents[2] / name / 'out' / name if path.parent.name == 'out' else path.parent / name)
+    return str(path.parents[2] / name / 'out' / name if path.parent.name == 'out' else path.parent
+               / name)
 
 
 def command_of(program: str, words: Sequence[str]) -> tuple[str, Sequence[str]]:
-    """The path and the words of a command line that begins with the name of a program, or has the words of nfs3canon."""
-    return (program_named(words[0], program), words[1:]) if words and words[0] == 'nfs3mask' else (program, words)
+    """The path and the words of a command line that begins with the name of a program, or has the
+    words of nfs3canon."""
+    return (program_named(words[0], program), words[1:]) if words and words[0] == 'nfs3mask' else (
+        program, words)
 
 
 def words_of(text: str | None, built: str | pathlib.Path = BUILT) -> Words:
     """PROGRAM, as a path, or the one built, `--only` and `-v`; the text is the help."""
-    parser = argparse.ArgumentParser(description=text, formatter_class=argparse.RawDescriptionHelpFormatter)
+    parser = argparse.ArgumentParser(description=text,
+                                     formatter_class=argparse.RawDescriptionHelpFormatter)
     parser.add_argument('program', nargs='?', default=str(built))
     parser.add_argument('--only', default='')
     parser.add_argument('-v', action='store_true')
@@ -180,10 +200,12 @@ def words_of(text: str | None, built: str | pathlib.Path = BUILT) -> Words:
 # --- Tries ---
 
 R = TypeVar('R', bound=Runs)
+MakePool = Callable[[int | None], concurrent.futures.Executor]
 
 
 def tried(program: str, make: Callable[[str, str], R], test: Callable[[R], object]) -> list[str]:
-    """What is wrong in a test, which has a folder of its own. So is a failed call of the system, and a run that takes too long."""
+    """What is wrong in a test, which has a folder of its own. So is a failed call of the system,
+    and a run that takes too long."""
     with tempfile.TemporaryDirectory(prefix='nfs3canon') as folder:
         place = make(program, folder)
         try:
@@ -193,28 +215,36 @@ def tried(program: str, make: Callable[[str, str], R], test: Callable[[R], objec
         return place.wrong
 
 
-def try_tests(doc: str | None, make: Callable[[str, str], R], tests: Iterable[Callable[[R], object]],
-              make_pool: Callable[[int | None], concurrent.futures.Executor] = concurrent.futures.ThreadPoolExecutor) -> None:
-    """Tries tests, each with runs in a folder of its own, as many at once as there are processors."""
-    try_all(words_of(doc), [(test.__name__, tried, make, test) for test in tests], os.cpu_count(), make_pool)
+def try_tests(doc: str | None, make: Callable[[str, str], R],
+              tests: Iterable[Callable[[R], object]],
+              make_pool: MakePool = concurrent.futures.ThreadPoolExecutor) -> NoReturn:
+    """Tries tests, each with runs in a folder of its own, as many at once as there are
+    processors."""
+    try_all(words_of(doc), [(test.__name__, tried, make, test) for test in tests], os.cpu_count(),
+            make_pool)
 
 
-def one(program: str, it: Try) -> list[str]:
-    """What is wrong with one try."""
-    return it[1](program, *it[2:])
+def one(program: str, it: Try) -> list[str] | None:
+    """What is wrong with one try, or None if it is left out, which is said."""
+    try:
+        return it[1](program, *it[2:])
+    except unittest.SkipTest as why:
+        print(f'{it[0]}: left out: {why}', flush=True)
+        return None
 
 
 def try_all(words: Words, tries: Iterable[Try], count: int | None,
-            make_pool: Callable[[int | None], concurrent.futures.Executor] = concurrent.futures.ThreadPoolExecutor) -> None:
-    """Tries those whose name has the text of `--only`, `count` of them at once, and ends the script. What a try calls returns the list of
-    what is wrong."""
-    chosen, failed = [it for it in tries if words.only in it[0]], 0
+            make_pool: MakePool = concurrent.futures.ThreadPoolExecutor) -> NoReturn:
+    """Tries those whose name has the text of `--only`, `count` of them at once, and ends the
+    script. What a try calls returns the list of what is wrong."""
+    chosen, passed, failed = [it for it in tries if words.only in it[0]], 0, 0
     with make_pool(count) as pool:
-        for (name, *_), wrong in zip(chosen, pool.map(functools.partial(one, words.program), chosen)):
-            failed += bool(wrong)
+        for (name, *_), wrong in zip(chosen,
+                                     pool.map(functools.partial(one, words.program), chosen)):
+            failed, passed = failed + bool(wrong), passed + (wrong == [])
             if wrong:
                 print('FAILED %s: %s' % (name, '; '.join(wrong[:9])), flush=True)
-            elif words.v:
+            elif words.v and wrong is not None:
                 print('ok %s' % name, flush=True)
-    print('%d passed, %d failed' % (len(chosen) - failed, failed))
-    sys.exit(1 if failed or not chosen else 0)
+    print('%d passed, %d failed' % (passed, failed))
+    sys.exit(1 if failed or not passed else 0)

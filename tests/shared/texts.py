@@ -24,9 +24,12 @@ WORDS = {
     'NONE': '0000000000000000',
     # mtype 1, MSG_ACCEPTED, AUTH_NONE without a body, SUCCESS
     'SUCCESS': '0000000100000000000000000000000000000000',
-    # fattr3 (RFC 1813, section 2.5): a folder, mode 755, two links, 4,096 bytes, file system 1, file 2
-    'ATTRIBUTES': '00000002000001ed000000020000000000000000' '00000000000010000000000000001000' '0000000000000000'
-                  '00000000000000010000000000000002' '000000010000000000000001000000000000000100000000',
+    # fattr3 (RFC 1813, section 2.5): a folder, mode 755, two links, 4,096 bytes, file system 1,
+    # file 2
+    'ATTRIBUTES': '00000002000001ed000000020000000000000000' '00000000000010000000000000001000'
+    '0000000000000000'
+                  '00000000000000010000000000000002'
+    '000000010000000000000001000000000000000100000000',
 }
 
 
@@ -43,8 +46,10 @@ def bytes_of(text: str) -> bytes:
 
 
 def records_of(text: str) -> list[list[Record]]:
-    """Returns the records of each connection in the order of the text. `>` begins a call's body, `<` a reply's, `|` the next connection."""
-    return [[(side, bytes_of(body)) for side, body in re.findall(r'([<>])([^<>]*)', connection)] for connection in text.split('|')]
+    """Returns the records of each connection in the order of the text. `>` begins a call's body,
+    `<` a reply's, `|` the next connection."""
+    return [[(side, bytes_of(body)) for side, body in re.findall(r'([<>])([^<>]*)', connection)]
+            for connection in text.split('|')]
 
 
 def sent(records: Iterable[Record], mine: str) -> list[bytes]:
@@ -53,15 +58,19 @@ def sent(records: Iterable[Record], mine: str) -> list[bytes]:
 
 
 def capture_of(text: str, chunks: Callable[[bytes], bytes] = record) -> bytes:
-    """Returns a capture of version 1 of these records; `chunks` makes the chunks of a record from its body."""
-    return b''.join(version_1((map(chunks, sent(records, '>')), map(chunks, sent(records, '<'))) for records in records_of(text)))
+    """Returns a capture of version 1 of these records; `chunks` makes the chunks of a record from
+    its body."""
+    return b''.join(version_1((map(chunks, sent(records, '>')), map(chunks, sent(records, '<')))
+                              for records in records_of(text)))
 
 
 def mixed_of(text: str) -> bytes:
-    """Returns a capture of version 2 of these records, each a chunk and a fragment; the chunks are in the order of the text."""
+    """Returns a capture of version 2 of these records, each a chunk and a fragment; the chunks are
+    in the order of the text."""
     return mixed([(side, fragment(body)) for side, body in records] for records in records_of(text))
 
 
 def mixed(connections: Iterable[Iterable[Chunk]]) -> bytes:
     """Returns a capture of version 2 of connections, each a list of its chunks."""
-    return b''.join(version_2((SIDE_WORDS[side] + chunk(content) for side, content in chunks) for chunks in connections))
+    return b''.join(version_2((SIDE_WORDS[side] + chunk(content) for side, content in chunks)
+                              for chunks in connections))

@@ -1,9 +1,10 @@
-"""Runs of a program in which one growth of memory is refused, or one call of the system fails, or moves less than was asked for, or comes
-after something else was done.
+"""Runs of a program in which one growth of memory is refused, or one call of the system fails, or
+moves less than was asked for, or comes after something else was done.
 
-The program runs traced, as under a debugger (ptrace(2)), by Python's standard library alone; on Linux and x86-64 only. What is
-counted begins when the loader has ended. Growths are the program's own calls of malloc and realloc: their slots in its table of
-imported functions get addresses at which nothing is, so each call stops there.
+The program runs traced, as under a debugger (ptrace(2)), by Python's standard library alone; on
+Linux and x86-64 only. What is counted begins when the loader has ended. Growths are the program's
+own calls of malloc and realloc: their slots in its table of imported functions get addresses at
+which nothing is, so each call stops there.
 """
 import ctypes
 import errno
@@ -22,9 +23,11 @@ from tests.shared.running import begin
 LIBC = ctypes.CDLL(None, use_errno=True)
 LIBC.ptrace.argtypes = [ctypes.c_long, ctypes.c_long, ctypes.c_void_p, ctypes.c_void_p]
 LIBC.ptrace.restype = ctypes.c_long
-TRACE_ME, RESUME, GET_REGISTERS, SET_REGISTERS, RESUME_TO_CALL, SET_OPTIONS = 0, 7, 12, 13, 24, 0x4200
+TRACE_ME, RESUME, GET_REGISTERS, SET_REGISTERS, RESUME_TO_CALL, SET_OPTIONS = (
+    0, 7, 12, 13, 24, 0x4200)
 MARK_CALLS, KILL_WITH_TRACER = 0x1, 0x100000
-REGISTERS = ('r15 r14 r13 r12 rbp rbx r11 r10 r9 r8 rax rcx rdx rsi rdi orig_rax rip cs eflags rsp ss fs_base gs_base ds es fs '
+REGISTERS = ('r15 r14 r13 r12 rbp rbx r11 r10 r9 r8 rax rcx rdx rsi rdi orig_rax rip cs eflags rsp '
+             'ss fs_base gs_base ds es fs '
              'gs').split()
 ENTRY_OF_PROGRAM = 9  # the kind of the word in /proc/PID/auxv
 BREAKPOINT = b'\xcc'
@@ -32,10 +35,14 @@ GROWING = ('malloc', 'realloc', 'calloc', 'aligned_alloc', 'posix_memalign')
 NOWHERE = 16  # Addresses below the least that may be mapped, so many bytes apart.
 # Calls of the system by their numbers: what they do with a file that is open, and then with names.
 MOVING = {0: 'read', 1: 'write'}
-KINDS = {**MOVING, 74: 'sync', 75: 'sync', 4: 'stat', 5: 'stat', 6: 'stat', 262: 'stat', 332: 'stat', 2: 'open', 257: 'open',
-         86: 'link', 265: 'link', 82: 'rename', 264: 'rename', 316: 'rename', 87: 'unlink', 263: 'unlink', 89: 'readlink',
-         267: 'readlink', 90: 'mode', 91: 'mode', 268: 'mode', 92: 'owner', 93: 'owner', 94: 'owner', 260: 'owner', 318: 'random'}
-WITH_FOLDERS = range(257, 333)  # Calls whose first argument is a folder, and whose second is a name.
+KINDS = {**MOVING, 74: 'sync', 75: 'sync', 4: 'stat', 5: 'stat', 6: 'stat', 262: 'stat',
+         332: 'stat', 2: 'open', 257: 'open',
+         86: 'link', 265: 'link', 82: 'rename', 264: 'rename', 316: 'rename', 87: 'unlink',
+         263: 'unlink', 89: 'readlink',
+         267: 'readlink', 90: 'mode', 91: 'mode', 268: 'mode', 92: 'owner', 93: 'owner',
+         94: 'owner', 260: 'owner', 318: 'random'}
+# Calls whose first argument is a folder, and whose second is a name.
+WITH_FOLDERS = range(257, 333)
 NO_WAIT = 1  # A flag of getrandom: the C library asks so for itself, and does without.
 STANDARD_ERROR = 2
 MOST_OF_A_NAME = 32  # bytes, of those that are compared
@@ -56,9 +63,10 @@ class Registers(ctypes.Structure):
 
 @dataclass(frozen=True)
 class Fault:
-    """What happens at the growth or call of a kind (`growth`, or one of KINDS) that has this number, from 1: it fails with an error,
-    or takes so many bytes, or something is done before it, and then it is made. If it has a name, calls with this name alone are counted.
-    `then` is the next fault, which is counted from there."""
+    """What happens at the growth or call of a kind (`growth`, or one of KINDS) that has this
+    number, from 1: it fails with an error, or takes so many bytes, or something is done before it,
+    and then it is made. If it has a name, calls with this name alone are counted. `then` is the
+    next fault, which is counted from there."""
     kind: str
     number: int
     error: int = errno.EIO
@@ -69,7 +77,8 @@ class Fault:
 
 
 class Answer(NamedTuple):
-    """The status, both outputs, how many of each kind there were, and the open file of the call at which the fault was."""
+    """The status, both outputs, how many of each kind there were, and the open file of the call at
+    which the fault was."""
     status: int
     out: str
     error: str
@@ -78,7 +87,8 @@ class Answer(NamedTuple):
 
 
 class Pending(NamedTuple):
-    """A call of the system that has begun: what it answers instead of the system's answer, and how many bytes it asked for."""
+    """A call of the system that has begun: what it answers instead of the system's answer, and how
+    many bytes it asked for."""
     answer: int | None
     asked: int | None
 
@@ -97,7 +107,8 @@ def why_not() -> str | None:
     if sys.platform != 'linux' or os.uname().machine != 'x86_64':
         return 'growths and devices are made to fail on Linux and x86-64 only'
     try:
-        process = begin(['true'], '.', stdout=subprocess.DEVNULL, stderr=subprocess.DEVNULL, prepare=trace_me)
+        process = begin(['true'], '.', stdout=subprocess.DEVNULL, stderr=subprocess.DEVNULL,
+                        prepare=trace_me)
         os.waitpid(process.pid, 0)
         process.kill()
         process.returncode = os.waitstatus_to_exitcode(os.waitpid(process.pid, 0)[1])
@@ -115,7 +126,8 @@ class Elf:
         self.entry, headers = struct.unpack_from('<QQ', self.bytes, 24)
         size, count = struct.unpack_from('<HH', self.bytes, 54)
         self.segments: list[tuple[int, ...]] = [
-            struct.unpack_from('<IIQQQQ', self.bytes, headers + number * size) for number in range(count)]
+            struct.unpack_from('<IIQQQQ', self.bytes, headers + number * size)
+            for number in range(count)]
         self.slots = dict(self.imports())
 
     def at(self, address: int) -> int:
@@ -125,7 +137,8 @@ class Elf:
 
     def imports(self) -> Iterator[tuple[str, int]]:
         """Each imported function's name and slot."""
-        offset, size = next((offset, size) for kind, _, offset, _, _, size in self.segments if kind == 2)
+        offset, size = next((offset, size) for kind, _, offset, _, _, size in self.segments
+                            if kind == 2)
         tags: dict[int, int] = dict(struct.iter_unpack('<QQ', self.bytes[offset:offset + size]))
         for table, length in ((23, 2), (7, 8)):
             if table not in tags:
@@ -146,12 +159,14 @@ class Elf:
 class Traced:
     """A run of a program that stops at all that is counted."""
 
-    def __init__(self, elf: Elf, process: subprocess.Popen[bytes], fault: Fault | None, pieces: Mapping[str, int]) -> None:
+    def __init__(self, elf: Elf, process: subprocess.Popen[bytes], fault: Fault | None,
+                 pieces: Mapping[str, int]) -> None:
         self.elf, self.process, self.fault, self.pieces = elf, process, fault, pieces
         self.counts = dict.fromkeys(['growth', *KINDS.values()], 0)
         self.left = fault.number if fault else 0  # until the fault
         self.registers, self.memory = Registers(), -1
-        self.real: dict[int, int] = {}  # where each function that takes memory is, by the address in its slot
+        # where each function that takes memory is, by the address in its slot
+        self.real: dict[int, int] = {}
         self.pending: Pending | None = None
         self.file: int | None = None
         self.resume = RESUME if fault and fault.kind == 'growth' else RESUME_TO_CALL
@@ -171,12 +186,14 @@ class Traced:
         self.process.returncode = os.waitstatus_to_exitcode(status)
 
     def go_on(self, number: int) -> int:
-        """Goes on with a signal, or with none if it is 0, and returns the status with which the program stops or ends."""
+        """Goes on with a signal, or with none if it is 0, and returns the status with which the
+        program stops or ends."""
         ptrace(self.resume, self.process.pid, number)
         return os.waitpid(self.process.pid, 0)[1]
 
     def go_to_the_entry(self) -> None:
-        """Past the loader; then each slot of a function that takes memory is put in the place of nothing."""
+        """Past the loader; then each slot of a function that takes memory is put in the place of
+        nothing."""
         with open('/proc/%d/auxv' % self.process.pid, 'rb') as file:
             entry = dict(struct.iter_unpack('<QQ', file.read()))[ENTRY_OF_PROGRAM]
         first = os.pread(self.memory, 1, entry)
@@ -210,14 +227,16 @@ class Traced:
         return 0
 
     def is_growth(self) -> bool:
-        """Whether the program stopped at the address in the slot of a function that takes memory."""
+        """Whether the program stopped at the address in the slot of a function that takes
+        memory."""
         self.load()
         return self.registers.rip in self.real
 
     def counted(self, kind: str) -> bool:
         """Counts one of a kind, and returns whether the fault is here."""
         self.counts[kind] += 1
-        if self.fault is None or self.fault.kind != kind or self.fault.name is not None and self.fault.name != self.name():
+        if (self.fault is None or self.fault.kind != kind
+                or self.fault.name is not None and self.fault.name != self.name()):
             return False
         self.left -= 1
         return self.left == 0
@@ -230,7 +249,8 @@ class Traced:
     def growth(self) -> None:
         """Answers null to the caller, or goes on in the function."""
         if self.counted('growth'):
-            self.registers.rip = struct.unpack('<Q', os.pread(self.memory, 8, self.registers.rsp))[0]
+            self.registers.rip = struct.unpack('<Q', os.pread(self.memory, 8, self.registers.rsp))[
+                0]
             self.registers.rsp += 8
             self.registers.rax = 0
         else:
@@ -253,7 +273,8 @@ class Traced:
             self.store()
 
     def begun(self) -> Pending:
-        """A call of the system begins, with fewer bytes if only so many are moved at once, and not at all if it fails."""
+        """A call of the system begins, with fewer bytes if only so many are moved at once, and not
+        at all if it fails."""
         kind = self.kind()
         if kind is None:
             return Pending(None, None)
@@ -272,9 +293,11 @@ class Traced:
         return Pending(None, asked)
 
     def kind(self) -> str | None:
-        """The kind of a call that is counted. What goes to standard error is not, nor what the system tells in /proc."""
+        """The kind of a call that is counted. What goes to standard error is not, nor what the
+        system tells in /proc."""
         kind, file = KINDS.get(self.registers.orig_rax), self.registers.rdi
-        if kind == 'write' and file == STANDARD_ERROR or kind == 'random' and self.registers.rdx & NO_WAIT:
+        if (kind == 'write' and file == STANDARD_ERROR
+                or kind == 'random' and self.registers.rdx & NO_WAIT):
             return None
         if kind == 'read' and self.is_told_by_the_system(file):
             return None
@@ -288,12 +311,15 @@ class Traced:
             return False
 
 
-def run(program: str, words: Sequence[str], folder: str, fault: Fault | None = None, pieces: Mapping[str, int] | None = None,
-        stdout: int | IO[bytes] | None = None, closed: Sequence[int] = (), prepare: Callable[[], object] | None = None) -> Answer:
-    """A run of the program there, with this fault, whose reads and writes move at most so many bytes at once as `pieces` says
-    by kind. Growths are counted if the fault is one, and else the calls of the system. Its standard output is a file of its own
-    if none is given, and is then answered; the outputs are Latin-1. The standard files with the numbers `closed` are closed, and `prepare`
-    is called in the new process."""
+def run(program: str, words: Sequence[str], folder: str, fault: Fault | None = None,
+        pieces: Mapping[str, int] | None = None,
+        stdout: int | IO[bytes] | None = None, closed: Sequence[int] = (),
+        prepare: Callable[[], object] | None = None) -> Answer:
+    """A run of the program there, with this fault, whose reads and writes move at most so many
+    bytes at once as `pieces` says by kind. Growths are counted if the fault is one, and else the
+    calls of the system. Its standard output is a file of its own if none is given, and is then
+    answered; the outputs are Latin-1. The standard files with the numbers `closed` are closed, and
+    `prepare` is called in the new process."""
     def begun() -> None:
         if prepare:
             prepare()
@@ -301,10 +327,11 @@ def run(program: str, words: Sequence[str], folder: str, fault: Fault | None = N
             os.close(number)
         trace_me()
     with tempfile.TemporaryFile() as out, tempfile.TemporaryFile() as error:
-        process = begin([program, *words], folder, stdout=stdout or out, stderr=error, env={**os.environ, 'LD_BIND_NOW': '1'},
-                        prepare=begun)
+        process = begin([program, *words], folder, stdout=stdout or out, stderr=error,
+                        env={**os.environ, 'LD_BIND_NOW': '1'}, prepare=begun)
         traced = Traced(Elf(program), process, fault, pieces or {})
         traced.run()
         out.seek(0)
         error.seek(0)
-        return Answer(process.returncode, out.read().decode('latin-1'), error.read().decode('latin-1'), traced.counts, traced.file)
+        return Answer(process.returncode, out.read().decode('latin-1'),
+                      error.read().decode('latin-1'), traced.counts, traced.file)

@@ -1,4 +1,5 @@
-"""The call trees of docs/ARCHITECTURE.md: whether each function is in the file that is named, and calls those below it."""
+"""The call trees of docs/ARCHITECTURE.md: whether each function is in the file that is named, and
+calls those below it."""
 import pathlib
 import re
 from collections.abc import Iterator
@@ -7,7 +8,8 @@ from typing import NamedTuple
 TOP = pathlib.Path(__file__).resolve().parents[2]
 FUNCTION = re.compile(r'^( *)(?:pub(?:\([^)]*\))?\s+)?fn (\w+)', re.M)
 OWNER = re.compile(r'^(?:pub(?:\([^)]*\))?\s+)?(?:impl|trait)\b(.*)$', re.M)
-# Functions, each of which calls the next, and their file, if it is not that of their caller; or a remark in brackets.
+# Functions, each of which calls the next, and their file, if it is not that of their caller; or a
+# remark in brackets.
 LINE = re.compile(r'    ( *)([\w:]+(?: > [\w:]+)*)(?:  +(?:(\w+/src/[\w/]+\.rt)|\(.*\)))?')
 
 
@@ -27,7 +29,8 @@ def trees(text: str) -> Iterator[list[Calls]]:
             if read is None:
                 raise ValueError('no line of a tree: ' + line)
             above = caller(tree, len(read[1]))
-            tree.append(Calls(len(read[1]), read[2].split(' > '), read[3] or (above.file if above else '')))
+            tree.append(Calls(len(read[1]), read[2].split(' > '),
+                              read[3] or (above.file if above else '')))
         yield tree
 
 
@@ -54,7 +57,8 @@ def bodies(file: str, name: str) -> list[str]:
     found: list[str] = []
     for head, end in zip(heads, [*(head.start() for head in heads[1:]), len(text)]):
         line = [found for found in owners if found.start() < head.start()][-1:] if head[1] else []
-        if head[2] == own and bool(line) == bool(owner) and all(re.search(r'\b%s\b' % owner[0], one[1]) for one in line):
+        if head[2] == own and bool(line) == bool(owner) and all(
+            re.search(r'\b%s\b' % owner[0], one[1]) for one in line):
             found.append(text[head.start():end])
     return found
 

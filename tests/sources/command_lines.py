@@ -1,7 +1,7 @@
 """The command lines of the pages, and those that no test runs, with the reason.
 
-A command line is a line of a block `sh`, or a line that is indented by four spaces and begins as a command. The lines of a block
-`console` are run elsewhere: agreement.py compares what they print.
+A command line is a line of a block `sh`, or a line that is indented by four spaces and begins as a
+command. The lines of a block `console` are run elsewhere: agreement.py compares what they print.
 """
 import pathlib
 import re
@@ -9,7 +9,8 @@ import re
 TOP = pathlib.Path(__file__).resolve().parents[2]
 BLOCK = re.compile(r'^```sh\n(.*?)^```$', re.M | re.S)
 ANY_BLOCK = re.compile(r'^```.*?^```$', re.M | re.S)
-INDENTED = re.compile(r'^ {4}((?:\./|tools/|tests/|dev/|python3 |rt |nfs3|tcpdump |for |cd )\S.*)$', re.M)
+INDENTED = re.compile(r'^ {4}((?:\./|tools/|tests/|dev/|python3 |rt |nfs3|tcpdump |for |cd )\S.*)$',
+                      re.M)
 EXPLAINED = re.compile(r' {3,}.*$')  # what a line does, in words after it
 # The pages whose lines another test runs.
 RUN_ELSEWHERE = {'docs/CI.md': 'tools/tests/test_ci.py'}
@@ -20,13 +21,16 @@ NOT_RUN = {
     'python3 -m tools.tests': './test runs the tests of the tools',
     'python3 -m unittest ': './test runs the tests of the tools'}
 # What is large in a line, and what is run in its place.
-SMALLER = {'mixed 500 ': 'mixed 1 ', 'small 50 ': 'small 1 ', 'recordings.py': 'recordings.py --megabytes 1 --runs 1 /tmp/'}
+SMALLER = {'mixed 500 ': 'mixed 1 ', 'small 50 ': 'small 1 ',
+           'recordings.py': 'recordings.py --megabytes 1 --runs 1 /tmp/'}
 
 
 def lines_of(text: str) -> list[str]:
     """The command lines of a page, in order."""
-    found = [(block.start(), line) for block in BLOCK.finditer(text) for line in block[1].splitlines() if line.strip()]
-    found += [(line.start(), EXPLAINED.sub('', line[1])) for line in INDENTED.finditer(ANY_BLOCK.sub(blank, text))]
+    found = [(block.start(), line) for block in BLOCK.finditer(text)
+             for line in block[1].splitlines() if line.strip()]
+    found += [(line.start(), EXPLAINED.sub('', line[1]))
+              for line in INDENTED.finditer(ANY_BLOCK.sub(blank, text))]
     return [line for _, line in sorted(found, key=lambda place: place[0])]
 
 
@@ -49,7 +53,10 @@ def smaller(line: str) -> str:
 
 
 def useless(lines: list[tuple[str, str]]) -> list[str]:
-    """What is in the lists above and fits no line of any page, and tests that do not name their page."""
-    wrong = [beginning for beginning in NOT_RUN if not any(line.startswith(beginning) for _, line in lines)]
+    """What is in the lists above and fits no line of any page, and tests that do not name their
+    page."""
+    wrong = [beginning for beginning in NOT_RUN
+             if not any(line.startswith(beginning) for _, line in lines)]
     wrong += [large for large in SMALLER if not any(large in line for _, line in lines)]
-    return wrong + [page for page, test in RUN_ELSEWHERE.items() if page not in (TOP / test).read_text()]
+    return wrong + [page for page, test in RUN_ELSEWHERE.items()
+                    if page not in (TOP / test).read_text()]

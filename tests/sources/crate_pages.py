@@ -1,4 +1,5 @@
-"""What the pages of the crates name: the code that they quote, the files, and what docs/API.md lists."""
+"""What the pages of the crates name: the code that they quote, the files, and what docs/API.md
+lists."""
 import pathlib
 import re
 import subprocess
@@ -14,7 +15,8 @@ NAME = re.compile(r'`([\w/.]+)`')
 def libraries() -> list[str]:
     lines = (TOP / 'crates.txt').read_text().splitlines()
     names = [line.partition(':')[0] for line in lines if line and not line.startswith('#')]
-    return [name for name in names if not name.endswith('tests') and (CRATES / name / 'src/lib.rt').exists()]
+    return [name for name in names if not name.endswith('tests')
+            and (CRATES / name / 'src/lib.rt').exists()]
 
 
 def page(crate: str) -> str:
@@ -25,11 +27,13 @@ def page(crate: str) -> str:
 def not_quoted() -> list[str]:
     """Returns the pieces of code on the pages that are not in the proved callers as they stand."""
     callers = '\n'.join(path.read_text() for path in sorted((CRATES / 'uses/src').glob('*.rt')))
-    return ['%s: %s' % (crate, code.splitlines()[0]) for crate in libraries() for code in QUOTED.findall(page(crate)) if code not in callers]
+    return ['%s: %s' % (crate, code.splitlines()[0]) for crate in libraries()
+            for code in QUOTED.findall(page(crate)) if code not in callers]
 
 
 def is_there(crate: str, name: str, room: str) -> bool:
-    """Returns whether a name of a table stands for a file or a folder; in one cell the first name says where the others are."""
+    """Returns whether a name of a table stands for a file or a folder; in one cell the first name
+    says where the others are."""
     path = CRATES / crate / (name if '/' in name else room + name)
     return path.exists() or path.with_suffix('.antt').exists()
 
@@ -43,7 +47,8 @@ def files_not_there() -> list[str]:
             for cell in cells[1:]:
                 names = NAME.findall(cell)
                 room = names[0].rpartition('/')[0] + '/' if names else ''
-                wrong += ['%s: %s' % (crate, name) for name in names if not is_there(crate, name, room)]
+                wrong += ['%s: %s' % (crate, name) for name in names
+                          if not is_there(crate, name, room)]
     return wrong
 
 
@@ -53,5 +58,6 @@ def without_a_page() -> list[str]:
 
 def exports_are_current() -> bool:
     """Returns whether docs/API.md is what dev/api prints."""
-    made = subprocess.run([sys.executable, str(TOP / 'dev/api')], capture_output=True, text=True, check=True)
+    made = subprocess.run([sys.executable, str(TOP / 'dev/api')], capture_output=True, text=True,
+                          check=True)
     return made.stdout == (TOP / 'docs/API.md').read_text()

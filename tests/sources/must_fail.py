@@ -3,8 +3,9 @@
 
     python3 tests/sources/must_fail.py [PROGRAM] [--only TEXT] [-v]
 
-PROGRAM plays no part. A crate of two functions, the second of which calls the first, is made in a folder, and `rt` checks it.
-The last line is 'N passed, M failed', and the status is 1 if any failed.
+PROGRAM plays no part. A crate of two functions, the second of which calls the first, is made in a
+folder, and `rt` checks it. The last line is 'N passed, M failed', and the status is 1 if any
+failed.
 """
 import os
 import pathlib
@@ -66,11 +67,12 @@ returns c = omega (arith, c.one_more.ensures)
 '''
 OF_NAMES = {
     'adds_two_more': (SECOND, '    one_more(n) + 2', 'refused in two_more: returns'),
-    'adds_three': (SECOND, '    n + 3', 'refused in two_more, by no goal that is named'),
+    'adds_three': (SECOND, '    n + 3', 'NOT BY A GOAL: refused in two_more'),
 }
 # Places in a file, and the function whose body each is in.
 PLACES = {
-    'n: u32) -> u32\n    requires { n ≤ 1000': None, 'n ≤ 1000': None, '    n + 1': 'one_more', 'Returns the number': None,
+    'n: u32) -> u32\n    requires { n ≤ 1000': None, 'n ≤ 1000': None, '    n + 1': 'one_more',
+    'Returns the number': None,
     'ghost use': None, 'one_more(n) + 1': 'two_more',
 }
 METHODS = '''impl<'a, T: Ord> From<io::Error> for Fault<T> {
@@ -95,7 +97,8 @@ fn last() {
 }
 '''
 PLACES_OF_METHODS = {
-    'Fault::new(': 'FaultFromIoError::from', 'const SIZE': None, 'Makes one': None, '        Fault\n': 'Fault::new', 'SIZE;': 'a::b::last',
+    'Fault::new(': 'FaultFromIoError::from', 'const SIZE': None, 'Makes one': None,
+    '        Fault\n': 'Fault::new', 'SIZE;': 'a::b::last',
 }
 
 
@@ -113,27 +116,31 @@ def repository(runs: Runs, edits: dict[str, tuple[str, str, str]]) -> None:
 
 
 def are_told(runs: Runs, edits: dict[str, tuple[str, str, str]], answers: str = '') -> None:
-    """What is said of each edit has the words of its row, and the last line counts those that are refused."""
+    """What is said of each edit has the words of its row, and the last line counts those that are
+    refused."""
     repository(runs, edits)
     if answers:
         proofs = pathlib.Path(runs.folder, 'crates/sums/proofs/two_more')
         proofs.mkdir(parents=True)
         (proofs / 'Answers.antt').write_text(answers)
-    status, out, _ = ended([sys.executable, str(TOP / 'dev/edits.py')], runs.folder, limit=None).text()
+    status, out, _ = ended([sys.executable, str(TOP / 'dev/edits.py')], runs.folder,
+                           limit=None).text()
     for name, (_, _, wanted) in edits.items():
         told = re.findall(rf'sums/{name}\.edit: (.*)', out)
         runs.want(name, [bool(re.fullmatch(wanted, line)) for line in told] == [True] or told, True)
     refused = sum(wanted.startswith('refused') for _, _, wanted in edits.values())
-    runs.want('count', (out.splitlines()[-1], status), (f'{refused} passed, {len(edits) - refused} failed', int(refused < len(edits))))
+    runs.want('count', (out.splitlines()[-1], status),
+              (f'{refused} passed, {len(edits) - refused} failed', int(refused < len(edits))))
 
 
 def edits_of_each_kind(runs: Runs) -> None:
-    """Two of one function, one that means the same, one that changes nothing, and one of a contract."""
+    """Two of one function, one that means the same, one that changes nothing, and one of a
+    contract."""
     are_told(runs, EDITS)
 
 
 def names_in_a_proof(runs: Runs) -> None:
-    """It is said if all that is wrong is a name in a proof file that was written."""
+    """An edit fails if all that is wrong is a name in a proof file that was written."""
     are_told(runs, OF_NAMES, ANSWERS)
 
 
@@ -143,8 +150,10 @@ def an_edit_that_is_no_code(runs: Runs) -> None:
 
 
 def places_of_functions(runs: Runs) -> None:
-    """A place in a body has the name that a check prints; one in a contract, a comment or between functions has none."""
-    for path, text, places in (('src/lib.rt', SOURCE, PLACES), ('src/a/b.rt', METHODS, PLACES_OF_METHODS)):
+    """A place in a body has the name that a check prints; one in a contract, a comment or between
+    functions has none."""
+    for path, text, places in (('src/lib.rt', SOURCE, PLACES),
+                               ('src/a/b.rt', METHODS, PLACES_OF_METHODS)):
         for place, wanted in places.items():
             runs.want(place, function_at(path, text, text.index(place)), wanted)
 
@@ -158,4 +167,6 @@ def tried(program: str, name: str) -> list[str]:
 
 
 if __name__ == '__main__':
-    try_all(words_of(__doc__), [(name, tried, name) for name in ('edits_of_each_kind', 'names_in_a_proof', 'an_edit_that_is_no_code', 'places_of_functions')], 2)
+    try_all(words_of(__doc__),
+            [(name, tried, name) for name in ('edits_of_each_kind', 'names_in_a_proof',
+                                              'an_edit_that_is_no_code', 'places_of_functions')], 2)

@@ -1,18 +1,22 @@
-"""How long the sentences, bullets, sections and pages are, which words they avoid, whether their tables are whole, and whether the
-files and headings that they name are there. Code, tables and the targets of links do not count as text."""
+"""How long the sentences, bullets, sections and pages are, which words they avoid, whether their
+tables are whole, and whether the files and headings that they name are there. Code, tables and the
+targets of links do not count as text."""
 import pathlib
 import re
 
 TOP = pathlib.Path(__file__).resolve().parents[2]
-PAGES = ('README.md', 'CONTRIBUTING.md', 'CHANGELOG.md', 'docs/ARCHITECTURE.md', 'docs/DECISIONS.md', 'docs/FORMATS.md',
-         'docs/PERFORMANCE.md', 'docs/PROOFS.md', 'docs/SECURITY.md', 'examples/README.md', 'tests/README.md',
+PAGES = ('README.md', 'CONTRIBUTING.md', 'CHANGELOG.md', 'docs/ARCHITECTURE.md',
+         'docs/DECISIONS.md', 'docs/FORMATS.md',
+         'docs/PERFORMANCE.md', 'docs/PROOFS.md', 'docs/SECURITY.md', 'examples/README.md',
+         'tests/README.md',
          'tools/README.md', 'tools/DESIGN.md', 'tools/CHANGELOG.md', 'tools/tests/README.md')
 MOST_WORDS_OF_A_SENTENCE = 40
 MOST_WORDS_OF_A_BULLET = 60
 MOST_BULLETS = 12  # in a row of bullets under one heading
 MOST_WORDS_OF_A_PAGE = {'README.md': 1200, 'docs/ARCHITECTURE.md': 3000}
 # Words for which the field has others: a function returns, a value is, a text has.
-AVOIDED = re.compile(r'\b(?:tells|told|so is|does so|besides|in another turn|belong together|one more|stands (?:for|in|at|there))\b', re.I)
+AVOIDED = re.compile(r'\b(?:tells|told|so is|does so|besides|in another turn|belong together|one '
+                     r'more|stands (?:for|in|at|there))\b', re.I)
 # Pages that still have such words, and how many. A number may fall and not rise.
 MADE_OR_NOTES = ('docs/API.md', 'dev/measure/NOTES.md')
 # A condition is `if`; `where` is for places.
@@ -21,7 +25,8 @@ BULLET = re.compile(r'\s*(?:- |\d+\. )')
 HYPHENS = re.compile(r'\|(?: ?:?-+:? ?\|)+')
 LINK = re.compile(r'\]\(([^)#\s]*)(?:#([^)]*))?\)')
 # A file of the repository, by its path from the top.
-PATH = re.compile(r'(?<![\w./-])(?:tests|tools|dev|docs|examples|man|completions|crates)/[\w./-]*\w')
+PATH = re.compile(
+    r'(?<![\w./-])(?:tests|tools|dev|docs|examples|man|completions|crates)/[\w./-]*\w')
 STANDS_FOR_ANY = 'NAME'
 SENTENCE_ENDS = re.compile(r'(?<=[.:?!])\s+(?=[A-Z*`\[(])')
 
@@ -76,8 +81,8 @@ def faults(text: str) -> list[str]:
 
 
 def rows_outside_tables(text: str) -> list[str]:
-    """The rows that show as text, and those with more or fewer cells than their table's head. A table begins with a head and a line of
-    hyphens, and ends at an empty line."""
+    """The rows that show as text, and those with more or fewer cells than their table's head. A
+    table begins with a head and a line of hyphens, and ends at an empty line."""
     wrong: list[str] = []
     before, cells = '', 0
     lines = re.sub(r'^```.*?^```$', '', text, flags=re.M | re.S).splitlines()
@@ -86,7 +91,8 @@ def rows_outside_tables(text: str) -> list[str]:
             if not before.startswith('|'):
                 cells = cells_of(line) if HYPHENS.fullmatch(after) else 0
             if cells_of(line) != cells:
-                wrong.append('a row with %d cells in a table of %d: %s' % (cells_of(line), cells, line[:60]) if cells else
+                wrong.append('a row with %d cells in a table of %d: %s'
+                             % (cells_of(line), cells, line[:60]) if cells else
                              'a row outside a table: ' + line[:60])
         before = line
     return wrong
@@ -100,47 +106,57 @@ def cells_of(row: str) -> int:
 def anchors_of(text: str) -> set[str]:
     """The names by which links find the headings of a page. A line of code is no heading."""
     text = re.sub(r'^```.*?^```$', '', text, flags=re.M | re.S)
-    return {re.sub(r'[^\w -]', '', head.strip().lower()).replace(' ', '-') for head in re.findall(r'^#+ (.*)$', text, re.M)}
+    return {re.sub(r'[^\w -]', '', head.strip().lower()).replace(' ', '-')
+            for head in re.findall(r'^#+ (.*)$', text, re.M)}
 
 
 def not_there(text: str, folder: pathlib.Path) -> list[str]:
-    """The links of a page in a folder that lead nowhere, and the paths of files that do not exist. A path is from the top or from the
-    folder, and may lack its ending."""
+    """The links of a page in a folder that lead nowhere, and the paths of files that do not exist.
+    A path is from the top or from the folder, and may lack its ending."""
     wrong: list[str] = []
     for place, anchor in LINK.findall(text):
         target = folder / place
-        if not place.startswith('http') and not (target.exists() if place else anchor in anchors_of(text)):
+        if not place.startswith('http') and not (target.exists() if place
+                                                 else anchor in anchors_of(text)):
             wrong.append('no link: %s#%s' % (place, anchor))
         elif place.endswith('.md') and anchor and anchor not in anchors_of(target.read_text()):
             wrong.append('no heading: %s#%s' % (place, anchor))
     return wrong + ['no file: ' + path for path in PATH.findall(text) if STANDS_FOR_ANY not in path
-                    and not any((place / path).exists() or list(place.glob(path + '.*')) for place in (TOP, folder))]
+                    and not any((place / path).exists() or list(place.glob(path + '.*'))
+                                for place in (TOP, folder))]
 
 
 def all_pages() -> list[pathlib.Path]:
-    folders = ('', 'docs', 'docs/schemas', 'crates/*', 'examples', 'dev/measure', 'tests', 'tools', 'tools/tests')
-    return [path for folder in folders for path in sorted(TOP.glob(folder + '/*.md' if folder else '*.md'))]
+    folders = ('', 'docs', 'docs/schemas', 'crates/*', 'examples', 'dev/measure', 'tests', 'tools',
+               'tools/tests')
+    return [path for folder in folders
+            for path in sorted(TOP.glob(folder + '/*.md' if folder else '*.md'))]
 
 
 def broken_tables() -> list[str]:
     """The rows outside tables on all pages of the repository."""
-    return ['%s: %s' % (path.relative_to(TOP), fault) for path in all_pages() for fault in rows_outside_tables(path.read_text())]
+    return ['%s: %s' % (path.relative_to(TOP), fault) for path in all_pages()
+            for fault in rows_outside_tables(path.read_text())]
 
 
 def dead_names() -> list[str]:
     """The links and paths on all pages that lead nowhere."""
-    return ['%s: %s' % (path.relative_to(TOP), fault) for path in all_pages() for fault in not_there(path.read_text(), path.parent)]
+    return ['%s: %s' % (path.relative_to(TOP), fault) for path in all_pages()
+            for fault in not_there(path.read_text(), path.parent)]
 
 
 def long_ones() -> list[str]:
     """What is too long on any page."""
-    wrong = ['%s: %s' % (page, fault) for page in PAGES for fault in faults((TOP / page).read_text())]
+    wrong = ['%s: %s' % (page, fault) for page in PAGES
+             for fault in faults((TOP / page).read_text())]
     words = {page: len((TOP / page).read_text().split()) for page in MOST_WORDS_OF_A_PAGE}
-    return wrong + ['%s: %d words' % (page, count) for page, count in words.items() if count > MOST_WORDS_OF_A_PAGE[page]]
+    return wrong + ['%s: %d words' % (page, count) for page, count in words.items()
+                    if count > MOST_WORDS_OF_A_PAGE[page]]
 
 
 def words_to_avoid() -> list[str]:
     """The words to avoid on all pages but those that a script makes, and notes."""
     names = {str(path.relative_to(TOP)): path for path in all_pages()}
-    found = {page: avoided(path.read_text()) for page, path in names.items() if page not in MADE_OR_NOTES}
+    found = {page: avoided(path.read_text()) for page, path in names.items()
+             if page not in MADE_OR_NOTES}
     return ['%s: %s' % (page, ', '.join(words)) for page, words in found.items() if words]

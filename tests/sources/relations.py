@@ -1,7 +1,7 @@
 """How many arguments the relations of clauses take.
 
-A reader counts arguments that have no names, so a relation of a public function takes at most five, and any other at most seven. What
-goes together is a record of named fields, or a pair.
+A reader counts arguments that have no names, so a relation of a public function takes at most five,
+and any other at most seven. What goes together is a record of named fields, or a pair.
 """
 import itertools
 import re
@@ -13,7 +13,8 @@ from tests.sources.rooms import TOP, libraries, public_texts, tool
 MOST_PUBLIC, MOST = 5, 7
 TOKEN = re.compile(r'[(){}\[\]]|[^\s(){}\[\],;]+|[,;]')
 OPEN, CLOSE = '({[', ')}]'
-# What stands between two facts or two values, and so ends a relation's arguments; and the name of a function's argument.
+# What stands between two facts or two values, and so ends a relation's arguments; and the name of a
+# function's argument.
 BETWEEN = re.compile(r'[→↔×⊎≡≢≤<>=+*/%^&|∷,;λ-]+$|(?:if|then|else)$|.*\.$')
 
 Word = str | list['Word']
@@ -41,7 +42,8 @@ def nested(text: str) -> list[Word]:
 
 def relations(words: list[Word]) -> Iterator[Relation]:
     """Yields each name that is applied to arguments, also within brackets."""
-    runs = itertools.groupby(words, lambda word: isinstance(word, str) and bool(BETWEEN.match(word)))
+    runs = itertools.groupby(words, lambda word: isinstance(word, str)
+                             and bool(BETWEEN.match(word)))
     for first, *others in (list(run) for ends, run in runs if not ends):
         if isinstance(first, str):
             yield Relation(first, len(others))
@@ -61,7 +63,8 @@ def with_many_arguments() -> list[str]:
     found, pattern = set[str](), tool().CLAUSE
     for crate in libraries():
         sources = [(MOST_PUBLIC, *source) for source in public_texts(crate)]
-        sources += [(MOST, path, path.read_text()) for path in sorted((TOP / 'crates' / crate / 'src').rglob('*.rt'))]
+        sources += [(MOST, path, path.read_text())
+                    for path in sorted((TOP / 'crates' / crate / 'src').rglob('*.rt'))]
         for limit, path, text in sources:
             clauses = [clause[2] for clause in pattern.finditer(text)]
             found |= {'%s: %s' % (path.relative_to(TOP), wrong) for wrong in over(limit, clauses)}

@@ -1,6 +1,8 @@
-"""Rules for the sources of the crates. Each function without parameters returns what is against one of them, in words:
+"""Rules for the sources of the crates. Each function without parameters returns what is against one
+of them, in words:
 
-- definitions that no public call believes are in a folder named machinery of crates/*/specs, and no others are;
+- definitions that no public call believes are in a folder named machinery of crates/*/specs, and no
+  others are;
 - a name stands for one definition;
 - no clause of a public call names a private field;
 - no clause, no definition and no proof has a line over 100 columns;
@@ -20,11 +22,14 @@ from typing import Any, NamedTuple
 
 TOP = pathlib.Path(__file__).resolve().parents[2]
 ROOM = 'machinery'
-# What believed definitions and public clauses name of machinery, and why nobody has to believe what it is made of.
+# What believed definitions and public clauses name of machinery, and why nobody has to believe what
+# it is made of.
 BY_NAME = {
-    'StandsFor': 'a history of a reader of entries: `through` gives one, each call takes one on, and what is concluded names none',
+    'StandsFor': 'a history of a reader of entries: `through` gives one, each call takes one on, '
+    'and what is concluded names none',
     'entries_left': 'a number that falls with each entry, by which a loop over them ends',
-    'the_row': 'the statement of the prover on the layout of a type, for a clause on what a loan leaves',
+    'the_row': 'the statement of the prover on the layout of a type, for a clause on what a loan '
+    'leaves',
 }
 ITEM = re.compile(r'pub fn (\w+)|pub trait (\w+)|impl\b(?:<[^{]*?>)? ?(?:.* for )?(\w+)[^{]*\{$')
 METHOD = re.compile(r' {4}pub fn \w+')
@@ -35,7 +40,8 @@ GHOST = re.compile(r'^ *ghost (?!use\b).*?;$', re.M | re.S)
 
 
 class Exported(NamedTuple):
-    """The names that a library exports, or None for all that is public, as of a program; and the files of the modules that it exports."""
+    """The names that a library exports, or None for all that is public, as of a program; and the
+    files of the modules that it exports."""
     names: set[str] | None
     modules: set[str]
 
@@ -69,9 +75,12 @@ def exported_by(crate: str) -> Exported:
     if not lib.exists():
         return Exported(None, set())
     text = lib.read_text()
-    names = {name for names in re.findall(r'^pub use ([^;]*);', text, re.M) for name in re.findall(r'\w+', names)}
-    paths = [name.replace('::', '/') for name in re.findall(r'^pub (?:mod|use) ([\w:]+);', text, re.M)]
-    return Exported(names, {pathlib.PurePath(path).name for path in paths if (lib.parent / path).with_suffix('.rt').exists()})
+    names = {name for names in re.findall(r'^pub use ([^;]*);', text, re.M)
+             for name in re.findall(r'\w+', names)}
+    paths = [name.replace('::', '/') for name in re.findall(r'^pub (?:mod|use) ([\w:]+);', text,
+                                                            re.M)]
+    return Exported(names, {pathlib.PurePath(path).name for path in paths
+                            if (lib.parent / path).with_suffix('.rt').exists()})
 
 
 def is_public(name: str, source: Source, exported: Exported) -> bool:
@@ -83,7 +92,8 @@ def is_public(name: str, source: Source, exported: Exported) -> bool:
 
 def body_at(lines: list[str], at: int, space: str) -> list[str]:
     """Returns the lines from one on to the brace that ends it, or its head."""
-    end = next(n for n in range(at + 1, len(lines)) if lines[n].startswith((space + '}', space + '{')))
+    end = next(n for n in range(at + 1, len(lines))
+               if lines[n].startswith((space + '}', space + '{')))
     return lines[at:end + 1]
 
 
@@ -102,7 +112,8 @@ def public_texts(crate: str) -> Iterator[Source]:
 
 def parts_of(body: list[str], is_own: bool) -> list[list[str]]:
     """Returns the public methods of a type's own impl, and any other item as it is."""
-    return [body_at(body, at, '    ') for at, line in enumerate(body) if METHOD.match(line)] if is_own else [body]
+    return [body_at(body, at, '    ') for at, line in enumerate(body)
+            if METHOD.match(line)] if is_own else [body]
 
 
 # dev/believed is a script, so a checker of types does not know what it returns.
@@ -111,7 +122,8 @@ def reached(believed: ModuleType) -> Any:
     found = believed.Believed()
     for crate in libraries():
         for source in public_texts(crate):
-            clauses = [match[0] for pattern in (believed.CLAUSE, GHOST) for match in pattern.finditer(source.text)]
+            clauses = [match[0] for pattern in (believed.CLAUSE, GHOST)
+                       for match in pattern.finditer(source.text)]
             believed.reach_clauses(found, source.path, clauses)
     return found
 
@@ -129,18 +141,23 @@ def in_the_wrong_room() -> list[str]:
     believed = tool()
     found, wrong = reached(believed), list[str]()
     for name in sorted(found.by_name ^ set(BY_NAME)):
-        wrong.append('%s is machinery, and a public call believes it; or it is an exception, and none does' % name)
+        wrong.append('%s is machinery, and a public call believes it; or it is an exception, and '
+                     'none does' % name)
     for file in files(believed):
         if not file.module.startswith(ROOM):
-            wrong += ['%s: no public call believes %s' % (file.path, one.name) for one in file.definitions if one not in found.seen]
-            places = [*file.imports.names.values(), *((*place, 'all of it') for place in file.imports.aliases.values())]
-            wrong += ['%s imports of %s: %s' % (file.path, module, name) for _, module, name in places
+            wrong += ['%s: no public call believes %s' % (file.path, one.name)
+                      for one in file.definitions if one not in found.seen]
+            places = [*file.imports.names.values(),
+                      *((*place, 'all of it') for place in file.imports.aliases.values())]
+            wrong += ['%s imports of %s: %s' % (file.path, module, name)
+                      for _, module, name in places
                       if module.startswith(ROOM + '.') and name not in BY_NAME]
     return wrong
 
 
 def private_fields(text: str) -> set[str]:
-    """Returns the private fields of a file's public structs, except those whose clauses speak of the value of a Model."""
+    """Returns the private fields of a file's public structs, except those whose clauses speak of
+    the value of a Model."""
     return {field for name, body in STRUCT.findall(text) for field in PRIVATE.findall(body)
             if not re.search(r'\bModel for %s\b' % name, text)}
 
@@ -151,18 +168,22 @@ def of_private_fields() -> list[str]:
     for crate in libraries():
         for path, text in public_texts(crate):
             private = private_fields(path.read_text())
-            named = {name for clause in believed.CLAUSE.finditer(text) for name in NAMED_FIELD.findall(clause[0])}
+            named = {name for clause in believed.CLAUSE.finditer(text)
+                     for name in NAMED_FIELD.findall(clause[0])}
             found |= {'%s: %s' % (path.relative_to(TOP), name) for name in named & private}
     return sorted(found)
 
 
 def long_lines() -> list[str]:
-    """Returns the lines over 100 columns of clauses, definitions and proofs, with their files. Imports do not count, nor what was built."""
+    """Returns the lines over 100 columns of clauses, definitions and proofs, with their files.
+    Imports do not count, nor what was built."""
     pattern = tool().CLAUSE
     sources = ((path, path.read_text()) for path in sorted(TOP.glob('crates/*/src/**/*.rt')))
     texts = [(path, clause[0]) for path, text in sources for clause in pattern.finditer(text)]
-    texts += [(path, path.read_text()) for room in ('specs', 'proofs') for path in sorted(TOP.glob(f'crates/*/{room}/**/*.antt'))]
-    return ['%s: %s' % (path.relative_to(TOP), line) for path, text in texts for line in text.splitlines()
+    texts += [(path, path.read_text()) for room in ('specs', 'proofs')
+              for path in sorted(TOP.glob(f'crates/*/{room}/**/*.antt'))]
+    return ['%s: %s' % (path.relative_to(TOP), line) for path, text in texts
+            for line in text.splitlines()
             if len(line) > 100 and not re.match('(unfoldable )?(pub )?use ', line)]
 
 
@@ -172,7 +193,8 @@ def of_several_meanings() -> list[str]:
     for file in files(tool()):
         for one in file.definitions:
             places[one.name].append('%s.%s' % (file.crate, file.module))
-    return ['%s: %s' % (name, ', '.join(some)) for name, some in sorted(places.items()) if len(some) > 1]
+    return ['%s: %s' % (name, ', '.join(some)) for name, some in sorted(places.items())
+            if len(some) > 1]
 
 
 MOST_FILES = 12
@@ -181,26 +203,33 @@ MOST_FILES = 12
 def crowded_folders() -> list[str]:
     """Returns the folders of proofs with too many files. Folders in them do not count."""
     roots = sorted(TOP.glob('crates/*/proofs'))
-    folders = [folder for root in roots for folder in [root, *sorted(path for path in root.rglob('*') if path.is_dir())]]
+    folders = [folder for root in roots
+               for folder in [root, *sorted(path for path in root.rglob('*') if path.is_dir())]]
     sizes = {folder: len(list(folder.glob('*.antt'))) for folder in folders}
-    return ['%s: %d files' % (folder.relative_to(TOP), size) for folder, size in sizes.items() if size > MOST_FILES]
+    return ['%s: %d files' % (folder.relative_to(TOP), size) for folder, size in sizes.items()
+            if size > MOST_FILES]
 
 
 def of_two_files() -> list[str]:
-    """Returns the files of machinery that have the name of a file of specs outside it, in the same crate."""
+    """Returns the files of machinery that have the name of a file of specs outside it, in the same
+    crate."""
     rooms = sorted(TOP.glob('crates/*/specs/' + ROOM))
     return [str(path.relative_to(TOP)) for room in rooms for path in sorted(room.rglob('*.antt'))
-            if any(ROOM not in other.relative_to(room.parent).parts for other in room.parent.rglob(path.name))]
+            if any(ROOM not in other.relative_to(room.parent).parts
+                   for other in room.parent.rglob(path.name))]
 
 
 # Scans of what has no value of its own: the parts of structs in procs3, and its table.
-ONLY_SCANS = {'crates/procs3/src/scans/both.rt', 'crates/procs3/src/scans/items.rt', 'crates/procs3/src/scans/table.rt'}
+ONLY_SCANS = {'crates/procs3/src/scans/both.rt', 'crates/procs3/src/scans/items.rt',
+              'crates/procs3/src/scans/table.rt'}
 
 
 def scans_without_values() -> list[str]:
-    """Returns the files of scans, in crates with values, that have no file of values of the same name."""
+    """Returns the files of scans, in crates with values, that have no file of values of the same
+    name."""
     found = [str(path.relative_to(TOP)) for path in sorted(TOP.glob('crates/*/src/scans/*.rt'))
-             if (values := path.parent.parent / 'values').is_dir() and not (values / path.name).exists()]
+             if (values := path.parent.parent / 'values').is_dir()
+             and not (values / path.name).exists()]
     return sorted(set(found) ^ ONLY_SCANS)
 
 
@@ -217,4 +246,5 @@ def types_of_two_crates() -> list[str]:
             for name in TYPE.findall(path.read_text()):
                 owners[name].add(crate)
     twice = {name for name, crates in owners.items() if len(crates) > 1}
-    return ['%s: %s' % (name, ', '.join(sorted(owners[name]))) for name in sorted(twice ^ OF_TWO_CRATES)]
+    return ['%s: %s' % (name, ', '.join(sorted(owners[name])))
+            for name in sorted(twice ^ OF_TWO_CRATES)]

@@ -1,5 +1,6 @@
-"""The rooms of tools/nfs3tools in their order: a module imports from its own room and from those below it, modules do not import each
-other in a circle, and tools/DESIGN.md has each in the table of its room. And the lines of the tools: none is longer than
+"""The rooms of tools/nfs3tools in their order: a module imports from its own room and from those
+below it, modules do not import each other in a circle, and tools/DESIGN.md has each in the table of
+its room. And the lines of the tools, of all tests and of `dev`: none is longer than
 tools/pyproject.toml has it."""
 import ast
 import pathlib
@@ -12,12 +13,14 @@ HEADING = re.compile(r'^### `([\w.]+)`$(.*?)(?=^#)', re.M | re.S)  # of a room
 ROW = re.compile(r'^\| `(\w+)` \|', re.M)
 COLUMNS = re.compile(r'^line-length = (\d+)$', re.M)
 # From the lowest to the highest.
-ROOMS = ('shared', 'recordings', 'captures', 'exchanges', 'comparison.values', 'comparison.exchanges', 'comparison.verdict',
-         'comparison.parts', 'reporting', 'judgement', 'meaning', 'commands')
+ROOMS = ('shared', 'recordings', 'captures', 'exchanges', 'comparison.values',
+         'comparison.exchanges', 'comparison.verdict',
+         'comparison.parts', 'reporting', 'judgement', 'pages', 'meaning', 'commands')
 
 
 def modules(package: pathlib.Path) -> dict[str, pathlib.Path]:
-    """Returns the modules of a package with their files, each by its name below the package, as `shared.places`."""
+    """Returns the modules of a package with their files, each by its name below the package, as
+    `shared.places`."""
     paths = sorted(path for path in package.rglob('*.py') if path.name != '__init__.py')
     return {'.'.join(path.relative_to(package).with_suffix('').parts): path for path in paths}
 
@@ -33,7 +36,8 @@ def imported(module: str, text: str, known: Set[str]) -> Iterator[str]:
 
 def imports_of(texts: Mapping[str, str]) -> dict[str, list[str]]:
     """Returns for each module what it imports of the others."""
-    return {module: sorted(set(imported(module, text, texts.keys()))) for module, text in texts.items()}
+    return {module: sorted(set(imported(module, text, texts.keys())))
+            for module, text in texts.items()}
 
 
 def room_of(module: str) -> int | None:
@@ -50,7 +54,8 @@ def is_against_the_order(module: str, other: str) -> bool:
 def in_a_circle(imports: Mapping[str, list[str]]) -> list[str]:
     """Returns the modules that import each other in a circle, and those that import them."""
     left = dict(imports)
-    while done := [module for module, others in left.items() if not any(other in left for other in others)]:
+    while done := [module for module, others in left.items()
+                   if not any(other in left for other in others)]:
         left = {module: others for module, others in left.items() if module not in done}
     return sorted(left)
 
@@ -69,25 +74,39 @@ def against_the_order() -> list[str]:
 
 
 def not_in_the_design() -> list[str]:
-    """Returns the modules that have no row in the table of their room in tools/DESIGN.md, the rows of no module, and rooms out of order."""
+    """Returns the modules that have no row in the table of their room in tools/DESIGN.md, the rows
+    of no module, and rooms out of order."""
     rooms = HEADING.findall((TOP / 'tools/DESIGN.md').read_text())
     rows = {f'{room}.{module}' for room, table in rooms for module in ROW.findall(table)}
-    out_of_order = [] if [room for room, _ in rooms] == [*ROOMS] else ['the rooms of tools/DESIGN.md are in another order']
+    out_of_order = [] if [room for room, _ in rooms] == [*ROOMS] else [
+        'the rooms of tools/DESIGN.md are in another order']
     return sorted(rows ^ modules(PACKAGE).keys()) + out_of_order
 
 
 def columns() -> int:
-    """Returns how many columns a line of the tools has at most, as tools/pyproject.toml says, or 0 if it does not."""
+    """Returns how many columns a line of the tools has at most, as tools/pyproject.toml says, or 0
+    if it does not."""
     found = COLUMNS.search((TOP / 'tools/pyproject.toml').read_text())
     return int(found[1]) if found else 0
 
 
 def longer_lines(name: str, text: str, most: int) -> list[str]:
     """Returns the lines of a file that are longer, after its name and their numbers."""
-    return [f'{name}:{number}: {line}' for number, line in enumerate(text.splitlines(), 1) if len(line) > most]
+    return [f'{name}:{number}: {line}' for number, line in enumerate(text.splitlines(), 1)
+            if len(line) > most]
+
+
+def is_python(path: pathlib.Path) -> bool:
+    """Whether a file is in Python, by its name or its first line."""
+    if path.suffix or not path.is_file():
+        return path.suffix == '.py'
+    with path.open('rb') as file:
+        return file.readline() == b'#!/usr/bin/env python3\n'
 
 
 def long_lines() -> list[str]:
-    """Returns the lines of the tools that are too long."""
-    return [line for path in sorted(PACKAGE.rglob('*.py'))
-            for line in longer_lines(str(path.relative_to(PACKAGE)), path.read_text(), columns())]
+    """Returns the lines of the tools, of all tests and of `dev` that are too long."""
+    paths = [path for folder in ('tools', 'tests', 'dev')
+             for path in sorted((TOP / folder).rglob('*')) if is_python(path)]
+    return [line for path in paths
+            for line in longer_lines(str(path.relative_to(TOP)), path.read_text(), columns())]

@@ -21,8 +21,8 @@ from collections.abc import Iterator
 from pathlib import Path
 from typing import Any
 
-WORDS = ('--headless', '--no-sandbox', '--disable-gpu', '--disable-dev-shm-usage', '--no-first-run', '--disable-extensions',
-         '--hide-scrollbars', '--remote-debugging-pipe')
+WORDS = ('--headless', '--no-sandbox', '--disable-gpu', '--disable-dev-shm-usage', '--no-first-run',
+         '--disable-extensions', '--hide-scrollbars', '--remote-debugging-pipe')
 # Gives the pipes the numbers under which Chromium reads and writes, and runs it.
 STARTED = """import os, sys
 os.dup2(int(sys.argv[1]), 3)
@@ -39,7 +39,8 @@ def chromium() -> str | None:
 
 
 def above_standard(number: int) -> int:
-    """Returns another number of an open file, which is none of those that Chromium reads and writes."""
+    """Returns another number of an open file, which is none of those that Chromium reads and
+    writes."""
     other = fcntl.fcntl(number, fcntl.F_DUPFD_CLOEXEC, 10)
     os.close(number)
     return other
@@ -56,9 +57,10 @@ class Browser:
         path = chromium()
         assert path
         self.process = subprocess.Popen(
-            [sys.executable, '-c', STARTED, str(theirs), str(others), path, *WORDS, f'--user-data-dir={folder}', 'about:blank'],
-            stdin=subprocess.DEVNULL, stdout=subprocess.DEVNULL, stderr=subprocess.DEVNULL, pass_fds=(theirs, others),
-            env={**os.environ, 'HOME': folder})
+            [sys.executable, '-c', STARTED, str(theirs), str(others), path, *WORDS,
+             f'--user-data-dir={folder}', 'about:blank'],
+            stdin=subprocess.DEVNULL, stdout=subprocess.DEVNULL, stderr=subprocess.DEVNULL,
+            pass_fds=(theirs, others), env={**os.environ, 'HOME': folder})
         os.close(theirs)
         os.close(others)
         target = self.ask('Target.createTarget', url='about:blank')['targetId']
@@ -118,7 +120,8 @@ class Browser:
         method, words = answer.get('method'), answer.get('params', {})
         self.is_loaded |= method == 'Page.loadEventFired'
         if method == 'Runtime.exceptionThrown':
-            self.errors.append(str(words['exceptionDetails'].get('exception', words['exceptionDetails'])))
+            self.errors.append(
+                str(words['exceptionDetails'].get('exception', words['exceptionDetails'])))
         if method == 'Log.entryAdded' and words['entry']['level'] == 'error':
             self.errors.append(words['entry']['text'])
         if method == 'Runtime.consoleAPICalled' and words['type'] == 'error':
@@ -126,10 +129,13 @@ class Browser:
 
     # --- Pages ---
 
-    def open(self, path: str, width: int = 1300, is_dark: bool = False, has_scripts: bool = True) -> None:
+    def open(self, path: str, width: int = 1300, is_dark: bool = False,
+             has_scripts: bool = True) -> None:
         """Opens a file, in a window of so many columns of pixels."""
         self.resize(width)
-        self.ask('Emulation.setEmulatedMedia', features=[{'name': 'prefers-color-scheme', 'value': 'dark' if is_dark else 'light'}])
+        self.ask('Emulation.setEmulatedMedia',
+                 features=[{'name': 'prefers-color-scheme', 'value': 'dark' if is_dark
+                            else 'light'}])
         self.ask('Emulation.setScriptExecutionDisabled', value=not has_scripts)
         self.is_loaded = False
         self.ask('Page.navigate', url=Path(path).resolve().as_uri())
@@ -139,11 +145,13 @@ class Browser:
 
     def resize(self, width: int) -> None:
         """Gives the window so many columns of pixels."""
-        self.ask('Emulation.setDeviceMetricsOverride', width=width, height=HEIGHT, deviceScaleFactor=1, mobile=False)
+        self.ask('Emulation.setDeviceMetricsOverride', width=width, height=HEIGHT,
+                 deviceScaleFactor=1, mobile=False)
 
     def value(self, expression: str) -> Any:
         """Returns the value of an expression of JavaScript."""
-        result = self.ask('Runtime.evaluate', expression=expression, returnByValue=True, awaitPromise=True, userGesture=True)
+        result = self.ask('Runtime.evaluate', expression=expression, returnByValue=True,
+                          awaitPromise=True, userGesture=True)
         if 'exceptionDetails' in result:
             raise RuntimeError(f'{expression}: {result["exceptionDetails"]}')
         return result['result'].get('value')
@@ -168,9 +176,12 @@ class Browser:
         self.ask('Input.insertText', text=text)
 
     def click(self, selector: str) -> None:
-        """Clicks into the middle of the first element of a selector, of its first line if it has several."""
-        x, y = self.value(f'(() => {{ const one = document.querySelector({json.dumps(selector)}); one.scrollIntoView({{block: "center"}});'
-                          'const box = one.getClientRects()[0]; return [box.x + box.width / 2, box.y + box.height / 2] })()')
+        """Clicks into the middle of the first element of a selector, of its first line if it has
+        several."""
+        x, y = self.value(f'(() => {{ const one = document.querySelector({json.dumps(selector)}); '
+                          f'one.scrollIntoView({{block: "center"}});'
+                          'const box = one.getClientRects()[0]; return [box.x + box.width / 2, '
+                          'box.y + box.height / 2] })()')
         for kind in ('mousePressed', 'mouseReleased'):
             self.ask('Input.dispatchMouseEvent', type=kind, x=x, y=y, button='left', clickCount=1)
 
@@ -179,5 +190,6 @@ class Browser:
         words: dict[str, Any] = {}
         if is_whole:
             size = self.ask('Page.getLayoutMetrics')['cssContentSize']
-            words = {'captureBeyondViewport': True, 'clip': {'x': 0, 'y': 0, 'width': size['width'], 'height': size['height'], 'scale': 1}}
+            words = {'captureBeyondViewport': True, 'clip': {'x': 0, 'y': 0, 'width': size['width'],
+                                                             'height': size['height'], 'scale': 1}}
         return base64.b64decode(self.ask('Page.captureScreenshot', format='png', **words)['data'])

@@ -1,8 +1,10 @@
 """Tests that are functions, as methods of a `unittest.TestCase`.
 
-Each is called with the runs of a new folder, and notes there what is wrong. The program is the one built, or the one that the variable
-NFS3CANON names.
+Each is called with the runs of a new folder, and notes there what is wrong. The program is the one
+built, or the one that the variable NFS3CANON names.
 """
+import concurrent.futures
+import functools
 import os
 import typing
 import unittest
@@ -17,13 +19,15 @@ R = typing.TypeVar('R', bound=Runs)
 class FolderTest(unittest.TestCase):
     """Has a method `test_NAME` for each function NAME that a subclass is given."""
 
-    def __init_subclass__(cls, make: Callable[[str, str], R], tests: Iterable[Callable[[R], object]]) -> None:
+    def __init_subclass__(cls, make: Callable[[str, str], R],
+                          tests: Iterable[Callable[[R], object]]) -> None:
         super().__init_subclass__()
         for test in tests:
             setattr(cls, f'test_{test.__name__}', method_of(make, test))
 
 
-def method_of(make: Callable[[str, str], R], test: Callable[[R], object]) -> Callable[[unittest.TestCase], None]:
+def method_of(make: Callable[[str, str], R],
+              test: Callable[[R], object]) -> Callable[[unittest.TestCase], None]:
     """Returns a method that fails with what is wrong in a test."""
     def method(case: unittest.TestCase) -> None:
         wrong = tried(PROGRAM, make, test)
@@ -33,12 +37,24 @@ def method_of(make: Callable[[str, str], R], test: Callable[[R], object]) -> Cal
     return method
 
 
-def seeds(count: int) -> range:
-    """Returns so many seeds from 0 on, or those that the variables SEED (the first) and COUNT say."""
-    first = int(os.environ.get('SEED', 0))
-    return range(first, first + int(os.environ.get('COUNT', count)))
+# What is wrong with a seed, of the program and the seed.
+WrongOf = Callable[[str, int], list[str]]
 
 
-def in_steps(chosen: range, size: int = 50) -> list[range]:
-    """Returns seeds in ranges, for processes that work side by side."""
-    return [chosen[at:at + size] for at in range(0, len(chosen), size)]
+class SeedsTest(unittest.TestCase):
+    """Tests that try many seeds, from 0 on, or those that the variables SEED (the first) and COUNT
+    say."""
+
+    def check(self, count: int, wrong_of: WrongOf) -> None:
+        """Nothing is wrong with any seed. Processes side by side each have some of them."""
+        first, size = int(os.environ.get('SEED', 0)), 50
+        chosen = range(first, first + int(os.environ.get('COUNT', count)))
+        steps = [chosen[at:at + size] for at in range(0, len(chosen), size)]
+        with concurrent.futures.ProcessPoolExecutor() as pool:
+            for step, wrong in zip(steps, pool.map(functools.partial(of_step, wrong_of), steps)):
+                with self.subTest(seeds=step):
+                    self.assertEqual(wrong, [])
+
+
+def of_step(wrong_of: WrongOf, step: range) -> list[str]:
+    return [wrong for seed in step for wrong in wrong_of(PROGRAM, seed)]

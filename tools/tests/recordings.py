@@ -21,20 +21,24 @@ def section(order: str = '<') -> bytes:
     return block(SECTION, struct.pack(order + 'IHHq', 0x1a2b3c4d, 1, 0, -1), order)
 
 
-def interface(link: int = ETHERNET, order: str = '<', kept: int = 65_535, unit: int | None = None, offset: int | None = None) -> bytes:
+def interface(link: int = ETHERNET, order: str = '<', kept: int = 65_535, unit: int | None = None,
+              offset: int | None = None) -> bytes:
     """`unit` is if_tsresol, `offset` if_tsoffset in seconds."""
     options = b''
     if unit is not None:
         options += struct.pack(order + 'HHB3x', 9, 1, unit)
     if offset is not None:
         options += struct.pack(order + 'HHq', 14, 8, offset)
-    return block(INTERFACE, struct.pack(order + 'HHI', link, 0, kept) + options + (bytes(4) if options else b''), order)
+    return block(INTERFACE, struct.pack(order + 'HHI', link, 0, kept) + options
+                 + (bytes(4) if options else b''), order)
 
 
-def enhanced(frame: bytes, number: int = 0, index: int = 0, order: str = '<', length: int | None = None) -> bytes:
+def enhanced(frame: bytes, number: int = 0, index: int = 0, order: str = '<',
+             length: int | None = None) -> bytes:
     """A frame at so many units of the interface's time."""
     sizes = len(frame), len(frame) if length is None else length
-    return block(ENHANCED, struct.pack(order + '5I', index, number >> 32, number & 0xffffffff, *sizes) + frame, order)
+    return block(ENHANCED, struct.pack(order + '5I', index, number >> 32, number & 0xffffffff,
+                                       *sizes) + frame, order)
 
 
 def simple(frame: bytes, order: str = '<') -> bytes:
@@ -42,27 +46,30 @@ def simple(frame: bytes, order: str = '<') -> bytes:
 
 
 def obsolete(frame: bytes, number: int = 0, index: int = 0, order: str = '<') -> bytes:
-    return block(OBSOLETE, struct.pack(order + 'HH4I', index, 0, number >> 32, number & 0xffffffff, len(frame), len(frame)) + frame, order)
+    return block(OBSOLETE, struct.pack(order + 'HH4I', index, 0, number >> 32, number & 0xffffffff,
+                                       len(frame), len(frame)) + frame, order)
 
 
 def pcapng(frames: Iterable[bytes], order: str = '<') -> bytes:
     """A section with one interface, and a block of another kind between."""
     packets = (enhanced(frame, number, 0, order) for number, frame in enumerate(frames))
-    return section(order) + interface(order=order) + block(NAMES, bytes(4), order) + b''.join(packets)
+    return section(order) + interface(order=order) + block(NAMES, bytes(4), order) + b''.join(
+        packets)
 
 
 # --- Parts of segments ---
 
 def part_of(frame: bytes, begin: int, end: int) -> bytes:
-    """A frame of Ethernet, IP and TCP, all without options, with some bytes of its payload as if they
-    had been sent so, with its checksums."""
+    """A frame of Ethernet, IP and TCP, all without options, with some bytes of its payload as if
+    they had been sent so, with its checksums."""
     at, payload = (14 + (20 if frame[14] >> 4 == 4 else 40)), frame[-len(frame):]
     content = frame[at:at + 20] + payload[at + 20:][begin:end]
     sequence = (int.from_bytes(content[4:8], 'big') + begin) % (1 << 32)
     content = content[:4] + sequence.to_bytes(4, 'big') + content[8:16] + bytes(2) + content[18:]
     size = len(content).to_bytes(4, 'big')
     if at == 34:
-        head = frame[14:16] + (20 + len(content)).to_bytes(2, 'big') + frame[18:24] + bytes(2) + frame[26:34]
+        head = frame[14:16] + (20 + len(content)).to_bytes(2, 'big') + frame[18:24] + bytes(
+            2) + frame[26:34]
         head = head[:10] + ones_complement(head) + head[12:]
         addresses = head[12:]
     else:
@@ -123,17 +130,21 @@ def in_vxlan(frame: bytes, port: int = 4789) -> bytes:
 
 def in_geneve(kind: int, content: bytes, options: bytes = b'') -> bytes:
     """The same (RFC 8926), of what has this kind."""
-    return udp(50_000, 6_081, struct.pack('>BBHI', len(options) // 4, 0, kind, 7 << 8) + options + content)
+    return udp(50_000, 6_081, struct.pack('>BBHI', len(options) // 4, 0, kind, 7 << 8) + options
+               + content)
 
 
 def in_gre(kind: int, content: bytes, key: bytes = b'', number: bytes = b'') -> bytes:
-    """What has this kind in GRE (RFC 2890), with a key of four bytes and a number of four bytes, or without."""
-    return struct.pack('>HH', 0x2000 * bool(key) | 0x1000 * bool(number), kind) + key + number + content
+    """What has this kind in GRE (RFC 2890), with a key of four bytes and a number of four bytes, or
+    without."""
+    return struct.pack('>HH', 0x2000 * bool(key) | 0x1000 * bool(number),
+                       kind) + key + number + content
 
 
 def in_labels(content: bytes, labels: int = 2) -> bytes:
     """A frame of Ethernet with a datagram behind labels of MPLS (RFC 3032)."""
-    packed = b''.join(struct.pack('>I', (16 + number) << 12 | (number == labels - 1) << 8 | 64) for number in range(labels))
+    packed = b''.join(struct.pack('>I', (16 + number) << 12 | (number == labels - 1) << 8 | 64)
+                      for number in range(labels))
     return bytes(12) + struct.pack('>H', 0x8847) + packed + content
 
 
@@ -146,10 +157,12 @@ def in_session(content: bytes) -> bytes:
 # --- Fragments ---
 
 def fragments(content: bytes, size: int, identification: int = 77) -> list[bytes]:
-    """A datagram of IPv4 in fragments, of which each but the last carries `size` bytes, a multiple of eight."""
+    """A datagram of IPv4 in fragments, of which each but the last carries `size` bytes, a multiple
+    of eight."""
     head, payload = content[:20], content[20:]
     return [struct.pack('>BBHHH', 0x45, 0, 20 + len(payload[at:at + size]), identification,
-                        at // 8 | (0x2000 if at + size < len(payload) else 0)) + head[8:] + payload[at:at + size]
+                        at // 8 | (0x2000 if at + size < len(payload) else 0)) + head[8:]
+            + payload[at:at + size]
             for at in range(0, len(payload), size)]
 
 
@@ -157,12 +170,15 @@ def fragments_6(content: bytes, size: int, identification: int = 77) -> list[byt
     """The same of IPv6."""
     head, payload = content[:40], content[40:]
     return [struct.pack('>IHBB', 6 << 28, 8 + len(payload[at:at + size]), 44, 64) + head[8:]
-            + struct.pack('>BBHI', head[6], 0, at | (at + size < len(payload)), identification) + payload[at:at + size]
+            + struct.pack('>BBHI', head[6], 0, at | (at + size < len(payload)), identification)
+            + payload[at:at + size]
             for at in range(0, len(payload), size)]
 
 
 def extended(content: bytes, headers: list[tuple[int, bytes]]) -> bytes:
-    """A datagram of IPv6 with extension headers, each its kind and its bytes, of which the first is to be the kind of the next."""
+    """A datagram of IPv6 with extension headers, each its kind and its bytes, of which the first is
+    to be the kind of the next."""
     kinds = [kind for kind, _ in headers] + [content[6]]
     packed = b''.join(bytes([kinds[at + 1]]) + body[1:] for at, (_, body) in enumerate(headers))
-    return content[:4] + struct.pack('>HB', len(packed) + len(content) - 40, kinds[0]) + content[7:40] + packed + content[40:]
+    return content[:4] + struct.pack('>HB', len(packed) + len(content) - 40,
+                                     kinds[0]) + content[7:40] + packed + content[40:]

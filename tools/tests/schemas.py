@@ -9,7 +9,8 @@ from .scripts import TOP
 FOLDER = TOP / 'docs/schemas'
 TYPES: dict[str, Callable[[Any], bool]] = {
     'object': lambda value: isinstance(value, dict), 'array': lambda value: isinstance(value, list),
-    'string': lambda value: isinstance(value, str), 'boolean': lambda value: isinstance(value, bool),
+    'string': lambda value: isinstance(value, str),
+    'boolean': lambda value: isinstance(value, bool),
     'integer': lambda value: isinstance(value, int) and not isinstance(value, bool),
     'number': lambda value: isinstance(value, (int, float)) and not isinstance(value, bool),
     'null': lambda value: value is None}
@@ -61,7 +62,8 @@ def of_required(schema: Schema, wanted: Any, value: Any, at: str, _: Any) -> Ite
 
 
 def of_others(schema: Schema, wanted: Any, value: Any, at: str, whole: Any) -> Iterator[str]:
-    for name in value.keys() - whole.get('properties', {}).keys() if isinstance(value, dict) else ():
+    for name in value.keys() - whole.get('properties',
+                                         {}).keys() if isinstance(value, dict) else ():
         if wanted is False:
             yield f'{at}: a member {name} more'
         else:
@@ -85,7 +87,8 @@ def of_any(schema: Schema, wanted: Any, value: Any, at: str, _: Any) -> Iterator
 
 
 KEYWORDS: dict[str, Callable[[Schema, Any, Any, str, Any], Iterator[str]]] = {
-    'type': of_type, 'properties': of_properties, 'required': of_required, 'additionalProperties': of_others, 'items': of_items,
+    'type': of_type, 'properties': of_properties, 'required': of_required,
+    'additionalProperties': of_others, 'items': of_items,
     'enum': of_enum, 'anyOf': of_any,
     'const': lambda schema, wanted, value, at, whole: of_enum(schema, [wanted], value, at, whole),
     '$ref': lambda schema, wanted, value, at, _: schema.referred(wanted, value, at)}

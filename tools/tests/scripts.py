@@ -4,7 +4,9 @@ import io
 import os
 import pathlib
 import sys
+import tempfile
 import typing
+from collections.abc import Sequence
 
 from examples.messages import NFS, call, fragment, success, version_1
 from examples.packets import Talk, pcap
@@ -25,8 +27,9 @@ TOP = pathlib.Path(__file__).resolve().parents[2]
 
 # For a process that imports the tools itself.
 WITH_TOOLS = {**os.environ, 'PYTHONPATH': str(TOP / 'tools')}
-# Runs a tool, and then prints the seconds of processor time and the bytes of memory that it took itself, without the programs that it ran.
-# (ru_maxrss has the memory of the tests, too, which were this process before.)
+# Runs a tool, and then prints the seconds of processor time and the bytes of memory that it took
+# itself, without the programs that it ran. (ru_maxrss has the memory of the tests, too, which were
+# this process before.)
 MEASURED = """import resource, runpy, sys
 sys.argv = sys.argv[1:]
 try:
@@ -50,7 +53,8 @@ def stream(bodies: typing.Iterable[bytes]) -> bytes:
 def in_fragments(body: bytes, size: int) -> bytes:
     """A record of fragments of so many bytes, and a last one."""
     whole = range(0, len(body) - size, size)
-    return b''.join(fragment(body[at:at + size], is_last=False) for at in whole) + fragment(body[len(whole) * size:])
+    return b''.join(fragment(body[at:at + size], is_last=False)
+                    for at in whole) + fragment(body[len(whole) * size:])
 
 
 ALL = (stream(CALLS), stream(REPLIES))
@@ -61,7 +65,8 @@ def packed(*connections: Streams) -> bytes:
     return b''.join(version_1((in_one(client), in_one(server)) for client, server in connections))
 
 
-def exchange(talk: Talk, pieces: int = 1, calls: list[bytes] = CALLS, replies: list[bytes] = REPLIES) -> list[bytes]:
+def exchange(talk: Talk, pieces: int = 1, calls: list[bytes] = CALLS,
+             replies: list[bytes] = REPLIES) -> list[bytes]:
     """The segments of some calls and their replies, each side's stream in pieces."""
     frames = []
     for side, bodies in enumerate((calls, replies)):
@@ -71,10 +76,16 @@ def exchange(talk: Talk, pieces: int = 1, calls: list[bytes] = CALLS, replies: l
     return frames
 
 
-def whole(**options: typing.Any) -> list[bytes]:
-    """The frames of a connection from its SYN to its FIN: three, five of the calls, five of the replies, two."""
+def connection_of(calls: list[bytes], replies: list[bytes], pieces: int = 1,
+                  **options: typing.Any) -> list[bytes]:
+    """The frames of a connection from its SYN to its FIN, each side's stream in pieces."""
     talk = Talk(**options)
-    return [*talk.opened(), *exchange(talk, 5), *talk.closed()]
+    return [*talk.opened(), *exchange(talk, pieces, calls, replies), *talk.closed()]
+
+
+def whole(**options: typing.Any) -> list[bytes]:
+    """The frames of a connection: three, five of the calls, five of the replies, two."""
+    return connection_of(CALLS, REPLIES, 5, **options)
 
 
 def taken_of(recording: bytes, **options: typing.Any) -> Taken:
@@ -82,18 +93,21 @@ def taken_of(recording: bytes, **options: typing.Any) -> Taken:
     return take_from(Source(io.BytesIO(recording)), None, Options(**options), True, Progress(False))
 
 
-def sums(ok: int = 0, in_part: int = 0, refused: int = 0, errors: int = 0, left_out: int = 0, not_checked: int = 0, bare: int = 0,
-         raw: str = '', silent: int = 0) -> str:
-    """The line of sums of `tools/verdicts`; `bare` is how many of those that are left out show no call, and
-    `silent` how many calls got no reply."""
+def sums(ok: int = 0, in_part: int = 0, refused: int = 0, errors: int = 0, left_out: int = 0,
+         not_checked: int = 0, bare: int = 0, raw: str = '', silent: int = 0) -> str:
+    """The line of sums of `tools/verdicts`; `bare` is how many of those that are left out show no
+    call, and `silent` how many calls got no reply."""
     open_calls = f'; {silent} call{"s" * (silent != 1)} without a reply' if silent else ''
     without = f' ({bare} without a call)' if bare else ''
-    return (f'{ok + refused} judged ({ok} ok, {refused} refused), {in_part} in part, {left_out} left out{without}, '
-            f'{not_checked} not checked, {errors} errors{open_calls}' + (f'; {raw} raw' if raw else ''))
+    return (f'{ok + refused} judged ({ok} ok, {refused} refused), {in_part} in part, {left_out} '
+            f'left out{without}, '
+            f'{not_checked} not checked, {errors} errors{open_calls}'
+            + (f'; {raw} raw' if raw else ''))
 
 
 class Measured(typing.NamedTuple):
-    """What a tool ended with, the lines that it printed, and the processor time and the memory that it took itself."""
+    """What a tool ended with, the lines that it printed, and the processor time and the memory that
+    it took itself."""
     status: int
     lines: list[str]
     seconds: float
@@ -115,7 +129,8 @@ class Tools(Runs):
         """What a script ended with. Its standard output may be no text."""
         return ended([str(TOP / 'tools' / name), *words], self.folder, **options).text('replace')
 
-    def taken(self, what: str, recording: bytes, wanted: list[Streams], **options: typing.Any) -> list[str]:
+    def taken(self, what: str, recording: bytes, wanted: list[Streams],
+              **options: typing.Any) -> list[str]:
         """The recording gives just these connections. Returns what is told of it."""
         try:
             taken = taken_of(recording, **options)
@@ -125,7 +140,8 @@ class Tools(Runs):
         self.want(what, b''.join(capture_of(taken.pairs())), packed(*wanted))
         return lines_of(taken)
 
-    def told(self, what: str, recording: bytes, wanted: list[Streams], lines: list[str], **options: typing.Any) -> None:
+    def told(self, what: str, recording: bytes, wanted: list[Streams], lines: list[str],
+             **options: typing.Any) -> None:
         """The recording gives just these connections, and this is told besides a line for each."""
         told = self.taken(what, recording, wanted, **options)
         self.want('told: ' + what, [line for line in told if ': client ' not in line], lines)
@@ -144,21 +160,34 @@ class Tools(Runs):
         return os.path.exists(self.path(name))
 
 
-def both_ways(tools: Tools, recording: bytes, words: list[str]) -> list[list[Verdict]]:
-    """The verdicts on a recording, plain and with --follow, as the tool has them with these words."""
-    parser = parser_of('', 'verdicts')
-    add_options(parser)
-    options, said = options_of(parser.parse_args(words)), list[Verdict]()
-    tools.write('a.pcap', recording)
-    path = tools.path('a.pcap')
-    one = following.Following(path, tools.program, options, said.append)
+def plain(program: str, recording: bytes, options: Options) -> list[Verdict]:
+    """The verdicts on a recording, as tools/verdicts has them."""
+    with tempfile.NamedTemporaryFile(prefix='nfs3canon') as file:
+        file.write(recording)
+        file.flush()
+        return Judge(program, options, 1, False).verdicts(file.name)
+
+
+def followed(program: str, recording: bytes, options: Options) -> list[Verdict]:
+    """The same with --follow."""
+    said = list[Verdict]()
+    one = following.Following('-', program, options, said.append)
     with contextlib.closing(one.connections.spool):
         following.take_all(one, typing.cast(following.Growing, io.BytesIO(recording)))
-    return [Judge(tools.program, options, 1, False).verdicts(path), said]
+    return said
+
+
+def both_ways(program: str, recording: bytes, words: Sequence[str] = ()) -> list[list[Verdict]]:
+    """The verdicts on a recording, plain and with --follow, with these words."""
+    parser = parser_of('', 'verdicts')
+    add_options(parser)
+    options = options_of(parser.parse_args(words))
+    return [plain(program, recording, options), followed(program, recording, options)]
 
 
 def write_faulty(tools: Tools) -> list[str]:
-    """Writes recordings and a capture that are not judged as whole and valid, and returns their names."""
+    """Writes recordings and a capture that are not judged as whole and valid, and returns their
+    names."""
     contents = {
         'lost.pcap': pcap(whole()[:4] + whole()[5:]),
         'cut.pcap': pcap(whole())[:-3],

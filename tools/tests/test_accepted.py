@@ -11,30 +11,28 @@ from typing import Any
 
 from examples.messages import (
     NFS, REG, call, dirop, fattr, fh, guard, ok, post_op_attr, sattr, success, wcc, word)
-from examples.packets import Talk, pcap
+from examples.packets import pcap
 
 from .cases import FolderTest
-from .scripts import exchange
-from .test_compare import Comparisons, Conversation
+from .scripts import connection_of
+from .test_compare import Comparisons, Conversation, conversation_of
 
 FOLDER, SETATTR = b'folder', 2
-NLINK = {'procedure': 'NFSPROC3_GETATTR', 'path': '?/f1', 'field': 'obj.nlink', 'first': '1', 'second': '2'}
-ONLY = {'procedure': 'NFSPROC3_SETATTR', 'path': '?/f0', 'only': 'second', 'asks': ['set.mode=416'], 'status': '0'}
+NLINK = {'procedure': 'NFSPROC3_GETATTR', 'path': '?/f1', 'field': 'obj.nlink', 'first': '1',
+         'second': '2'}
+ONLY = {'procedure': 'NFSPROC3_SETATTR', 'path': '?/f0', 'only': 'second', 'asks': ['set.mode=416'],
+        'status': '0'}
 
 
 def run(*nlinks: int, more: int = 0, names: tuple[int, ...] = ()) -> Conversation:
     """LOOKUP of each file, GETATTR of each with its link count, and some SETATTR of the first. The
     order of GETATTR may be another."""
     files = [b'f%d' % number for number in range(len(nlinks))]
-    calls = [call(xid, NFS, 3, 3, dirop(FOLDER, name)) for xid, name in enumerate(files, 1)]
-    replies = [success(xid, ok(fh(name), post_op_attr(), post_op_attr())) for xid, name in enumerate(files, 1)]
-    for at in names or range(len(files)):
-        calls.append(call(10_000 + at, NFS, 3, 1, fh(files[at])))
-        replies.append(success(10_000 + at, ok(fattr(REG, at + 1, nlink=nlinks[at]))))
-    for xid in range(20_000, 20_000 + more):
-        calls.append(call(xid, NFS, 3, SETATTR, fh(files[0]) + sattr(mode=0o640) + guard()))
-        replies.append(success(xid, ok(wcc())))
-    return calls, replies
+    return conversation_of([
+        *((3, dirop(FOLDER, name), ok(fh(name), post_op_attr(), post_op_attr())) for name in files),
+        *((1, fh(files[at]), ok(fattr(REG, at + 1, nlink=nlinks[at])))
+          for at in names or range(len(files))),
+        *[(SETATTR, fh(files[0]) + sattr(mode=0o640) + guard(), ok(wcc()))] * more])
 
 
 def accepts(place: Comparisons, *entries: dict[str, Any]) -> None:
@@ -46,17 +44,20 @@ def compared(place: Comparisons, *words: str) -> tuple[int, str, list[str]]:
     """The status, the verdict, and the lines about what was accepted."""
     status, out, error = place.compare(*words, 'a', 'b')
     place.want('standard error', error, '')
-    return status, out[1].partition(' at ')[0], [line for line in out if line.endswith(' accepted') or line.startswith('no longer found')]
+    return status, out[1].partition(' at ')[0], [line for line in out if line.endswith(' accepted')
+                                                 or line.startswith('no longer found')]
 
 
 def a_field_is_accepted_by_procedure_path_and_values(place: Comparisons) -> None:
-    """A finding that an entry of the file fits makes no difference; one that differs in a word of it does."""
+    """A finding that an entry of the file fits makes no difference; one that differs in a word of
+    it does."""
     place.put('a', run(1, 1, 1))
     place.put('b', run(1, 2, 1))
     place.want('without', compared(place), (1, 'differ', []))
     same, differ = (0, 'same but for 1 accepted: 6 calls in 1 connection', ['1 accepted']), 'differ'
     fitting: list[dict[str, Any]] = [
-        {}, {'path': '?/f*'}, {'path': '?/f[01]'}, {'path': '*'}, {'field': 'obj.nlink', 'is_call': False}, {'procedure': '*'}]
+        {}, {'path': '?/f*'}, {'path': '?/f[01]'}, {'path': '*'},
+        {'field': 'obj.nlink', 'is_call': False}, {'procedure': '*'}]
     for changes in fitting:
         accepts(place, {**NLINK, **changes})
         place.want(f'fits {changes}', compared(place, '--accept', 'known'), same)
@@ -64,12 +65,14 @@ def a_field_is_accepted_by_procedure_path_and_values(place: Comparisons) -> None
         accepts(place, {key: value for key, value in NLINK.items() if key != name})
         place.want(f'any {name}', compared(place, '--accept', 'known'), same)
     others: list[dict[str, Any]] = [
-        {'path': '?/f0'}, {'path': None}, {'path': '?/F1'}, {'first': '2'}, {'second': '3'}, {'second': None}, {'field': 'obj.mode'},
+        {'path': '?/f0'}, {'path': None}, {'path': '?/F1'}, {'first': '2'}, {'second': '3'},
+        {'second': None}, {'field': 'obj.mode'},
         {'is_call': True}, {'procedure': 'NFSPROC3_LOOKUP'}]
     for changes in others:
         accepts(place, {**NLINK, **changes})
         status, verdict, lines = compared(place, '--accept', 'known')
-        place.want(f'fits not {changes}', (status, verdict, lines[0], len(lines)), (1, differ, '0 accepted', 2))
+        place.want(f'fits not {changes}', (status, verdict, lines[0], len(lines)),
+                   (1, differ, '0 accepted', 2))
 
 
 def what_is_left_decides(place: Comparisons) -> None:
@@ -80,7 +83,8 @@ def what_is_left_decides(place: Comparisons) -> None:
     status, out, _ = place.compare('--accept', 'known', 'a', 'b')
     place.want('status', status, 1)
     place.want('verdict', out[1], 'differ at connection 1 server record 6')
-    place.want('fields', [line for line in out if re.match('  [-+]', line)], ['  - obj.nlink=1', '  + obj.nlink=3'])
+    place.want('fields', [line for line in out if re.match('  [-+]', line)],
+               ['  - obj.nlink=1', '  + obj.nlink=3'])
     place.want('counted', '1 accepted' in out, True)
 
 
@@ -91,17 +95,20 @@ def entries_that_fit_nothing_are_named(place: Comparisons) -> None:
     accepts(place, NLINK, ONLY)
     gone = ['0 accepted', 'no longer found: NFSPROC3_GETATTR ?/f1 obj.nlink first=1 second=2',
             'no longer found: NFSPROC3_SETATTR ?/f0 only in the second run set.mode=416']
-    place.want('same', compared(place, '--accept', 'known'), (0, 'same: 4 calls in 1 connection', gone))
+    place.want('same', compared(place, '--accept', 'known'),
+               (0, 'same: 4 calls in 1 connection', gone))
 
 
 def a_call_of_one_run_alone_is_accepted_by_its_side(place: Comparisons) -> None:
-    """A SETATTR that the second run has more is accepted if the entry says so of the second run, what it asks, how it was answered, and
-    how often it comes."""
+    """A SETATTR that the second run has more is accepted if the entry says so of the second run,
+    what it asks, how it was answered, and how often it comes."""
     place.put('a', run(1, 1))
     place.put('b', run(1, 1, more=2))
     accepts(place, {**ONLY, 'times': 2})
-    place.want('second', compared(place, '--accept', 'known'), (0, 'same but for 2 accepted: 4 calls in 1 connection', ['2 accepted']))
-    for what, other in (('times', {}), ('asks', {'asks': ['set.mode=511'], 'times': 2}), ('status', {'status': '5', 'times': 2})):
+    place.want('second', compared(place, '--accept', 'known'),
+               (0, 'same but for 2 accepted: 4 calls in 1 connection', ['2 accepted']))
+    for what, other in (('times', {}), ('asks', {'asks': ['set.mode=511'], 'times': 2}),
+                        ('status', {'status': '5', 'times': 2})):
         accepts(place, {**ONLY, **other})
         place.want(what, compared(place, '--accept', 'known')[:2], (1, 'differ'))
     accepts(place, {**ONLY, 'only': 'first'})
@@ -111,22 +118,27 @@ def a_call_of_one_run_alone_is_accepted_by_its_side(place: Comparisons) -> None:
 
 
 def other_orders_stay_what_they_are(place: Comparisons) -> None:
-    """With an accepted field, runs whose calls have other turns are the same in another order, and differ in their own."""
+    """With an accepted field, runs whose calls have other turns are the same in another order, and
+    differ in their own."""
     place.put('a', run(1, 1, 1))
     place.put('b', run(1, 2, 1, names=(2, 1, 0)))
     accepts(place, NLINK)
     turned = 'same in another order but for 1 accepted: 6 calls; 2 reordered; 2 replies reordered'
     place.want('by default', compared(place, '--accept', 'known')[:2], (1, turned))
     place.want('any', compared(place, '--order', 'any', '--accept', 'known')[:2], (0, turned))
-    place.want('strict', compared(place, '--order', 'strict', '--accept', 'known')[:2], (1, 'differ'))
+    place.want('strict', compared(place, '--order', 'strict', '--accept', 'known')[:2],
+               (1, 'differ'))
     every = {'procedure': '*', 'kind': 'moved'}
     accepts(place, NLINK, every)
-    place.want('late replies', compared(place, '--order', 'strict', '--accept', 'known')[:2], (1, 'differ'))
+    place.want('late replies', compared(place, '--order', 'strict', '--accept', 'known')[:2],
+               (1, 'differ'))
 
 
 def nothing_else_becomes_green(place: Comparisons) -> None:
-    """Whole connections and what is not found as a field are never accepted, whatever the file says."""
-    everything = [{'procedure': '*', 'field': 'obj.nlink', 'times': 9}, {**ONLY, 'only': 'first', 'times': 9}, {**ONLY, 'times': 9},
+    """Whole connections and what is not found as a field are never accepted, whatever the file
+    says."""
+    everything = [{'procedure': '*', 'field': 'obj.nlink', 'times': 9},
+                  {**ONLY, 'only': 'first', 'times': 9}, {**ONLY, 'times': 9},
                   {'procedure': '*', 'kind': 'moved', 'times': 9},
                   {'procedure': '*', 'kind': 'replies', 'first': '0', 'second': '0, 0', 'times': 9}]
     accepts(place, *everything)
@@ -134,51 +146,59 @@ def nothing_else_becomes_green(place: Comparisons) -> None:
     place.put('b', run(1, 2), run(1, 1, more=1))
     place.want('a connection more', compared(place, '--accept', 'known')[0], 1)
     place.put('b', run(1, 2), ([], []))
-    place.want('an empty one, strict', compared(place, '--order', 'strict', '--accept', 'known')[:2], (1, 'differ'))
+    place.want('an empty one, strict', compared(place, '--order', 'strict', '--accept',
+                                                'known')[:2], (1, 'differ'))
     place.put('a', run(1))
     place.put('b', run(2)[:1] + ([],))
     place.want('no replies', compared(place, '--accept', 'known')[0], 1)
 
 
 def lost_and_refused_connections_stay(place: Comparisons) -> None:
-    """An accepted field makes no run green of which bytes are missing or a connection is refused."""
+    """An accepted field makes no run green of which bytes are missing or a connection is
+    refused."""
     def recorded(nlink: int, lost: int | None, status: int) -> bytes:
-        talk, other = Talk(700), Talk(701)
-        calls, replies = run(1, nlink)
-        frames = [*talk.opened(), *exchange(talk, 4, calls, replies), *talk.closed()]
+        frames = connection_of(*run(1, nlink), 4)
         bad = [call(1, NFS, 3, 0)], [success(1) if not status else word(1) * 6]
-        return pcap([frame for at, frame in enumerate(frames) if at != lost] + [*other.opened(), *exchange(other, 1, *bad), *other.closed()])
+        return pcap([frame for at, frame in enumerate(frames) if at != lost]
+                    + connection_of(*bad, port=701))
     accepts(place, {'procedure': '*', 'field': 'obj.nlink'})
-    for what, lost, fault, wanted in (('whole', None, 0, 0), ('lost', 10, 0, 1), ('refused', None, 1, 2)):
+    for what, lost, fault, wanted in (('whole', None, 0, 0), ('lost', 10, 0, 1),
+                                      ('refused', None, 1, 2)):
         place.write('a', recorded(1, None, 0))
         place.write('b', recorded(2, lost, fault))
         place.want(what, place.compare('--accept', 'known', '--order', 'any', 'a', 'b')[0], wanted)
 
 
 def a_new_file_accepts_what_was_found(place: Comparisons) -> None:
-    """--accept-new has an entry for each finding by hand's count, its file makes the same runs green, and a wildcard in a name is
-    none."""
+    """--accept-new has an entry for each finding by hand's count, its file makes the same runs
+    green, and a wildcard in a name is none."""
     place.put('a', run(1, 1, 1))
     place.put('b', run(1, 2, 1, more=1))
     place.want('status', compared(place, '--accept-new', 'new')[0], 1)
     found = json.loads(place.read('new'))
     path = glob_free('?/f1'), glob_free('?/f0')
     place.want('entries', found, {'version': 2, 'accepted': [
-        {'procedure': 'NFSPROC3_GETATTR', 'path': path[0], 'is_call': False, 'field': 'obj.nlink', 'first': '1', 'second': '2'},
+        {'procedure': 'NFSPROC3_GETATTR', 'path': path[0], 'is_call': False, 'field': 'obj.nlink',
+         'first': '1', 'second': '2'},
         {**ONLY, 'path': path[1]}]})
     place.want('green', compared(place, '--accept', 'new')[0::2], (0, ['2 accepted']))
-    place.want('replaced', (compared(place, '--accept', 'new', '--accept-new', 'new')[0], json.loads(place.read('new'))), (0, found))
+    place.want('replaced', (compared(place, '--accept', 'new', '--accept-new', 'new')[0],
+                            json.loads(place.read('new'))), (0, found))
 
 
 def what_counts_in_no_order_is_not_written(place: Comparisons) -> None:
-    """--accept-new of runs that are the same in another order has no entry, though file ids differ; with an accepted field it has that."""
+    """--accept-new of runs that are the same in another order has no entry, though file ids differ;
+    with an accepted field it has that."""
     place.put('a', run(1, 1, 1))
     place.put('b', run(1, 1, 1, names=(2, 1, 0)))
-    place.want('turned', (compared(place, '--accept-new', 'new')[0], json.loads(place.read('new'))['accepted']), (1, []))
+    place.want('turned', (compared(place, '--accept-new', 'new')[0],
+                          json.loads(place.read('new'))['accepted']), (1, []))
     place.put('b', run(1, 2, 1, names=(2, 1, 0)))
     accepts(place, NLINK)
-    place.want('with a field', compared(place, '--order', 'any', '--accept', 'known', '--accept-new', 'new')[0], 0)
-    place.want('entries', [one['field'] for one in json.loads(place.read('new'))['accepted']], ['obj.nlink'])
+    place.want('with a field', compared(place, '--order', 'any', '--accept', 'known',
+                                        '--accept-new', 'new')[0], 0)
+    place.want('entries', [one['field'] for one in json.loads(place.read('new'))['accepted']],
+               ['obj.nlink'])
 
 
 def glob_free(path: str) -> str:
@@ -186,21 +206,28 @@ def glob_free(path: str) -> str:
 
 
 def files_are_written_and_read_with_care(place: Comparisons) -> None:
-    """A recording or an input is never replaced, other outputs do not replace the file, and a wrong file is refused by name."""
+    """A recording or an input is never replaced, other outputs do not replace the file, and a wrong
+    file is refused by name."""
     place.put('a', run(1))
     place.put('b', run(2))
     place.write('c', pcap([]))
     accepts(place, NLINK)
-    for words in (('--accept-new', 'a'), ('--accept-new', 'c'), ('--accept', 'known', '--json', 'known'),
+    for words in (('--accept-new', 'a'), ('--accept-new', 'c'),
+                  ('--accept', 'known', '--json', 'known'),
                   ('--accept-new', 'x', '--html', 'x'), ('--accept', 'known', '--marks', 'x')):
         before = {name: place.read(name) for name in ('a', 'b', 'c', 'known')}
         place.want(' '.join(words), place.compare(*words, 'a', 'b')[0], 2)
         place.want('kept', {name: place.read(name) for name in before}, before)
     wrong: dict[str, Any] = {
-        'no JSON': b'{', 'a list': b'[]', 'a version': {'version': 3, 'accepted': []}, 'the old version': {'version': 1, 'accepted': []}, 'no entry': [3], 'a member': [{**NLINK, 'fild': 'x'}],
-        'no procedure': [{**NLINK, 'procedure': 'GETATR'}], 'two kinds': [{**NLINK, 'only': 'first'}], 'no kind': [{'procedure': '*'}],
-        'a number': [{**NLINK, 'first': 1}], 'a side': [{**ONLY, 'only': 'third'}], 'order': [{'procedure': '*', 'kind': 'order'}],
-        'no asks': [{'procedure': '*', 'only': 'first'}], 'no statuses': [{'procedure': '*', 'kind': 'replies'}],
+        'no JSON': b'{', 'a list': b'[]', 'a version': {'version': 3, 'accepted': []},
+        'the old version': {'version': 1, 'accepted': []}, 'no entry': [3],
+        'a member': [{**NLINK, 'fild': 'x'}],
+        'no procedure': [{**NLINK, 'procedure': 'GETATR'}],
+        'two kinds': [{**NLINK, 'only': 'first'}], 'no kind': [{'procedure': '*'}],
+        'a number': [{**NLINK, 'first': 1}], 'a side': [{**ONLY, 'only': 'third'}],
+        'order': [{'procedure': '*', 'kind': 'order'}],
+        'no asks': [{'procedure': '*', 'only': 'first'}],
+        'no statuses': [{'procedure': '*', 'kind': 'replies'}],
         'no times': [{**NLINK, 'times': 0}], 'half a character': [{**NLINK, 'path': '\ud800'}]}
     for what, entries in wrong.items():
         content = entries if isinstance(entries, bytes) else json.dumps(
@@ -208,27 +235,36 @@ def files_are_written_and_read_with_care(place: Comparisons) -> None:
         place.write('bad', content)
         status, out, error = place.compare('--accept', 'bad', 'a', 'b')
         place.want(what, (status, out, 'no accepted findings in bad: ' in error), (2, [], True))
-    place.want('missing', place.compare('--accept', 'missing', 'a', 'b')[::2], (3, 'compare: missing: No such file or directory\n'))
+    place.want('missing', place.compare('--accept', 'missing', 'a', 'b')[::2],
+               (3, 'compare: missing: No such file or directory\n'))
 
 
 def all_forms_say_the_same(place: Comparisons) -> None:
-    """Text, --brief, JSON, JUnit XML and the page have the same number of accepted findings, and the same status."""
+    """Text, --brief, JSON, JUnit XML and the page have the same number of accepted findings, and
+    the same status."""
     place.put('a', run(1, 1, 1))
-    for nlinks, known, accepted, gone in (((1, 2, 1), [NLINK], 1, 0), ((1, 2, 3), [NLINK, ONLY], 1, 1), ((1, 1, 1), [NLINK], 0, 1)):
+    for nlinks, known, accepted, gone in (((1, 2, 1), [NLINK], 1, 0),
+                                          ((1, 2, 3), [NLINK, ONLY], 1, 1),
+                                          ((1, 1, 1), [NLINK], 0, 1)):
         place.put('b', run(*nlinks))
         accepts(place, *known)
-        status, out, _ = place.compare('--accept', 'known', '--brief', '--json', 'x.json', '--junit', 'x.xml', '--html', 'x.html', 'a', 'b')
-        text = (f'{accepted} accepted' in out, sum(line.startswith('no longer found: ') for line in out))
+        status, out, _ = place.compare('--accept', 'known', '--brief', '--json', 'x.json',
+                                       '--junit', 'x.xml', '--html', 'x.html', 'a', 'b')
+        text = (f'{accepted} accepted' in out,
+                sum(line.startswith('no longer found: ') for line in out))
         place.want('text', text, (True, gone))
         found = json.loads(place.read('x.json'))
-        place.want('JSON', (found['accepted']['count'], len(found['accepted']['findings']), len(found['accepted']['no_longer_found'])),
+        place.want('JSON', (found['accepted']['count'], len(found['accepted']['findings']),
+                            len(found['accepted']['no_longer_found'])),
                    (accepted, accepted, gone))
         place.want('verdict', found['verdict'] == 'same', status == 0)
         suite = xml.etree.ElementTree.fromstring(place.read('x.xml'))[0]
         counts = {one.get('name'): one.get('value') for one in suite.iter('property')}
-        place.want('JUnit', (counts['accepted'], counts['no longer found'], suite.get('failures') == '0'), (str(accepted), str(gone), status == 0))
+        place.want('JUnit', (counts['accepted'], counts['no longer found'],
+                             suite.get('failures') == '0'), (str(accepted), str(gone), status == 0))
         page = place.read('x.html').decode()
-        place.want('page', (f'<p class=accepted>{accepted} accepted</p>' in page, page.count('<p class=accepted>no longer found: ')),
+        place.want('page', (f'<p class=accepted>{accepted} accepted</p>' in page,
+                            page.count('<p class=accepted>no longer found: ')),
                    (True, gone))
         place.want('folded', page.count('accepted: NFSPROC3_GETATTR reply ?/f1'), accepted)
     place.compare('--json', 'x.json', 'a', 'b')
@@ -240,7 +276,8 @@ def many_entries_cost_little(place: Comparisons) -> None:
     place.put('a', run(*[1] * 3_000))
     place.put('b', run(*[2] * 3_000))
     accepts(place, *({**NLINK, 'path': f'*/f{number}'} for number in range(0, 3_000, 1_000)))
-    place.want('three', compared(place, '--accept', 'known', '--accept-new', 'new')[2], ['3 accepted'])
+    place.want('three', compared(place, '--accept', 'known', '--accept-new', 'new')[2],
+               ['3 accepted'])
     place.want('all', compared(place, '--accept', 'new')[2], ['3,000 accepted'])
 
 
@@ -248,23 +285,26 @@ def replies_are_accepted_by_their_statuses(place: Comparisons) -> None:
     """A second reply is accepted with its status, and no other one."""
     def answered(*statuses: int) -> Conversation:
         calls, replies = run(1, 1)
-        return calls, [*replies[:-1], *(success(10_001, ok(fattr(REG, 2))) if not status else success(10_001, word(status))
+        last = len(calls)
+        return calls, [*replies[:-1], *(success(last, ok(fattr(REG, 2))) if not status
+                                        else success(last, word(status))
                                         for status in statuses)]
     place.put('a', answered(0))
     place.put('b', answered(0, 0))
     place.want('written', compared(place, '--accept-new', 'new')[0], 1)
     place.want('entry', json.loads(place.read('new'))['accepted'][0], {
-        'procedure': 'NFSPROC3_GETATTR', 'path': '[?]/f1', 'kind': 'replies', 'first': '0', 'second': '0, 0'})
+        'procedure': 'NFSPROC3_GETATTR', 'path': '[?]/f1', 'kind': 'replies', 'first': '0',
+        'second': '0, 0'})
     place.want('accepted', compared(place, '--accept', 'new')[0], 0)
     place.put('b', answered(0, 5))
     place.want('another', compared(place, '--accept', 'new')[:2], (1, 'differ'))
 
 
-TESTS = [replies_are_accepted_by_their_statuses, a_field_is_accepted_by_procedure_path_and_values, what_is_left_decides, entries_that_fit_nothing_are_named,
-         a_call_of_one_run_alone_is_accepted_by_its_side, other_orders_stay_what_they_are, nothing_else_becomes_green,
-         lost_and_refused_connections_stay, a_new_file_accepts_what_was_found, files_are_written_and_read_with_care, all_forms_say_the_same,
-         what_counts_in_no_order_is_not_written, many_entries_cost_little]
-
-
-class TestAccepted(FolderTest, make=Comparisons, tests=TESTS):
+class TestAccepted(FolderTest, make=Comparisons, tests=[
+        replies_are_accepted_by_their_statuses, a_field_is_accepted_by_procedure_path_and_values,
+        what_is_left_decides, entries_that_fit_nothing_are_named,
+        a_call_of_one_run_alone_is_accepted_by_its_side, other_orders_stay_what_they_are,
+        nothing_else_becomes_green, lost_and_refused_connections_stay,
+        a_new_file_accepts_what_was_found, files_are_written_and_read_with_care,
+        all_forms_say_the_same, what_counts_in_no_order_is_not_written, many_entries_cost_little]):
     """Findings that were accepted."""

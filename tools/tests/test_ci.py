@@ -12,19 +12,21 @@ import xml.etree.ElementTree
 from collections.abc import Sequence
 from typing import Unpack
 
-from examples.messages import NFS, call, dirop, fattr, fh, ok, post_op_attr, success
-from examples.packets import Talk, pcap
+from examples.messages import dirop, fattr, fh, ok, post_op_attr
+from examples.packets import pcap
 from tests.shared.running import RunOptions, begin, ended
 
 from .cases import FolderTest
-from .scripts import TOP, Tools, exchange, whole
+from .scripts import TOP, Tools, connection_of, whole
+from .test_compare import conversation_of
 
 PAGE = (TOP / 'docs/CI.md').read_text()
 CONTAINERFILE = (TOP / 'Containerfile').read_text()
 EXAMPLES = TOP / 'examples'
 FIRST, SECOND, CHANGED = (str(EXAMPLES / f'ganesha_{name}.pcap') for name in ('a', 'b', 'changed'))
 SCRIPTS = {
-    'sudo': 'exec "$@"', 'apt-get': ':', 'curl': 'cat "$RELEASE"', 'sleep': 'exec "$REAL_SLEEP" 0.2',
+    'sudo': 'exec "$@"', 'apt-get': ':', 'curl': 'cat "$RELEASE"',
+    'sleep': 'exec "$REAL_SLEEP" 0.2',
     'tcpdump': 'while [ "$1" != -w ]; do shift; done; cp "$TRAFFIC" "$2"; exec "$REAL_SLEEP" 60'}
 
 
@@ -48,7 +50,8 @@ def of_gitlab(text: str) -> str:
 def write_scripts(tools: Tools) -> None:
     """Writes what stands for programs that are not run here, and the user's tests."""
     os.mkdir(tools.path('bin'))
-    for name, script in {**{f'bin/{name}': script for name, script in SCRIPTS.items()}, 'run-nfs-tests.sh': '[ -s run.pcap ]'}.items():
+    for name, script in {**{f'bin/{name}': script for name, script in SCRIPTS.items()},
+                         'run-nfs-tests.sh': '[ -s run.pcap ]'}.items():
         tools.write(name, f'#!/bin/sh\n{script}\n'.encode())
         os.chmod(tools.path(name), 0o755)
 
@@ -65,8 +68,8 @@ def made_ready(tools: Tools, traffic: str) -> dict[str, str]:
     release = released(tools)
     os.mkdir(tools.path('usr'))
     path = f'{tools.path("bin")}:{tools.path("usr/bin")}:{os.environ["PATH"]}'
-    return {**os.environ, 'PATH': path, 'RELEASE': tools.path(release), 'TRAFFIC': traffic, 'NFS3CANON': 'https://example.org/x',
-            'REAL_SLEEP': shutil.which('sleep') or ''}
+    return {**os.environ, 'PATH': path, 'RELEASE': tools.path(release), 'TRAFFIC': traffic,
+            'NFS3CANON': 'https://example.org/x', 'REAL_SLEEP': shutil.which('sleep') or ''}
 
 
 def run(tools: Tools, script: str, variables: dict[str, str]) -> int:
@@ -78,14 +81,16 @@ def run(tools: Tools, script: str, variables: dict[str, str]) -> int:
 def cases(tools: Tools, name: str) -> list[tuple[str | None, list[str]]]:
     """The names of the cases of a file, and the tags in them."""
     root = xml.etree.ElementTree.fromstring((tools.read(name) or b'').decode())
-    return [(case.get('name'), [item.tag for item in case if item.tag != 'system-out']) for case in root.iter('testcase')]
+    return [(case.get('name'), [item.tag for item in case if item.tag != 'system-out'])
+            for case in root.iter('testcase')]
 
 
 def made_by(tools: Tools, found: Sequence[int], wanted: Sequence[int], differences: int) -> None:
     """The statuses of the last two steps, and what they made."""
     tools.want('statuses', list(found), list(wanted))
     tools.want('verdicts.xml', [tags for _, tags in cases(tools, 'verdicts.xml')], [[]] * 3)
-    tools.want('compare.xml', [tags for _, tags in cases(tools, 'compare.xml')], [['failure']] * (differences + 1) if differences else [[]])
+    tools.want('compare.xml', [tags for _, tags in cases(tools, 'compare.xml')],
+               [['failure']] * (differences + 1) if differences else [[]])
     for name in ('verdicts.html', 'compare.html'):
         tools.want(name, b'<html' in (tools.read(name) or b''), True)
 
@@ -99,7 +104,8 @@ def the_page(tools: Tools, traffic: str, differences: int) -> None:
     tools.want('steps', len(steps), 3)
     tools.want('install', run(tools, install, variables), 0)
     shutil.copy(SECOND, tools.path('run.pcap'))
-    tools.want('the reference', (run(tools, reference, variables), tools.exists('reference.nfs3cap.xz')), (0, True))
+    tools.want('the reference', (run(tools, reference, variables),
+                                 tools.exists('reference.nfs3cap.xz')), (0, True))
     os.remove(tools.path('run.pcap'))
     status = 1 if differences else 0
     made_by(tools, [run(tools, step, variables) for step in steps], [0, 0, status], differences)
@@ -108,9 +114,11 @@ def the_page(tools: Tools, traffic: str, differences: int) -> None:
     made_by(tools, [run(tools, of_gitlab(gitlab), variables)], [status], differences)
     for text in (github.partition('path: |')[2], gitlab.partition('paths: ')[2]):
         kept = set(re.findall(r'[\w.]+\.(?:pcap|xml|html)', text))
-        tools.want('what is kept', kept, {'compare.html', 'compare.xml', 'run.pcap', 'verdicts.html', 'verdicts.xml'})
+        tools.want('what is kept', kept, {'compare.html', 'compare.xml', 'run.pcap',
+                                          'verdicts.html', 'verdicts.xml'})
     again = 'nfs3-compare --order any --accept accepted.json reference.nfs3cap.xz run.pcap'
-    tools.want('accepted', [run(tools, script, variables) for script in (accept, again)], [status, 0])
+    tools.want('accepted', [run(tools, script, variables) for script in (accept, again)],
+               [status, 0])
 
 
 def a_run_that_is_the_same(tools: Tools) -> None:
@@ -130,14 +138,18 @@ def instructions_of_image() -> list[tuple[str, str]]:
 
 
 def what_the_image_gets(tools: Tools) -> None:
-    """The release has the name that is copied, what unpacks it puts the programs below /usr/local, and nothing else is left there."""
+    """The release has the name that is copied, what unpacks it puts the programs below /usr/local,
+    and nothing else is left there."""
     release = released(tools)
     copied = [rest.split() for word, rest in instructions_of_image() if word == 'COPY']
-    tools.want('what is copied', [(fnmatch.fnmatch(release, pattern), place) for pattern, place in copied], [(True, '/tmp/')])
+    tools.want('what is copied', [(fnmatch.fnmatch(release, pattern), place)
+                                  for pattern, place in copied], [(True, '/tmp/')])
     os.mkdir(tools.path('usr'))
-    unpacking, = (rest for word, rest in instructions_of_image() if word == 'RUN' and 'apt-get' not in rest)
+    unpacking, = (rest for word, rest in instructions_of_image() if word == 'RUN'
+                  and 'apt-get' not in rest)
     status = run(tools, unpacking.replace('/tmp/', f'{tools.folder}/'), dict(os.environ))
-    tools.want('unpacked', (status, tools.exists(release), sorted(os.listdir(tools.path('usr')))), (0, False, ['bin', 'libexec', 'share']))
+    tools.want('unpacked', (status, tools.exists(release), sorted(os.listdir(tools.path('usr')))),
+               (0, False, ['bin', 'libexec', 'share']))
     programs = os.listdir(tools.path('usr/bin'))
     for name in {'nfs3canon', *re.findall(r'nfs3-[a-z-]+', PAGE)} - {'nfs3-'}:
         tools.want(name, name in programs, True)
@@ -165,10 +177,12 @@ class Podman:
         if self.run('image', 'exists', named) == 0 or self.run('pull', '-q', named) == 0:
             return str(named)
         folder = self.tools.path('base')
-        if not shutil.which('debootstrap') or ended(['debootstrap', '--variant=minbase', 'bookworm', folder], '/', limit=None).status:
+        if not shutil.which('debootstrap') or ended(['debootstrap', '--variant=minbase', 'bookworm',
+                                                     folder], '/', limit=None).status:
             return None
         with begin(['tar', '-C', folder, '-c', '.'], '/') as tar:
-            return None if self.run('import', '-q', '-', f'{self.own}-base', stdin=tar.stdout) else f'{self.own}-base'
+            return None if self.run('import', '-q', '-', f'{self.own}-base',
+                                    stdin=tar.stdout) else f'{self.own}-base'
 
     def remove(self) -> None:
         for name in (f'{self.own}-run', self.own, f'{self.own}-base'):
@@ -176,7 +190,8 @@ class Podman:
         shutil.rmtree(self.tools.path('base'), ignore_errors=True)
 
 
-IN_FOLDER = ('build', '--isolation=chroot', '--network=host', '--layers=false')  # with the rights of the tests, and no images between
+# with the rights of the tests, and no images between
+IN_FOLDER = ('build', '--isolation=chroot', '--network=host', '--layers=false')
 
 
 def the_image(tools: Tools) -> None:
@@ -202,13 +217,16 @@ def image_on(tools: Tools, podman: Podman, base: str) -> None:
     released(tools, 'image')
     shutil.copy(TOP / 'Containerfile', tools.folder)
     words = [podman.own if word == build[3] else word for word in build[2:]]
-    tools.want('build', podman.run(*IN_FOLDER, '--build-arg', f'BASE={base}', *words) and podman.said, 0)
+    tools.want('build', podman.run(*IN_FOLDER, '--build-arg', f'BASE={base}', *words)
+               and podman.said, 0)
     write_scripts(tools)
     shutil.copy(CHANGED, tools.path('traffic.pcap'))
     tools.write('gitlab.sh', of_gitlab(blocks_of(PAGE, 'yaml')[1]).encode())
     shutil.copy(SECOND, tools.path('run.pcap'))
-    run_in(tools, podman, 'nfs3-from-pcap run.pcap reference.nfs3cap && xz reference.nfs3cap && tcpdump --version && nfs3canon --version')
-    run_in(tools, podman, 'export PATH=/runs/bin:$PATH TRAFFIC=traffic.pcap REAL_SLEEP=/usr/bin/sleep; '
+    run_in(tools, podman, 'nfs3-from-pcap run.pcap reference.nfs3cap && xz reference.nfs3cap && '
+           'tcpdump --version && nfs3canon --version')
+    run_in(tools, podman,
+           'export PATH=/runs/bin:$PATH TRAFFIC=traffic.pcap REAL_SLEEP=/usr/bin/sleep; '
            'status=0; bash -e -o pipefail gitlab.sh || status=$?; echo $status > status')
     made_by(tools, [int(tools.read('status') or b'-1')], [1], 1)
 
@@ -216,7 +234,8 @@ def image_on(tools: Tools, podman: Podman, base: str) -> None:
 def run_in(tools: Tools, podman: Podman, script: str) -> None:
     """Runs commands in the image, on the folder of the test."""
     tools.write('Runfile', f'FROM {podman.own}\nWORKDIR /runs\nRUN {script}\n'.encode())
-    words = (*IN_FOLDER, '--no-cache', '-v', f'{tools.folder}:/runs', '-t', f'{podman.own}-run', '-f', 'Runfile', 'image')
+    words = (*IN_FOLDER, '--no-cache', '-v', f'{tools.folder}:/runs', '-t', f'{podman.own}-run',
+             '-f', 'Runfile', 'image')
     tools.want(script, podman.run(*words) and podman.said, 0)
     podman.run('rmi', '-f', f'{podman.own}-run')
 
@@ -224,85 +243,102 @@ def run_in(tools: Tools, podman: Podman, script: str) -> None:
 # --- compare --junit and --brief ---
 
 def compare(tools: Tools, *words: str) -> tuple[int, list[str], str]:
-    status, out, error = tools.tool('compare', '--program', tools.program, '--junit', 'x.xml', *words)
+    status, out, error = tools.tool('compare', '--program', tools.program, '--junit', 'x.xml',
+                                    *words)
     return status, out.splitlines(), error
 
 
 def lines_of_findings(tools: Tools) -> None:
-    """--brief prints a line for each finding that is printed else, with the same heading and all values."""
+    """--brief prints a line for each finding that is printed else, with the same heading and all
+    values."""
     concurrent = [str(EXAMPLES / f'concurrent_{name}.pcap') for name in ('a', 'changed')]
     for words in ([FIRST, CHANGED], ['--order', 'any', *concurrent], ['--all', FIRST, CHANGED]):
         status, lines, _ = compare(tools, *words)
         again, brief, _ = compare(tools, '--brief', *words)
         headings = [line for line in lines if re.match(r'NFS|MOUNT|only in', line)]
         found = [line for line in brief if re.match(r'NFS|MOUNT|only in', line)]
-        tools.want('the headings', [line.startswith(heading + ': ') for line, heading in zip(found, headings)], [True] * len(headings))
+        tools.want('the headings',
+                   [line.startswith(heading + ': ') for line, heading in zip(found, headings)],
+                   [True] * len(headings))
         tools.want('the rest', (again, len(found), [line for line in brief if line not in found]),
-                   (status, len(headings), [line for line in lines if line not in headings and not line.startswith('  ')]))
-    tools.want('a line', [line for line in compare(tools, '--brief', FIRST, CHANGED)[1] if line.startswith('NFS')], [
-        'NFSPROC3_FSINFO reply /mem: connection 2 server record 2 (frame 21) | connection 2 server record 2 (frame 21): '
-        'rtmax=67108864 -> 65536; rtpref=67108864 -> 65536; wtmax=67108864 -> 65536; wtpref=67108864 -> 65536'])
+                   (status, len(headings),
+                    [line for line in lines if line not in headings and not line.startswith('  ')]))
+    tools.want('a line', [line for line in compare(tools, '--brief', FIRST, CHANGED)[1]
+                          if line.startswith('NFS')], [
+                              'NFSPROC3_FSINFO reply /mem: connection 2 server record 2 (frame 21) '
+                              '| connection 2 server record 2 (frame 21): '
+                              'rtmax=67108864 -> 65536; rtpref=67108864 -> 65536; wtmax=67108864 '
+                              '-> 65536; wtpref=67108864 -> 65536'])
 
 
 def cases_of_runs(tools: Tools) -> None:
-    """One case that passed if the status is 0, else failures, or an error; the message of the first is the verdict."""
+    """One case that passed if the status is 0, else failures, or an error; the message of the first
+    is the verdict."""
     frames = whole()
     tools.write('a.pcap', pcap(frames))
     tools.write('part.pcap', pcap(frames[:4] + frames[5:]))
     concurrent = [str(EXAMPLES / f'concurrent_{name}.pcap') for name in 'ab']
     for words, status, tags, kind, message in (
             (['a.pcap', 'a.pcap'], 0, [[]], None, None),
-            ([FIRST, CHANGED], 1, [['failure']] * 2, 'differ', 'differ at connection 2 server record 2'),
-            (concurrent, 1, [['failure']], 'same in another order', 'same in another order: 100 calls; 3 connections reordered'),
+            ([FIRST, CHANGED], 1, [['failure']] * 2, 'differ',
+             'differ at connection 2 server record 2'),
+            (concurrent, 1, [['failure']], 'same in another order',
+             'same in another order: 100 calls; 3 connections reordered'),
             (['--order', 'any', *concurrent], 0, [[]], None, None),
             (['part.pcap', 'part.pcap'], 1, [['failure']], 'same in part',
-             'same in part: 30 calls in 1 connection, 344 bytes missing from the first run, 344 bytes missing from the second run'),
+             'same in part: 30 calls in 1 connection, 344 bytes missing from the first run, 344 '
+             'bytes missing from the second run'),
             (['--allow-losses', 'part.pcap', 'part.pcap'], 0, [[]], None, None),
             ([FIRST, str(EXAMPLES / 'bad_bool.pcap')], 2, [['error']], None,
              f'{EXAMPLES}/bad_bool.pcap: connection 1 server record 1 byte 28: BadBool (frame 5)'),
-            (['a.pcap', 'x.xml.old'], 2, [['error']], None, 'x.xml.old: it is neither pcap nor pcapng')):
+            (['a.pcap', 'x.xml.old'], 2, [['error']], None,
+             'x.xml.old: it is neither pcap nor pcapng')):
         tools.write('x.xml.old', b'text')
         found, _, error = compare(tools, *words)
         root = xml.etree.ElementTree.fromstring((tools.read('x.xml') or b'').decode())
-        tools.want(' '.join(words), (found, [tags for _, tags in cases(tools, 'x.xml')], 'Traceback' in error), (status, tags, False))
-        suite, first = root[0], next((item for case in root.iter('testcase') for item in case if item.tag != 'system-out'), None)
-        tools.want('the first', (None, None) if first is None else (first.get('type'), first.get('message')), (kind, message))
-        numbers = [str(sum(tag in some for some in tags)) for tag in ('failure', 'error', 'skipped')]
-        tools.want('sums', [suite.get(key) for key in ('tests', 'failures', 'errors', 'skipped')], [str(len(tags)), *numbers])
+        tools.want(' '.join(words), (found, [tags for _, tags in cases(tools, 'x.xml')],
+                                     'Traceback' in error), (status, tags, False))
+        suite, first = root[0], next((item for case in root.iter('testcase') for item in case
+                                      if item.tag != 'system-out'), None)
+        tools.want('the first', (None, None) if first is None
+                   else (first.get('type'), first.get('message')), (kind, message))
+        numbers = [str(sum(tag in some for some in tags))
+                   for tag in ('failure', 'error', 'skipped')]
+        tools.want('sums', [suite.get(key) for key in ('tests', 'failures', 'errors', 'skipped')],
+                   [str(len(tags)), *numbers])
         os.remove(tools.path('x.xml'))
     refused = (2, '', 'compare: a.pcap is an input, and is not replaced\n')
     tools.want('an input', tools.tool('compare', '--junit', 'a.pcap', 'a.pcap', 'a.pcap'), refused)
 
 
 def run_from(port: int, more: int, *modes: int) -> bytes:
-    """A recording of a client from a port: more NULLs than else, then LOOKUP of a file and its GETATTR, once for each mode."""
+    """A recording of a client from a port: more NULLs than else, then LOOKUP of a file and its
+    GETATTR, once for each mode."""
     attributes = [ok(fattr(1, 5, mode=mode)) for mode in modes]
-    asked = [*[(0, b'', b'')] * more, (3, dirop(b'top', b'x'), ok(fh(b'x'), post_op_attr(), post_op_attr())),
+    asked = [*[(0, b'', b'')] * more,
+             (3, dirop(b'top', b'x'), ok(fh(b'x'), post_op_attr(), post_op_attr())),
              *((1, fh(b'x'), said) for said in attributes)]
-    calls = [call(xid, NFS, 3, number, arguments) for xid, (number, arguments, _) in enumerate(asked)]
-    talk = Talk(port)
-    return pcap([*talk.opened(), *exchange(talk, len(asked), calls, [success(xid, said) for xid, (_, _, said) in enumerate(asked)]),
-                 *talk.closed()])
+    return pcap(connection_of(*conversation_of(asked), len(asked), port=port))
 
 
 def names_that_last(tools: Tools) -> None:
-    """The names of the cases are the same if the same differs in another run, from another port and at other places; those of one name
-    are numbered."""
+    """The names of the cases are the same if the same differs in another run, from another port and
+    at other places; those of one name are numbered."""
     found = []
     for port, more in ((700, 0), (944, 3)):
         tools.write('a.pcap', run_from(port, more, 0o644, 0o644))
         tools.write('b.pcap', run_from(port + 1, more, 0o600, 0o640, 0o640))
         compare(tools, 'a.pcap', 'b.pcap', '--order', 'strict')
         found.append([name for name, _ in cases(tools, 'x.xml')])
-    tools.want('names', found, [['the runs are the same', 'GETATTR reply ?/x obj.mode', 'GETATTR reply ?/x obj.mode (2)',
+    tools.want('names', found, [['the runs are the same', 'GETATTR reply ?/x obj.mode',
+                                 'GETATTR reply ?/x obj.mode (2)',
                                  'only in the second run: GETATTR ?/x']] * 2)
     root = xml.etree.ElementTree.fromstring((tools.read('x.xml') or b'').decode())
     texts = [item.text or '' for item in root.iter('failure')][1:]
     tools.want('positions', ['connection 1' in text for text in texts], [True] * 3)
 
 
-TESTS = [a_run_that_is_the_same, a_run_that_differs, what_the_image_gets, the_image, lines_of_findings, cases_of_runs, names_that_last]
-
-
-class CiTest(FolderTest, make=Tools, tests=TESTS):
+class CiTest(FolderTest, make=Tools, tests=[
+        a_run_that_is_the_same, a_run_that_differs, what_the_image_gets, the_image,
+        lines_of_findings, cases_of_runs, names_that_last]):
     """Each test has a folder of its own."""

@@ -7,7 +7,7 @@ import random
 import re
 import time
 from array import array
-from collections.abc import Callable
+from collections.abc import Iterable
 
 from examples import messages
 from examples.messages import (
@@ -24,8 +24,16 @@ from .scripts import TOP, measured
 
 COUNTS = re.compile(r'(both runs|first run|second run): [\d,]+ judged')
 Conversation = tuple[list[bytes], list[bytes]]
+Exchange = tuple[int, bytes, bytes]  # a procedure of NFS, its arguments and its results
 # What finds the names of items in the lines that tell of differences, without whose they are.
 NAMES = r'^  [-+] (?:[^=]*\.)?(\w+)='
+
+
+def conversation_of(steps: Iterable[Exchange], xid: int = 1) -> Conversation:
+    """Calls and their replies, with xids that count."""
+    numbered = [*enumerate(steps, xid)]
+    return ([call(at, NFS, 3, procedure, asked) for at, (procedure, asked, _) in numbered],
+            [success(at, results) for at, (_, _, results) in numbered])
 
 
 class Comparisons(Runs):
@@ -44,7 +52,8 @@ class Comparisons(Runs):
         self.write(name, messages.capture(*connections))
 
     def wants(self, what: str, status: int, lines: list[str], *words: str) -> None:
-        """Two captures, `a` and `b`, are compared with this status, and these lines are printed after the first two."""
+        """Two captures, `a` and `b`, are compared with this status, and these lines are printed
+        after the first two."""
         found, out, error = self.compare(*words, 'a', 'b')
         self.want(what, (found, out[2:], error), (status, lines, ''))
 
@@ -52,7 +61,8 @@ class Comparisons(Runs):
 # --- Matching ---
 
 def sequences_brought_together(place: Comparisons) -> None:
-    """Pairs are equal, increase on both sides, and are all that a longest common part has if every element is there once."""
+    """Pairs are equal, increase on both sides, and are all that a longest common part has if every
+    element is there once."""
     chance = random.Random(5)
     for _ in range(300):
         first = [chance.randrange(6) for _ in range(chance.randrange(30))]
@@ -65,7 +75,8 @@ def sequences_brought_together(place: Comparisons) -> None:
     some = list(range(40))
     chance.shuffle(some)
     place.want('all of equal ones', aligned(some, some), [(at, at) for at in range(40)])
-    place.want('one more', aligned(some, some[:20] + [99] + some[20:]), [(at, at + (at >= 20)) for at in range(40)])
+    place.want('one more', aligned(some, some[:20] + [99] + some[20:]),
+               [(at, at + (at >= 20)) for at in range(40)])
     place.want('increasing', increasing(list(enumerate([3, 1, 2, 5, 4]))), [(1, 1), (2, 2), (4, 4)])
 
 
@@ -73,25 +84,33 @@ def sequences_in_blocks(place: Comparisons) -> None:
     """Blocks are equal, increase on both sides, and are as few as what differs asks for."""
     chance = random.Random(6)
     for _ in range(300):
-        first, second = (array('q', [chance.randrange(6) for _ in range(chance.randrange(90))]) for _ in range(2))
+        first, second = (array('q', [chance.randrange(6) for _ in range(chance.randrange(90))])
+                         for _ in range(2))
         blocks = blocks_of(first, second)
-        place.want('equal', [first[at:at + size] == second[to:to + size] and size > 0 for at, to, size in blocks], [True] * len(blocks))
-        place.want('in order', [before.at + before.size <= after.at and before.to + before.size <= after.to
-                                for before, after in zip(blocks, blocks[1:])], [True] * (len(blocks) - 1 if blocks else 0))
+        place.want('equal', [first[at:at + size] == second[to:to + size] and size > 0
+                             for at, to, size in blocks], [True] * len(blocks))
+        place.want('in order', [before.at + before.size <= after.at and before.to + before.size
+                                <= after.to
+                                for before, after in zip(blocks, blocks[1:])],
+                   [True] * (len(blocks) - 1 if blocks else 0))
     many = array('q', range(10_000))
-    other = many[:2_000] + array('q', [-1, -2]) + many[2_000:5_000] + many[5_001:9_000] + array('q', [-3]) + many[9_001:]
-    place.want('blocks', blocks_of(many, other), [(0, 0, 2_000), (2_000, 2_002, 3_000), (5_001, 5_002, 3_999), (9_001, 9_002, 999)])
+    other = many[:2_000] + array('q', [-1, -2]) + many[2_000:5_000] + many[5_001:9_000] + array(
+        'q', [-3]) + many[9_001:]
+    place.want('blocks', blocks_of(many, other),
+               [(0, 0, 2_000), (2_000, 2_002, 3_000), (5_001, 5_002, 3_999), (9_001, 9_002, 999)])
     place.want('nothing in common', blocks_of(many[:100], many[5_000:]), [])
     far = array('q', range(-900, 0))
-    place.want('far on', [(block.at, block.to) for block in blocks_of(many, many[:10] + far + many[10:])],
+    place.want('far on',
+               [(block.at, block.to) for block in blocks_of(many, many[:10] + far + many[10:])],
                [(0, 0), (10, 910)])
 
 
 def retransmissions_are_linear(place: Comparisons) -> None:
-    """Two runs of a call that was sent 40,000 times and answered as often, one with another status, and with calls of its own. It is one
-    exchange, and its other answer is found."""
+    """Two runs of a call that was sent 40,000 times and answered as often, one with another status,
+    and with calls of its own. It is one exchange, and its other answer is found."""
     def run(statuses: list[int], more: int) -> Conversation:
-        calls = [call(7, NFS, 3, 1, fh(b'a'))] * len(statuses) + [call(8 + at, NFS, 3, 4, fh(b'b') + word(1)) for at in range(more)]
+        calls = [call(7, NFS, 3, 1, fh(b'a'))] * len(statuses) + [
+            call(8 + at, NFS, 3, 4, fh(b'b') + word(1)) for at in range(more)]
         return calls, [success(7, messages.failed(status)) for status in statuses]
     statuses = [5] * 40_000
     place.put('a', run(statuses, 0))
@@ -99,7 +118,8 @@ def retransmissions_are_linear(place: Comparisons) -> None:
     begin = time.monotonic()
     status, out, error = place.compare('--order', 'strict', 'a', 'b')
     place.want('seconds', time.monotonic() - begin < 60, True)
-    place.want('verdict', (status, out[-1], error), (1, '1 of 5,001 calls matched; 5,000 only in the second run', ''))
+    place.want('verdict', (status, out[-1], error),
+               (1, '1 of 5,001 calls matched; 5,000 only in the second run', ''))
     place.want('found', '  1 reply in the first run, 2 in the second' in out, True)
 
 
@@ -125,19 +145,23 @@ FILES = (b'/', b'x', b'y')
 
 
 class Made:
-    """One run of a fixed script. What each run has its own of comes out of a seed, and the same in every run out of the script."""
+    """One run of a fixed script. What each run has its own of comes out of a seed, and the same in
+    every run out of the script."""
 
     def __init__(self, seed: int) -> None:
         chance = random.Random(seed)
         self.handles = [chance.randbytes(chance.choice((16, 28, 32))) for _ in FILES]
         self.ids = chance.sample(range(2, 1 << 40), len(FILES))
-        self.fsid, self.time, self.space = chance.randrange(1 << 60), chance.randrange(1 << 31), chance.randrange(1 << 40)
-        self.stamp, self.verifier, self.cookies = chance.randrange(1 << 32), chance.randbytes(8), chance.sample(range(1, 1 << 50), 3)
+        self.fsid, self.time, self.space = chance.randrange(1 << 60), chance.randrange(
+            1 << 31), chance.randrange(1 << 40)
+        self.stamp, self.verifier, self.cookies = chance.randrange(1 << 32), chance.randbytes(
+            8), chance.sample(range(1, 1 << 50), 3)
         self.cookieverf, self.createverf = chance.randbytes(8), chance.randbytes(8)
         self.machine = b'host%d' % chance.randrange(10 ** chance.randrange(1, 9))
         self.xids = chance.sample(range(1 << 32), 20)
         self.sizes = {0: 4096, 1: 10, 2: 20}
-        self.silly = b'.nfs%016x%08x' % (self.ids[2], chance.randrange(1 << 32))  # as Linux calls a removed file that is open
+        # as Linux calls a removed file that is open
+        self.silly = b'.nfs%016x%08x' % (self.ids[2], chance.randrange(1 << 32))
 
     def attributes(self, file: int) -> bytes:
         plain = fattr(2 if file == 0 else 1, self.ids[file], self.sizes[file], fsid=self.fsid)
@@ -146,22 +170,27 @@ class Made:
         return plain[:28] + used + plain[36:60] + times
 
     def asked(self, number: int, procedure: int, arguments: bytes) -> bytes:
-        return call(self.xids[number], NFS, 3, procedure, arguments, credential=auth_sys(self.stamp, self.machine, 0, 0, [0, 5]))
+        return call(self.xids[number], NFS, 3, procedure, arguments,
+                    credential=auth_sys(self.stamp, self.machine, 0, 0, [0, 5]))
 
     def script(self) -> list[tuple[int, bytes, bytes]]:
         """Procedures, arguments and results."""
         root, x, y = map(fh, self.handles)
         space = b''.join(hyper(self.space + number) for number in range(6)) + word(self.time & 0xff)
         entries = messages.entries(self.attributes(0), self.cookieverf, [
-            messages.entryplus(self.ids[file], FILES[file], self.cookies[file], self.attributes(file), self.handles[file])
+            messages.entryplus(self.ids[file], FILES[file], self.cookies[file],
+                               self.attributes(file), self.handles[file])
             for file in (1, 2)], is_end=True)
         return [
             (1, root, ok(self.attributes(0))),
-            (3, root + messages.opaque(b'x'), ok(x, post_op_attr(self.attributes(1)), post_op_attr())),
+            (3, root + messages.opaque(b'x'),
+             ok(x, post_op_attr(self.attributes(1)), post_op_attr())),
             (4, x + word(31), ok(post_op_attr(self.attributes(1)), word(31))),
             (17, root + hyper(0) + bytes(8) + word(512) + word(4096), ok(entries)),
-            (17, root + hyper(self.cookies[1]) + self.cookieverf + word(512) + word(4096), ok(entries)),
-            (8, dirop(self.handles[0], b'new') + messages.how(2, self.createverf), ok(messages.made(None, None, wcc()))),
+            (17, root + hyper(self.cookies[1]) + self.cookieverf + word(512) + word(4096),
+             ok(entries)),
+            (8, dirop(self.handles[0], b'new') + messages.how(2, self.createverf),
+             ok(messages.made(None, None, wcc()))),
             (7, y + hyper(0) + word(2) + word(0) + messages.opaque(b'hi'),
              ok(wcc(20, self.attributes(2)), word(2), word(0), self.verifier)),
             (21, y + hyper(0) + word(0), ok(wcc(None, self.attributes(2)), self.verifier)),
@@ -170,24 +199,30 @@ class Made:
 
     def conversation(self, script: list[tuple[int, bytes, bytes]] | None = None) -> Conversation:
         steps = script or self.script()
-        calls = [self.asked(number, procedure, arguments) for number, (procedure, arguments, _) in enumerate(steps)]
-        return calls, [success(self.xids[number], results) for number, (_, _, results) in enumerate(steps)]
+        calls = [self.asked(number, procedure, arguments)
+                 for number, (procedure, arguments, _) in enumerate(steps)]
+        return calls, [success(self.xids[number], results)
+                       for number, (_, _, results) in enumerate(steps)]
 
 
 def ordinary_runs(place: Comparisons) -> None:
-    """Runs that share nothing but what they do are the same, and each class of values is the reason for that."""
-    for seed in range(8):
+    """Runs that share nothing but what they do are the same, and each class of values is the reason
+    for that."""
+    for seed in range(5):
         place.put('a', Made(seed).conversation())
         place.put('b', Made(seed + 100).conversation())
-        place.wants('seed %d' % seed, 0, [])
-        place.want('masked is told', place.compare('a', 'b')[1][0], 'masked: ' + told(default_mask()))
+        status, out, error = place.compare('a', 'b')
+        place.want('seed %d' % seed, (status, out[0], out[2:], error),
+                   (0, 'masked: ' + told(default_mask()), [], ''))
     status, out, _ = place.compare('--mask', 'none', 'a', 'b')
-    place.want('without a mask', (status, out[0], out[1].startswith('differ at ')), (1, 'masked: none', True))
+    place.want('without a mask', (status, out[0], out[1].startswith('differ at ')),
+               (1, 'masked: none', True))
     for one in CLASSES:
         if one.is_default:
             status, out, _ = place.compare('--mask=-' + one.name, 'a', 'b')
             names = set(re.findall(NAMES, '\n'.join(out), re.M))
-            place.want('without ' + one.name, (status, bool(names & one.items), names <= one.items | {'cred_length'}), (1, True, True))
+            place.want('without ' + one.name, (status, bool(names & one.items), names <= one.items
+                                               | {'cred_length'}), (1, True, True))
 
 
 def changed_fields(place: Comparisons) -> None:
@@ -198,10 +233,13 @@ def changed_fields(place: Comparisons) -> None:
     place.put('b', second.conversation())
     lines = place.compare('a', 'b')[1][2:]
     fields = [line for line in lines if line.startswith('  ')]
-    place.want('size', fields, ['  - obj.size=10', '  + obj.size=11'] * 2 + ['  - entry "x".size=10', '  + entry "x".size=11'])
-    place.want('summary', lines[-2], 'fields that differ, and how often: entry.size of NFSPROC3_READDIRPLUS 2, '
+    place.want('size', fields, ['  - obj.size=10', '  + obj.size=11'] * 2
+               + ['  - entry "x".size=10', '  + entry "x".size=11'])
+    place.want('summary', lines[-2],
+               'fields that differ, and how often: entry.size of NFSPROC3_READDIRPLUS 2, '
                'obj.size of NFSPROC3_LOOKUP 1, obj.size of NFSPROC3_ACCESS 1')
-    place.want('heading', lines[0], 'NFSPROC3_LOOKUP reply ?/x: connection 1 server record 2 | connection 1 server record 2')
+    place.want('heading', lines[0], 'NFSPROC3_LOOKUP reply ?/x: connection 1 server record 2 | '
+               'connection 1 server record 2')
 
 
 def statuses_that_differ(place: Comparisons) -> None:
@@ -224,8 +262,10 @@ def one_call_more(place: Comparisons) -> None:
     script.insert(2, script[0])
     place.put('a', first.conversation())
     place.put('b', second.conversation(script))
-    place.wants('one more', 1, ['only in the second run: NFSPROC3_GETATTR: connection 1 client record 3', '  + fh=' + second.handles[0].hex(),
-                                '10 of 11 calls matched; 1 only in the second run'], '--order', 'strict')
+    place.wants('one more', 1,
+                ['only in the second run: NFSPROC3_GETATTR: connection 1 client record 3',
+                 '  + fh=' + second.handles[0].hex(),
+                 '10 of 11 calls matched; 1 only in the second run'], '--order', 'strict')
 
 
 def other_orders(place: Comparisons) -> None:
@@ -240,17 +280,20 @@ def other_orders(place: Comparisons) -> None:
     calls, replies = second.conversation()
     place.put('b', (calls, [replies[1], replies[0], *replies[2:]]))
     lines = place.compare('--order', 'strict', 'a', 'b')[1][2:]
-    place.want('order', lines[:2], ['connection 1', '  1 of 10 replies of the connection come in another order'])
+    place.want('order', lines[:2],
+               ['connection 1', '  1 of 10 replies of the connection come in another order'])
 
 
 def bound_values(place: Comparisons) -> None:
-    """Two files where the other run has one are told, though each run names its files as it likes."""
+    """Two files where the other run has one are told, though each run names its files as it
+    likes."""
     first, second = Made(7), Made(8)
     place.put('a', first.conversation())
     second.handles[2] = second.handles[1]
     place.put('b', second.conversation())
     status, lines, _ = place.compare('a', 'b')
-    place.want('bound', (status, any(line.startswith('  + fh=') and ' # ' in line for line in lines)), (1, True))
+    place.want('bound', (status, any(line.startswith('  + fh=') and ' # ' in line
+                                     for line in lines)), (1, True))
 
 
 def zero_cookies(place: Comparisons) -> None:
@@ -261,7 +304,8 @@ def zero_cookies(place: Comparisons) -> None:
     place.put('a', first.conversation())
     place.put('b', second.conversation(script))
     status, lines, _ = place.compare('a', 'b')
-    place.want('cookie', (status, '  - cookie=0' in lines, '  + cookie=5' in lines), (1, True, True))
+    place.want('cookie', (status, '  - cookie=0' in lines, '  + cookie=5' in lines),
+               (1, True, True))
 
 
 def equal_numbers_of_two_classes(place: Comparisons) -> None:
@@ -274,9 +318,11 @@ def equal_numbers_of_two_classes(place: Comparisons) -> None:
 
 
 def users_and_groups(place: Comparisons) -> None:
-    """Lists of groups are renamed with users and groups if owners are asked for, and become zero with them."""
+    """Lists of groups are renamed with users and groups if owners are asked for, and become zero
+    with them."""
     def run(*owners: tuple[int, int, list[int]]) -> Conversation:
-        return [call(xid, NFS, 3, 0, b'', credential=auth_sys(1, b'box', *each)) for xid, each in enumerate(owners)], []
+        return [call(xid, NFS, 3, 0, b'', credential=auth_sys(1, b'box', *each))
+                for xid, each in enumerate(owners)], []
     place.put('a', run((1000, 100, [100, 27]), (27, 100, [1000])))
     place.put('b', run((1, 2, [2, 3]), (3, 2, [1])))
     place.wants('renamed', 0, [], '--mask', '+owners')
@@ -284,13 +330,15 @@ def users_and_groups(place: Comparisons) -> None:
     place.want('compared', place.compare('a', 'b')[0], 1)
     place.put('b', run((1, 2, [2, 2]), (2, 2, [1])))
     status, out, _ = place.compare('--mask', '+owners', 'a', 'b')
-    place.want('two become one', (status, set(re.findall(NAMES, '\n'.join(out), re.M))), (1, {'group', 'uid'}))
+    place.want('two become one', (status, set(re.findall(NAMES, '\n'.join(out), re.M))),
+               (1, {'group', 'uid'}))
 
 
 def directories(place: Comparisons) -> None:
     """Entries in another order are one difference, and so is an entry that is missing."""
     def listing(made: Made, *files: int) -> list[tuple[int, bytes, bytes]]:
-        entries = [messages.entryplus(made.ids[file], FILES[file], made.cookies[file], made.attributes(file), made.handles[file])
+        entries = [messages.entryplus(made.ids[file], FILES[file], made.cookies[file],
+                                      made.attributes(file), made.handles[file])
                    for file in files]
         results = ok(messages.entries(made.attributes(0), made.cookieverf, entries, is_end=True))
         return [(17, fh(made.handles[0]) + hyper(0) + bytes(8) + word(512) + word(4096), results)]
@@ -298,7 +346,8 @@ def directories(place: Comparisons) -> None:
     place.put('a', first.conversation(listing(first, 1, 2)))
     place.put('b', second.conversation(listing(second, 2, 1)))
     lines = place.compare('a', 'b')[1][2:]
-    place.want('order', lines[1:3], ['  - entry="x"', '  + entry="y"    # the entries come in another order'])
+    place.want('order', lines[1:3],
+               ['  - entry="x"', '  + entry="y"    # the entries come in another order'])
     for names, wanted in (((1,), '  - entry.name="y"'), ((1, 2), None)):
         place.put('b', second.conversation(listing(second, *names)))
         found = [line for line in place.compare('a', 'b')[1] if ' entry.name=' in line]
@@ -309,14 +358,16 @@ def directories(place: Comparisons) -> None:
 
 
 def entries_of_one_name(place: Comparisons) -> None:
-    """A name that a directory has twice is another directory than one that has it once, and each of its entries counts."""
+    """A name that a directory has twice is another directory than one that has it once, and each of
+    its entries counts."""
     def run(*entries: tuple[int, bytes]) -> Conversation:
         listed = [messages.entry(fileid, name, 0) for fileid, name in entries]
         return ([call(1, NFS, 3, 16, fh(b'folder') + hyper(0) + bytes(8) + word(512))],
                 [success(1, ok(messages.entries(None, bytes(8), listed, is_end=True)))])
     heading = 'NFSPROC3_READDIR reply: connection 1 server record 1 | connection 1 server record 1'
     def wants(what: str, name: str, *lines: str) -> None:
-        place.wants(what, 1, [heading, *lines, f'fields that differ, and how often: {name} of NFSPROC3_READDIR 1',
+        place.wants(what, 1, [heading, *lines,
+                              f'fields that differ, and how often: {name} of NFSPROC3_READDIR 1',
                               f'1 of 1 call matched; {name} in 1 reply'], '--mask', 'none')
     place.put('a', run((1, b'a'), (2, b'b')))
     place.put('b', run((1, b'a'), (2, b'b'), (2, b'b')))
@@ -329,30 +380,24 @@ def entries_of_one_name(place: Comparisons) -> None:
     wants('order', 'entry', '  - entry="b"', '  + entry="a"    # the entries come in another order')
 
 
-def replies_of_one_call(place: Comparisons) -> None:
-    first, second = Made(17), Made(18)
-    place.put('a', first.conversation())
-    calls, replies = second.conversation()
-    place.put('b', (calls, [*replies, replies[-1]]))
-    lines = place.compare('a', 'b')[1][2:]
-    place.want('replies', lines[1], '  1 reply in the first run, 2 in the second')
-
-
 def files_by_their_paths(place: Comparisons) -> None:
     """Of calls that are equal but for the file, those of one path are matched."""
     def asked(made: Made, *files: int) -> list[tuple[int, bytes, bytes]]:
-        found = [(3, fh(made.handles[0]) + messages.opaque(FILES[file]), ok(fh(made.handles[file]), post_op_attr(), post_op_attr()))
+        found = [(3, fh(made.handles[0]) + messages.opaque(FILES[file]),
+                  ok(fh(made.handles[file]), post_op_attr(), post_op_attr()))
                  for file in (1, 2)]
         return found + [(1, fh(made.handles[file]), ok(made.attributes(file))) for file in files]
     first, second = Made(19), Made(20)
     place.put('a', first.conversation(asked(first, 1)))
     place.put('b', second.conversation(asked(second, 2, 1)))
     lines = place.compare('--order', 'strict', 'a', 'b')[1][2:]
-    place.want('the other file', lines[:1], ['only in the second run: NFSPROC3_GETATTR ?/y: connection 1 client record 3'])
+    place.want('the other file', lines[:1],
+               ['only in the second run: NFSPROC3_GETATTR ?/y: connection 1 client record 3'])
 
 
 def raw_messages(place: Comparisons) -> None:
-    """Handles inside raw messages are those of the other run, also of a length that is no multiple of four."""
+    """Handles inside raw messages are those of the other run, also of a length that is no multiple
+    of four."""
     def with_acl(made: Made, rest: bytes) -> Conversation:
         calls, replies = made.conversation()
         acl = call(made.xids[15], NFSACL, 3, 1, fh(made.handles[1]) + rest)
@@ -375,12 +420,15 @@ def connections_of_one_run(place: Comparisons) -> None:
     place.put('b', second.conversation())
     told = '  a connection of 1 call that the other run does not have'
     strict = '--order', 'strict'
-    place.want('first', place.compare(*strict, 'a', 'b')[1][2:4], ['only in the first run: connection 1', told])
-    place.want('second', place.compare(*strict, 'b', 'a')[1][2:4], ['only in the second run: connection 1', told])
+    place.want('first', place.compare(*strict, 'a', 'b')[1][2:4],
+               ['only in the first run: connection 1', told])
+    place.want('second', place.compare(*strict, 'b', 'a')[1][2:4],
+               ['only in the second run: connection 1', told])
 
 
 def random_traffic(place: Comparisons) -> None:
-    """The same random traffic under other names is the same, and with one handle or verifier for two it mostly is not."""
+    """The same random traffic under other names is the same, and with one handle or verifier for
+    two it mostly is not."""
     for seed in range(25):
         chance = random.Random(seed)
         names = Names.drawn(chance)
@@ -389,18 +437,25 @@ def random_traffic(place: Comparisons) -> None:
         status, out, error = place.compare('a', 'b')
         number = sum(len(calls) for calls, _ in connections)
         if number == 0:
-            place.want('seed %d' % seed, (status, out, error), (2, [], 'compare: nothing to compare: no call of a is taken\n'))
+            place.want('seed %d' % seed, (status, out, error),
+                       (2, [], 'compare: nothing to compare: no call of a is taken\n'))
             continue
-        size = '%d call%s in %d connection%s' % (number, 's' * (number != 1), len(connections), 's' * (len(connections) != 1))
+        size = '%d call%s in %d connection%s' % (number, 's' * (number != 1), len(connections),
+                                                 's' * (len(connections) != 1))
         others = sum(any(map(is_unchecked, calls)) for calls, _ in connections)
-        part = [f'{others} connection{"s" * (others != 1)} of the {run} run not checked' for run in ('first', 'second')] if others else []
+        part = [f'{others} connection{"s" * (others != 1)} of the {run} run not checked'
+                for run in ('first', 'second')] if others else []
         line = f'same{" in part" if others else ""}: ' + ', '.join([size, *part])
-        place.want('seed %d' % seed, (status, out[1], error.count('\n')), (int(others > 0), line, 2 * others))
-        place.want('seed %d, if that is allowed' % seed, place.compare('--allow-not-checked', 'a', 'b')[0], 0)
+        place.want('seed %d' % seed, (status, out[1], error.count('\n')),
+                   (int(others > 0), line, 2 * others))
+        if others:
+            place.want('seed %d, if that is allowed' % seed,
+                       place.compare('--allow-not-checked', 'a', 'b')[0], 0)
 
 
 def is_unchecked(body: bytes) -> bool:
-    """Whether a call is of NFS or MOUNT, and none of the procedures of version 3, by its numbers (RFC 5531, section 9)."""
+    """Whether a call is of NFS or MOUNT, and none of the procedures of version 3, by its numbers
+    (RFC 5531, section 9)."""
     program, version, procedure = (int.from_bytes(body[at:at + 4], 'big') for at in (12, 16, 20))
     return program in (NFS, MOUNT) and (version != 3 or procedure > (21 if program == NFS else 5))
 
@@ -411,33 +466,36 @@ MANY, FILES_OF_MANY = 100_000, 5_000
 
 
 def many_calls(first_handle: int, *changed: int) -> Conversation:
-    """LOOKUP of each file, and then GETATTR and WRITE by turns. Some replies may have another mode."""
-    calls, replies = list[bytes](), list[bytes]()
+    """LOOKUP of each file, and then GETATTR and WRITE by turns. Some replies may have another
+    mode."""
+    steps = list[Exchange]()
     for number in range(MANY):
-        file, xid = number % FILES_OF_MANY, number + 1
+        file = number % FILES_OF_MANY
         handle = b'%08d' % (first_handle + file)
         attributes = fattr(1, file + 2, size=number, mode=0o645 if number in changed else 0o644)
         if number < FILES_OF_MANY:
-            calls.append(call(xid, NFS, 3, 3, dirop(b'folder', b'name%d' % file)))
-            replies.append(success(xid, ok(fh(handle), post_op_attr(attributes), post_op_attr())))
+            steps.append((3, dirop(b'folder', b'name%d' % file),
+                          ok(fh(handle), post_op_attr(attributes), post_op_attr())))
         elif number % 2:
-            calls.append(call(xid, NFS, 3, 1, fh(handle)))
-            replies.append(success(xid, ok(attributes)))
+            steps.append((1, fh(handle), ok(attributes)))
         else:
-            calls.append(call(xid, NFS, 3, 7, fh(handle) + hyper(number) + word(200) + word(0) + messages.opaque(bytes(200))))
-            replies.append(success(xid, ok(wcc(20, attributes), word(200), word(0), b'verifier')))
-    return calls, replies
+            data = word(200) + word(0) + messages.opaque(bytes(200))
+            steps.append((7, fh(handle) + hyper(number) + data,
+                          ok(wcc(20, attributes), word(200), word(0), b'verifier')))
+    return conversation_of(steps)
 
 
 def one_bit_of_many_calls(place: Comparisons) -> None:
-    """What is equal is not taken apart: a changed bit costs little time and memory, and is told with its path. The limits are four
-    times what is promised."""
+    """What is equal is not taken apart: a changed bit costs little time and memory, and is told
+    with its path. The limits are four times what is promised."""
     place.put('a', many_calls(1))
     place.put('b', many_calls(7_000, 70_001))
-    status, lines, seconds, memory = measured(place, 'compare', '--program', place.program, 'a', 'b')
+    status, lines, seconds, memory = measured(place, 'compare', '--program', place.program, 'a',
+                                              'b')
     where = 'connection 1 server record 70002'
     place.want('finding', (status, lines[3:]), (1, [
-        f'NFSPROC3_GETATTR reply ?/name1: {where} | {where}', '  - obj.mode=0644 (420)', '  + obj.mode=0645 (421)',
+        f'NFSPROC3_GETATTR reply ?/name1: {where} | {where}', '  - obj.mode=0644 (420)',
+        '  + obj.mode=0645 (421)',
         'fields that differ, and how often: obj.mode of NFSPROC3_GETATTR 1',
         '100,000 of 100,000 calls matched; obj.mode in 1 reply']))
     place.want(f'{seconds} seconds', seconds < 20, True)
@@ -450,85 +508,107 @@ MIB = 1 << 20
 def writes_of_other_data(seed: int, number: int) -> Conversation:
     """WRITEs of 1 MiB of random data."""
     chance = random.Random(seed)
-    return ([call(at, NFS, 3, 7, fh(b'a') + hyper(at * MIB) + word(MIB) + word(2) + messages.opaque(chance.randbytes(MIB)))
-             for at in range(number)], [success(at, ok(wcc(), word(MIB), word(2), b'verifier')) for at in range(number)])
+    return conversation_of((
+        7, fh(b'a') + hyper(at * MIB) + word(MIB) + word(2)
+        + messages.opaque(chance.randbytes(MIB)),
+        ok(wcc(), word(MIB), word(2), b'verifier')) for at in range(number))
 
 
 def data_that_differ(place: Comparisons) -> None:
-    """Memory does not grow with the data that differ: of 40 MiB in each run, with a page and JSON, it stays below what plain Python and
-    a few MiB take. The bytes round the first difference are told, and JSON has the digests."""
+    """Memory does not grow with the data that differ: of 40 MiB in each run, with a page and JSON,
+    it stays below what plain Python and a few MiB take. The bytes round the first difference are
+    told, and JSON has the digests."""
     place.put('a', writes_of_other_data(1, 40))
     place.put('b', writes_of_other_data(2, 40))
-    status, out, _, memory = measured(place, 'compare', '--program', place.program, '--json', 'out.json', '--html', 'out.html', 'a', 'b')
+    status, out, _, memory = measured(place, 'compare', '--program', place.program, '--json',
+                                      'out.json', '--html', 'out.html', 'a', 'b')
     place.want('verdict', (status, out[-1]), (1, '40 of 40 calls matched; data in 40 calls'))
     place.want(f'{memory} bytes', memory < 80e6, True)
     first, second = (random.Random(seed).randbytes(MIB) for seed in (1, 2))
     differing = sum(one != other for one, other in zip(first, second))
     place.want('the first', out[4:6], [
         f'  - data={first[:16].hex()}..',
-        f'  + data={second[:16].hex()}..    # {differing:,} of {MIB:,} bytes differ, the first at offset 0 of the file (byte 0 of the data)'])
+        f'  + data={second[:16].hex()}..    # {differing:,} of {MIB:,} bytes differ, the first at '
+        'offset 0 of the file (byte 0 of the data)'])
     found = json.loads(place.read('out.json') or b'')['findings'][0]['differences'][0]
-    place.want('digests', found['apart']['sha256'], [hashlib.sha256(one).hexdigest() for one in (first, second)])
-    place.want('sizes', (len(found['first']) < 200, len(place.read('out.html') or b'') < 1e6), (True, True))
+    place.want('digests', found['apart']['sha256'],
+               [hashlib.sha256(one).hexdigest() for one in (first, second)])
+    place.want('sizes', (len(found['first']) < 200, len(place.read('out.html') or b'') < 1e6),
+               (True, True))
 
 
 def folders_far_down(place: Comparisons) -> None:
-    """Folders each in the one before, all of whose replies differ: memory grows with their number, not with its square. Long paths are
-    cut in the middle."""
+    """Folders each in the one before, all of whose replies differ: memory grows with their number,
+    not with its square. Long paths are cut in the middle."""
     def chain(mode: int) -> Conversation:
-        return ([call(at, NFS, 3, 3, dirop(b'%08d' % at, b'%04d' % at + b'd' * 240)) for at in range(2_000)],
-                [success(at, ok(fh(b'%08d' % (at + 1)), post_op_attr(fattr(2, at, mode=mode)), post_op_attr())) for at in range(2_000)])
+        return conversation_of((3, dirop(b'%08d' % at, b'%04d' % at + b'd' * 240), ok(
+            fh(b'%08d' % (at + 1)), post_op_attr(fattr(2, at, mode=mode)), post_op_attr()))
+                               for at in range(2_000))
     place.put('a', chain(0o755))
     place.put('b', chain(0o700))
-    status, out, _, memory = measured(place, 'compare', '--program', place.program, '--all', 'a', 'b')
+    status, out, _, memory = measured(place, 'compare', '--program', place.program, '--all', 'a',
+                                      'b')
     headings = [line for line in out if line.startswith('NFSPROC3')]
     place.want('findings', (status, len(headings)), (1, 2_000))
     place.want(f'{memory} bytes', memory < 120e6, True)
     name, last = '0000' + 'd' * 240, '1999' + 'd' * 240
-    place.want('the first', headings[0], f'NFSPROC3_LOOKUP reply ?/{name}: connection 1 server record 1 | connection 1 server record 1')
+    place.want('the first', headings[0], f'NFSPROC3_LOOKUP reply ?/{name}: connection 1 server '
+               'record 1 | connection 1 server record 1')
     path = headings[-1].removeprefix('NFSPROC3_LOOKUP reply ').partition(':')[0]
-    place.want('the last', (path.startswith(f'?/{name}/ .. /'), path.endswith(f'/{last}'), len(path) <= 1_024), (True, True, True))
+    place.want('the last', (path.startswith(f'?/{name}/ .. /'), path.endswith(f'/{last}'),
+                            len(path) <= 1_024), (True, True, True))
 
 
 # --- Recordings ---
 
 EXAMPLES = TOP / 'examples'
-FIRST, SECOND, CHANGED = (str(EXAMPLES / ('ganesha_%s.pcap' % name)) for name in ('a', 'b', 'changed'))
+FIRST, SECOND, CHANGED = (str(EXAMPLES / ('ganesha_%s.pcap' % name))
+                          for name in ('a', 'b', 'changed'))
 
 
 def example_recordings(place: Comparisons) -> None:
-    """Two ordinary runs against one server are the same; with another limit of its transfers just these fields differ."""
+    """Two ordinary runs against one server are the same; with another limit of its transfers just
+    these fields differ."""
     status, out, error = place.compare(FIRST, SECOND)
     place.want('ordinary', (status, out[1:], error), (0, ['same: 103 calls in 3 connections'], ''))
     place.want('without a mask', place.compare('--mask', 'none', FIRST, SECOND)[0], 1)
     status, out, error = place.compare('--all', FIRST, CHANGED)
     fields = sorted(set(re.findall(NAMES, '\n'.join(out), re.M)))
     place.want('changed', (status, error, fields), (1, '', ['rtmax', 'rtpref', 'wtmax', 'wtpref']))
-    place.want('frames', re.findall(r'\(frame \d+\)', out[2])[1:], re.findall(r'\(frame \d+\)', out[2])[:1])
+    place.want('frames', re.findall(r'\(frame \d+\)', out[2])[1:],
+               re.findall(r'\(frame \d+\)', out[2])[:1])
 
 
 def same_in_part(place: Comparisons) -> None:
-    """Recordings that lack bytes are the same in part, which has the status 1, and 0 with --allow-losses. What is missing is told also if
-    they differ."""
+    """Recordings that lack bytes are the same in part, which has the status 1, and 0 with
+    --allow-losses. What is missing is told also if they differ."""
     def in_calls(number: int, *, lost: int = -1, last: bool = True) -> bytes:
-        """A recording of calls of 40 bytes and their replies of 24, each a segment with its mark, without one of the calls, and perhaps
-        without the last reply."""
+        """A recording of calls of 40 bytes and their replies of 24, each a segment with its mark,
+        without one of the calls, and perhaps without the last reply."""
         talk = Talk()
         opened, frames = talk.opened(), list[bytes]()
         for at in range(number):
-            frames += [talk.sent(0, messages.fragment(call(at, NFS, 3, 0))), talk.sent(1, messages.fragment(success(at)))]
-        kept = [frame for at, frame in enumerate(frames) if at != 2 * lost and (last or at != 2 * number - 1)]
+            frames += [talk.sent(0, messages.fragment(call(at, NFS, 3, 0))),
+                       talk.sent(1, messages.fragment(success(at)))]
+        kept = [frame for at, frame in enumerate(frames) if at != 2 * lost
+                and (last or at != 2 * number - 1)]
         return pcap([*opened, *kept, *talk.closed()])
-    whole, lossy, without_last = in_calls(1_034), in_calls(1_034, lost=1_033), in_calls(1_034, last=False)
+    whole, lossy, without_last = in_calls(1_034), in_calls(1_034, lost=1_033), in_calls(
+        1_034, last=False)
     missing = '44 bytes missing from the %s run'
     cases: list[tuple[bytes, bytes, list[str], int, str]] = [
         (whole, whole, [], 0, 'same: 1,034 calls in 1 connection'),
         (whole, whole, ['--allow-losses'], 0, 'same: 1,034 calls in 1 connection'),
-        (lossy, lossy, [], 1, f'same in part: 1,033 calls in 1 connection, {missing % "first"}, {missing % "second"}'),
-        (lossy, lossy, ['--allow-losses'], 0, f'same in part: 1,033 calls in 1 connection, {missing % "first"}, {missing % "second"}'),
-        (lossy, in_calls(1_033), [], 1, f'same in part: 1,033 calls in 1 connection, {missing % "first"}'),
-        (in_calls(1_033), lossy, ['--allow-losses'], 0, f'same in part: 1,033 calls in 1 connection, {missing % "second"}'),
-        (without_last, without_last, [], 1, 'same in part: 1,034 calls in 1 connection, 28 bytes missing from the first run, '
+        (lossy, lossy, [], 1,
+         f'same in part: 1,033 calls in 1 connection, {missing % "first"}, {missing % "second"}'),
+        (lossy, lossy, ['--allow-losses'], 0,
+         f'same in part: 1,033 calls in 1 connection, {missing % "first"}, {missing % "second"}'),
+        (lossy, in_calls(1_033), [], 1,
+         f'same in part: 1,033 calls in 1 connection, {missing % "first"}'),
+        (in_calls(1_033), lossy, ['--allow-losses'], 0,
+         f'same in part: 1,033 calls in 1 connection, {missing % "second"}'),
+        (without_last, without_last, [], 1,
+         'same in part: 1,034 calls in 1 connection, 28 bytes missing from the first run, '
                                                 '28 bytes missing from the second run')]
     for first, second, words, status, line in cases:
         place.write('a', first)
@@ -539,28 +619,30 @@ def same_in_part(place: Comparisons) -> None:
     place.write('b', lossy)
     for options in ('--mask=none', '--allow-losses'):
         status, out, _ = place.compare(options, '--order', 'strict', 'a', 'b')
-        place.want('they differ', (status, out[1:3]), (1, ['differ at connection 1 client record 1034', 'compared in part: ' + missing % 'second']))
+        place.want('they differ', (status, out[1:3]),
+                   (1, ['differ at connection 1 client record 1034',
+                        'compared in part: ' + missing % 'second']))
 
 
 def refused_runs(place: Comparisons) -> None:
     place.write('a', (EXAMPLES / 'bad_status.nfs3cap').read_bytes())
     place.write('b', (EXAMPLES / 'null.nfs3cap').read_bytes())
     for words in (('a', 'b'), ('b', 'a')):
-        place.want('refused', place.compare(*words), (2, [], 'compare: a: connection 1 server record 1 byte 24: BadEnum\n'))
+        place.want('refused', place.compare(*words),
+                   (2, [], 'compare: a: connection 1 server record 1 byte 24: BadEnum\n'))
     status, out, error = place.compare('absent', 'b')
-    place.want('absent', (status, out, 'absent' in error, 'Traceback' in error), (3, [], True, False))
+    place.want('absent', (status, out, 'absent' in error, 'Traceback' in error),
+               (3, [], True, False))
     place.write('text', b'no recording')
     status, out, error = place.compare('text', 'b')
     place.want('no recording', (status, out, 'Traceback' in error), (2, [], False))
 
 
-TESTS: list[Callable[[Comparisons], None]] = [
-    sequences_brought_together, sequences_in_blocks, retransmissions_are_linear, words_of_masks,
-    ordinary_runs, changed_fields, statuses_that_differ, one_call_more, other_orders, bound_values, zero_cookies,
-    equal_numbers_of_two_classes, users_and_groups, directories, entries_of_one_name, replies_of_one_call, files_by_their_paths,
-    raw_messages, connections_of_one_run, random_traffic, one_bit_of_many_calls, data_that_differ,
-    folders_far_down, example_recordings, same_in_part, refused_runs]
-
-
-class CompareTest(FolderTest, make=Comparisons, tests=TESTS):
+class CompareTest(FolderTest, make=Comparisons, tests=[
+        sequences_brought_together, sequences_in_blocks, retransmissions_are_linear, words_of_masks,
+        ordinary_runs, changed_fields, statuses_that_differ, one_call_more, other_orders,
+        bound_values, zero_cookies, equal_numbers_of_two_classes, users_and_groups, directories,
+        entries_of_one_name, files_by_their_paths, raw_messages,
+        connections_of_one_run, random_traffic, one_bit_of_many_calls, data_that_differ,
+        folders_far_down, example_recordings, same_in_part, refused_runs]):
     """Each test has a folder of its own."""

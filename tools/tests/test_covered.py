@@ -16,17 +16,19 @@ from examples.packets import (
     ACK, CLIENT, FIN, RST, SERVER, Talk, datagram, ethernet, pcap, segment)
 
 from ..nfs3tools.commands.verdicts import json_of, junit_of
-from ..nfs3tools.judgement.verdict import counts_after, is_row, status_of
+from ..nfs3tools.judgement.verdict import Verdict, counts_after, is_row, status_of
 from ..nfs3tools.recordings.coverage import Allowed
 from ..nfs3tools.reporting.messages import ports_of
 from .cases import FolderTest
 from .recordings import (
-    enhanced, fragments, in_geneve, in_gre, in_labels, in_session, in_snap, in_vxlan, interface, pcapng,
-    section, udp)
-from .scripts import ALL, CALLS, REPLIES, Tools, both_ways, exchange, stream, sums, taken_of, whole
+    enhanced, fragments, fragments_6, in_geneve, in_gre, in_labels, in_session, in_snap, in_vxlan,
+    interface, pcapng, section, udp)
+from .scripts import (
+    ALL, CALLS, REPLIES, Tools, both_ways, connection_of, stream, sums, taken_of, whole)
 
 CALL, REPLY = len(stream(CALLS[:1])), len(stream(REPLIES[:1]))
 NFSACL, PORTMAP = 100_227, 100_000
+CLIENT_6, SERVER_6 = '2001:db8::7', '2001:db8::1'
 ENDS = '192.0.2.7:%d and 192.0.2.1:%d: '
 
 
@@ -47,10 +49,9 @@ class Case(typing.NamedTuple):
     raw: str = ''
 
 
-def talked(calls: list[bytes], replies: list[bytes], port: int = 701, service: int = 2049) -> list[bytes]:
-    """A whole connection with these calls and replies."""
-    talk = Talk(port, service)
-    return [*talk.opened(), *exchange(talk, 1, calls, replies), *talk.closed()]
+def talked(calls: list[bytes], replies: list[bytes], service: int = 2049) -> list[bytes]:
+    """A second connection with these calls and replies."""
+    return connection_of(calls, replies, port=701, service=service)
 
 
 def cut_at_its_end(flags: int | None, side: int = 1) -> list[bytes]:
@@ -60,11 +61,17 @@ def cut_at_its_end(flags: int | None, side: int = 1) -> list[bytes]:
     return frames if flags is None else [*frames, talk.frame(side, flags)]
 
 
+# The counts of a case, and their words in files.
+NAMES = {'ok': 'ok', 'refused': 'refused', 'in_part': 'in part', 'left_out': 'left out',
+         'bare': 'without calls', 'not_checked': 'not checked', 'errors': 'errors',
+         'silent': 'without reply'}
+ALLOWING = ([], ['--allow-losses'], ['--allow-not-checked'])  # in the order of a case's statuses
 LOSSES, NOT_CHECKED, NEITHER, GOOD = (1, 0, 1), (1, 1, 0), (1, 1, 1), (0, 0, 0)
 LOST = whole(port=701)[:4] + whole(port=701)[5:]
 COMPOUNDS = [call(number, NFS, 4, 1, bytes(40)) for number in range(20)]
 ANSWERS = [success(number, bytes(8)) for number in range(20)]
-HTTP = [b'GET / HTTP/1.1\r\nHost: example.org\r\n\r\n' * 30, b'HTTP/1.1 200 OK\r\nContent-Length: 4000\r\n\r\n' + b'abcd' * 1_000]
+HTTP = [b'GET / HTTP/1.1\r\nHost: example.org\r\n\r\n' * 30,
+        b'HTTP/1.1 200 OK\r\nContent-Length: 4000\r\n\r\n' + b'abcd' * 1_000]
 
 
 def http(service: int, is_begun: bool = True) -> list[bytes]:
@@ -75,8 +82,10 @@ def http(service: int, is_begun: bool = True) -> list[bytes]:
 
 def datagrams(number: int, port: int = 2049) -> list[bytes]:
     """Calls by UDP and their replies."""
-    asked = [ethernet(datagram(CLIENT, SERVER, udp(800, port, CALLS[at % 39]), 17)) for at in range(number // 2)]
-    answered = [ethernet(datagram(SERVER, CLIENT, udp(port, 800, REPLIES[at % 39]), 17)) for at in range(number // 2)]
+    asked = [ethernet(datagram(CLIENT, SERVER, udp(800, port, CALLS[at % 39]), 17))
+             for at in range(number // 2)]
+    answered = [ethernet(datagram(SERVER, CLIENT, udp(port, 800, REPLIES[at % 39]), 17))
+                for at in range(number // 2)]
     return [frame for pair in zip(asked, answered) for frame in pair]
 
 
@@ -117,50 +126,70 @@ CASES = [
     Case('a good one', whole(port=701), ['ok'], ['ok'], {'ok': 1}, GOOD),
     Case('begun before the recording', whole(port=701)[3:], ['in part'],
          ['ok in part: 39 calls, its beginning is not in the recording'], {'in_part': 1}, LOSSES),
-    Case('the same, not taken', whole(port=701)[3:], ['left out'],
-         ['left out: ' + ENDS % (701, 2049) + 'no SYN in the recording, so its streams may begin inside a record (--no-midstream leaves it out)'],
-         {'left_out': 1}, LOSSES, ['--no-midstream']),
-    Case('a lost frame', LOST, ['in part'], ['ok in part: 30 calls, 344 bytes missing'], {'in_part': 1}, LOSSES),
-    Case('the first frame is lost', whole(port=701)[:3] + whole(port=701)[4:], ['left out'],
-         ['left out: ' + ENDS % (701, 2049) + 'its first bytes are missing from the recording'], {'left_out': 1}, LOSSES, ['--no-midstream']),
-    Case('it ends inside a record', cut_at_its_end(None), ['in part'], ['ok in part: 39 calls, the recording ends inside a record'],
+    Case('a lost frame', LOST, ['in part'], ['ok in part: 30 calls, 344 bytes missing'],
+         {'in_part': 1}, LOSSES),
+    Case('it ends inside a record', cut_at_its_end(None), ['in part'],
+         ['ok in part: 39 calls, the recording ends inside a record'],
          {'in_part': 1, 'silent': 1}, LOSSES),
-    Case('the other end closes', cut_at_its_end(FIN | ACK, 0), ['in part'], ['ok in part: 39 calls, the recording ends inside a record'],
+    Case('the other end closes', cut_at_its_end(FIN | ACK, 0), ['in part'],
+         ['ok in part: 39 calls, the recording ends inside a record'],
          {'in_part': 1, 'silent': 1}, LOSSES),
-    Case('the other end resets', cut_at_its_end(RST, 0), ['in part'], ['ok in part: 39 calls, the other end reset it inside a record'],
+    Case('the other end resets', cut_at_its_end(RST, 0), ['in part'],
+         ['ok in part: 39 calls, the other end reset it inside a record'],
          {'in_part': 1, 'silent': 1}, LOSSES),
-    Case('its sender closes', cut_at_its_end(FIN | ACK), ['refused'], [f'server record 39 byte {REPLY - 9 - 4}: RecordCut, frame 20'],
+    Case('its sender closes', cut_at_its_end(FIN | ACK), ['refused'],
+         [f'server record 39 byte {REPLY - 9 - 4}: RecordCut, frame 20'],
          {'refused': 1}, NEITHER),
-    Case('its sender resets', cut_at_its_end(RST), ['refused'], [f'server record 39 byte {REPLY - 9 - 4}: RecordCut, frame 20'],
+    Case('its sender resets', cut_at_its_end(RST), ['refused'],
+         [f'server record 39 byte {REPLY - 9 - 4}: RecordCut, frame 20'],
          {'refused': 1}, NEITHER),
-    Case('whole records', cut_at_its_end(FIN | ACK), ['in part'], [f'ok in part: 39 calls, {REPLY - 9} bytes left out'], {'in_part': 1, 'silent': 1},
-         LOSSES, ['--whole-records']),
-    Case('NFS version 4', talked(COMPOUNDS, ANSWERS), ['not checked'], ['not checked: 20 of 20 calls (NFS version 4)'],
+    Case('NFS version 4', talked(COMPOUNDS, ANSWERS), ['not checked'],
+         ['not checked: 20 of 20 calls (NFS version 4)'],
          {'not_checked': 1}, NOT_CHECKED),
-    Case('version 4 beside 3', talked([*COMPOUNDS, *CALLS[20:]], [*ANSWERS, *REPLIES[20:]]), ['not checked'],
+    Case('version 4 beside 3', talked([*COMPOUNDS, *CALLS[20:]], [*ANSWERS, *REPLIES[20:]]),
+         ['not checked'],
          ['not checked: 20 of 39 calls (NFS version 4)'], {'not_checked': 1}, NOT_CHECKED),
-    Case('other versions', talked([call(1, MOUNT, 1, 1, bytes(8)), call(2, NFS, 2, 4, bytes(36)), call(3, NFS, 2, 4, bytes(36)),
+    Case('other versions', talked([call(1, MOUNT, 1, 1, bytes(8)), call(2, NFS, 2, 4, bytes(36)),
+                                   call(3, NFS, 2, 4, bytes(36)),
                                    call(4, NFS, 3, 22)], []), ['not checked'],
-         ['not checked: 4 of 4 calls (2 NFS version 2, 1 MOUNT version 1, 1 NFS version 3 procedure 22)'], {'not_checked': 1, 'silent': 4}, NOT_CHECKED),
-    Case('version 4, and bytes are missing', talked(COMPOUNDS, ANSWERS)[:4] + talked(COMPOUNDS, ANSWERS)[5:], ['not checked'],
-         ['not checked: 20 of 20 calls (NFS version 4)'], {'not_checked': 1, 'silent': 20}, NEITHER),
+         ['not checked: 4 of 4 calls (2 NFS version 2, 1 MOUNT version 1, 1 NFS version 3 '
+          'procedure 22)'], {'not_checked': 1, 'silent': 4}, NOT_CHECKED),
+    Case('version 4, and bytes are missing',
+         talked(COMPOUNDS, ANSWERS)[:4] + talked(COMPOUNDS, ANSWERS)[5:], ['not checked'],
+         ['not checked: 20 of 20 calls (NFS version 4)'], {'not_checked': 1, 'silent': 20},
+         NEITHER),
     Case('no typed call', talked([call(1, NFSACL, 3, 1, fh(b'a'))], []), ['not checked'],
-         ['not checked: no call of NFS or MOUNT version 3 (1 NFSACL GETACL)'], {'not_checked': 1, 'silent': 1}, NOT_CHECKED, raw='1 NFSACL GETACL'),
-    Case('calls of others beside typed ones', talked([*CALLS, *(call(50 + at, NFSACL, 3, 1, fh(b'a')) for at in range(7))], REPLIES), ['ok'],
-         ['ok'], {'ok': 1, 'silent': 7}, GOOD, raw='7 NFSACL GETACL'),
-    Case('the port mapper', talked([call(1, PORTMAP, 2, 3, bytes(16)), call(2, PORTMAP, 4, 3), call(3, PORTMAP, 2, 99)], [], service=111), ['ok'],
-         ['ok'], {'ok': 1, 'silent': 3}, GOOD, raw='1 PORTMAP GETADDR, 1 PORTMAP GETPORT, 1 PORTMAP version 2 procedure 99'),
-    Case('datagrams of UDP', datagrams(102), ['left out'], ['left out: 102 UDP datagrams to or from port 2049 are not taken'],
+         ['not checked: no call of NFS or MOUNT version 3 (1 NFSACL GETACL)'],
+         {'not_checked': 1, 'silent': 1}, NOT_CHECKED, raw='1 NFSACL GETACL'),
+    Case('calls of others beside typed ones',
+         talked([*CALLS, *(call(50 + at, NFSACL, 3, 1, fh(b'a')) for at in range(7))], REPLIES),
+         ['ok'], ['ok'], {'ok': 1, 'silent': 7}, GOOD, raw='7 NFSACL GETACL'),
+    Case('the port mapper', talked([call(1, PORTMAP, 2, 3, bytes(16)), call(2, PORTMAP, 4, 3),
+                                    call(3, PORTMAP, 2, 99)], [], service=111), ['ok'],
+         ['ok'], {'ok': 1, 'silent': 3}, GOOD,
+         raw='1 PORTMAP GETADDR, 1 PORTMAP GETPORT, 1 PORTMAP version 2 procedure 99'),
+    Case('datagrams of UDP', datagrams(102), ['left out'],
+         ['left out: 102 UDP datagrams to or from port 2049 are not taken'],
          {'left_out': 1}, LOSSES),
     Case('datagrams of UDP in fragments',
-         [ethernet(piece) for number in range(2) for piece in fragments(datagram(CLIENT, SERVER, udp(800, 20_048, bytes(99)), 17), 32, number)],
-         ['left out'], ['left out: 2 UDP datagrams to or from port 20048 are not taken'], {'left_out': 1}, LOSSES),
+         [ethernet(piece) for number in range(2)
+          for piece in fragments(datagram(CLIENT, SERVER, udp(800, 20_048, bytes(99)), 17), 32,
+                                 number)],
+         ['left out'], ['left out: 2 UDP datagrams to or from port 20048 are not taken'],
+         {'left_out': 1}, LOSSES),
+    Case('datagrams of UDP in fragments of IPv6',
+         [ethernet(piece) for number in range(2) for piece in fragments_6(
+             datagram(CLIENT_6, SERVER_6, udp(800, 2049, b'x' * 99), 17), 32, number)],
+         ['left out'], ['left out: 2 UDP datagrams to or from port 2049 are not taken'],
+         {'left_out': 1}, LOSSES),
     Case('datagrams of others', datagrams(4, 53) + datagrams(4, 111), [], [], {}, GOOD),
     Case('no payload', Talk(701).opened(), [], [], {'left_out': 1, 'bare': 1}, GOOD),
     Case('no RPC', http(80), [], [], {'left_out': 1, 'bare': 1}, GOOD),
     Case('no RPC, begun before', http(80, False), [], [], {'left_out': 1, 'bare': 1}, GOOD),
-    Case('no RPC at a port of NFS', http(2049), ['refused'], ['client record 1 byte 0: RecordTooLong, frame 19'], {'refused': 1}, NEITHER),
-    Case('no RPC at a port that was chosen', http(80), ['refused'], ['client record 1 byte 0: RecordTooLong, frame 19'], {'refused': 1}, NEITHER,
+    Case('no RPC at a port of NFS', http(2049), ['refused'],
+         ['client record 1 byte 0: RecordTooLong, frame 19'], {'refused': 1}, NEITHER),
+    Case('no RPC at a port that was chosen', http(80), ['refused'],
+         ['client record 1 byte 0: RecordTooLong, frame 19'], {'refused': 1}, NEITHER,
          ['--port', '80,2049']),
     Case('acknowledgements alone', acknowledging(), ['left out'],
          ['left out: ' + ENDS % (701, 2049) + '3,300,000 bytes acknowledged and not recorded'],
@@ -190,7 +219,8 @@ CASES = [
          ['not checked: 15 frames of LLC/SNAP are not read; what is in them is not known'],
          {'not_checked': 1}, NOT_CHECKED),
     Case('a spanning tree', [bytes(12) + b'\0\x26\x42\x42\3' + bytes(35)], [], [], {}, GOOD),
-    Case('PPP of itself', [bytes(12) + struct.pack('>HBBHHH', 0x8864, 0x11, 0, 1, 10, 0xc021) + bytes(8)],
+    Case('PPP of itself', [bytes(12) + struct.pack('>HBBHHH', 0x8864, 0x11, 0, 1, 10, 0xc021)
+                           + bytes(8)],
          [], [], {}, GOOD),
     *[Case(f'{name} in UDP', [ethernet(datagram(CLIENT, SERVER, udp(*ports, bytes(60)), 17))],
            ['not checked'],
@@ -198,7 +228,8 @@ CASES = [
            {'not_checked': 1}, NOT_CHECKED)
       for name, ports in (('GTP-U', (2152, 2152)), ('L2TP', (1701, 1701)), ('L2TP', (1701, 50_000)),
                           ('ESP in UDP', (4500, 4500)), ('Teredo', (50_000, 3544)))],
-    Case('a fragment twice with other bytes', fragmented(lambda one: [one[0], one[1], spoilt(one[1]), *one[2:]]),
+    Case('a fragment twice with other bytes',
+         fragmented(lambda one: [one[0], one[1], spoilt(one[1]), *one[2:]]),
          ['in part'], ['ok in part: 39 calls, 1 frame with other content'], {'in_part': 1}, LOSSES),
     Case('a fragment twice with other bytes, the last first',
          fragmented(lambda one: [*one[:0:-1], spoilt(one[1]), one[0]]), ['in part'],
@@ -209,10 +240,10 @@ CASES = [
     Case('a fragment beyond the last',
          fragmented(lambda one: [one[0], *one[2:], spoilt(one[1] + bytes(1_000)), one[1]]),
          ['in part'], ['ok in part: 39 calls, 1 frame with other content'], {'in_part': 1}, LOSSES),
-    Case('fragments twice with the same bytes', fragmented(lambda one: [*one, *one]), ['ok'], ['ok'],
-         {'ok': 1}, GOOD),
-    Case('a fault at another port', talked(CALLS, [*REPLIES[:-1], success(99)], service=900), ['refused'],
-         ['server record 39 byte 0: NoCall, frame 20'], {'refused': 1}, NEITHER),
+    Case('fragments twice with the same bytes', fragmented(lambda one: [*one, *one]), ['ok'],
+         ['ok'], {'ok': 1}, GOOD),
+    Case('a fault at another port', talked(CALLS, [*REPLIES[:-1], success(99)], service=900),
+         ['refused'], ['server record 39 byte 0: NoCall, frame 20'], {'refused': 1}, NEITHER),
 ]
 
 
@@ -221,85 +252,111 @@ def good() -> list[bytes]:
     return whole()
 
 
-def run_of(tools: Tools, *words: str, stdin: bytes | None = None) -> tuple[int, list[str], str, str]:
+def run_of(tools: Tools, *words: str,
+           stdin: bytes | None = None) -> tuple[int, list[str], str, str]:
     """The status of tools/verdicts, the verdicts of the rows, the sum and standard error."""
     status, out, error = tools.tool('verdicts', '--program', tools.program, *words, stdin=stdin)
     lines = out.splitlines()
-    return status, [re.split('  +', line)[-1] for line in lines[1:-1]], lines[-1] if lines else '', error
+    return status, [re.split('  +', line)[-1]
+                    for line in lines[1:-1]], lines[-1] if lines else '', error
+
+
+def line_of(case: Case) -> str:
+    """The sum of a case beside a good connection."""
+    return sums(**{**case.counts, 'ok': 1 + case.counts.get('ok', 0)}, raw=case.raw)
 
 
 def words_of_all_kinds(tools: Tools) -> None:
-    """Each kind beside a good connection: the rows, the sum and the status, plain and with what is allowed, and with --follow."""
+    """Each kind beside a good connection: the rows, the sum and the status, plain and with what is
+    allowed, with --follow, in JSON and in JUnit."""
     for case in CASES:
-        line = sums(**{**case.counts, 'ok': 1 + case.counts.get('ok', 0)}, raw=case.raw)
-        for how, verdicts in zip(('plain', 'followed'), both_ways(tools, pcap(good() + case.frames), case.words)):
-            rows = sorted((verdict.state, verdict.message) for verdict in verdicts if is_row(verdict))
+        line, ways = line_of(case), both_ways(tools.program, pcap(good() + case.frames), case.words)
+        words_in_files(tools, case, ways[0])
+        for how, verdicts in zip(('plain', 'followed'), ways):
+            rows = sorted((verdict.state, verdict.message) for verdict in verdicts
+                          if is_row(verdict))
             tools.want(f'{case.what}, {how}', (rows, counts_after(verdicts).words()),
                        (sorted([('ok', 'ok'), *zip(case.states, case.messages)]), line))
-            statuses = tuple(status_of(verdicts, allowed) for allowed in (Allowed(), Allowed(losses=True), Allowed(not_checked=True)))
+            statuses = tuple(status_of(verdicts, allowed)
+                             for allowed in (Allowed(), Allowed(losses=True),
+                                             Allowed(not_checked=True)))
             tools.want(f'{case.what}, {how}, the status', statuses, case.statuses)
-            tools.want(f'{case.what}, {how}, all allowed', status_of(verdicts, Allowed(True, True)), int('refused' in case.states))
+            tools.want(f'{case.what}, {how}, all allowed', status_of(verdicts, Allowed(True, True)),
+                       int('refused' in case.states))
 
 
 def words_on_the_command_line(tools: Tools) -> None:
     """What the tool itself prints and returns, of one of each word."""
-    for case in [case for case in CASES if case.what in ('a lost frame', 'NFS version 4', 'datagrams of UDP', 'no RPC')]:
-        recording = pcap(good() + case.frames)
+    for case in [case for case in CASES if case.what in ('a lost frame', 'NFS version 4',
+                                                         'datagrams of UDP', 'no RPC')]:
+        recording, wanted = pcap(good() + case.frames), ['ok', *case.messages]
         tools.write('a.pcap', recording)
-        line = sums(**{**case.counts, 'ok': 1 + case.counts.get('ok', 0)}, raw=case.raw)
-        for allowed, status in zip(([], ['--allow-losses'], ['--allow-not-checked']), case.statuses):
-            tools.want(f'{case.what} {allowed}', run_of(tools, *allowed, 'a.pcap')[:3], (status, ['ok', *case.messages], line))
-        found = run_of(tools, '--follow', '-', stdin=recording)
-        tools.want(f'{case.what}, followed', (found[0], sorted(found[1]), found[2]), (case.statuses[0], sorted(['ok', *case.messages]), line))
+        allowed = case.statuses.index(0) if case.statuses[0] else 0
+        for words, status in ((['a.pcap'], case.statuses[0]),
+                              ([*ALLOWING[allowed], 'a.pcap'], 0),
+                              (['--follow', '-'], case.statuses[0])):
+            found = run_of(tools, *words, stdin=recording)
+            tools.want(f'{case.what} {words}', (found[0], sorted(found[1]), found[2]),
+                       (status, sorted(wanted), line_of(case)))
 
 
-def words_in_files(tools: Tools) -> None:
+def words_in_files(tools: Tools, case: Case, verdicts: list[Verdict]) -> None:
     """The same in JSON and JUnit."""
-    for case in CASES:
-        verdicts = both_ways(tools, pcap(good() + case.frames), case.words)[0]
-        written = json.loads(json_of(verdicts))
-        rows = [row for row in written['rows'] if row['shows_calls']][1:]
-        tools.want(case.what + ', rows', ([row['state'] for row in rows], [row['message'] for row in rows]), (case.states, case.messages))
-        numbers = {'ok': 0, 'refused': 0, 'in_part': 0, 'left_out': 0, 'bare': 0, 'not_checked': 0, 'errors': 0,
-                   'silent': 0} | case.counts
-        numbers['ok'] += 1
-        named = {'judged': numbers['ok'] + numbers['refused'], 'ok': numbers['ok'], 'refused': numbers['refused'],
-                 'in part': numbers['in_part'], 'left out': numbers['left_out'], 'without calls': numbers['bare'],
-                 'not checked': numbers['not_checked'], 'errors': 0, 'without reply': numbers['silent']}
-        raw = {name: int(number) for number, name in (word.split(' ', 1) for word in case.raw.split(', ') if word)}
-        tools.want(case.what + ', counts', (written['version'], written['counts']), (2, {**named, 'raw': raw}))
-        suite = xml.etree.ElementTree.fromstring(junit_of(verdicts, Allowed()).decode())[0]
-        properties = {item.get('name'): item.get('value') for item in suite.iter('property')}
-        tools.want(case.what + ', properties', properties, {**{name: str(number) for name, number in named.items()}, 'raw': case.raw})
-        failures = [(item.get('type'), item.get('message')) for item in suite.iter('failure')]
-        wanted = [(None if state == 'refused' else state, message) for state, message in zip(case.states, case.messages) if state != 'ok']
-        tools.want(case.what + ', failures', failures, wanted)
-        skipped = suite.get('skipped'), len(list(suite.iter('skipped')))
-        tools.want(case.what + ', skipped', skipped, (str(numbers['bare']), numbers['bare']))
+    written = json.loads(json_of(verdicts))
+    rows = [row for row in written['rows'] if row['shows_calls']][1:]
+    tools.want(case.what + ', rows', [(row['state'], row['message']) for row in rows],
+               [*zip(case.states, case.messages)])
+    named = {'judged': 0, **{word: case.counts.get(name, 0) for name, word in NAMES.items()}}
+    named['ok'] += 1
+    named['judged'] = named['ok'] + named['refused']
+    raw = {name: int(number)
+           for number, name in (word.split(' ', 1) for word in case.raw.split(', ') if word)}
+    tools.want(case.what + ', counts', (written['version'], written['counts']),
+               (2, {**named, 'raw': raw}))
+    suite = xml.etree.ElementTree.fromstring(junit_of(verdicts, Allowed()).decode())[0]
+    properties = {item.get('name'): item.get('value') for item in suite.iter('property')}
+    tools.want(case.what + ', properties', properties,
+               {**{name: str(number) for name, number in named.items()}, 'raw': case.raw})
+    failures = [(item.get('type'), item.get('message')) for item in suite.iter('failure')]
+    wanted = [(None if state == 'refused' else state, message)
+              for state, message in zip(case.states, case.messages) if state != 'ok']
+    tools.want(case.what + ', failures', failures, wanted)
+    skipped = suite.get('skipped'), len(list(suite.iter('skipped')))
+    tools.want(case.what + ', skipped', skipped,
+               (str(named['without calls']), named['without calls']))
 
 
 def recordings_that_end_inside_a_frame(tools: Tools) -> None:
-    """A recording that is cut anywhere inside a frame is in part, and never refused; so is one that is compressed and cut."""
+    """A recording that is cut anywhere inside a frame is in part, and never refused; so is one that
+    is compressed and cut."""
     content, ends = pcap(good()), [24]
     for frame in good():
         ends.append(ends[-1] + 16 + len(frame))
     for number in range(3, 15):
         for size in {ends[number] + 1, ends[number] + 17, ends[number + 1] - 1}:
-            for how, verdicts in zip(('plain', 'followed'), both_ways(tools, content[:size], [])):
+            for how, verdicts in zip(('plain', 'followed'),
+                                     both_ways(tools.program, content[:size])):
                 messages, counts = [verdict.message for verdict in verdicts], counts_after(verdicts)
-                tools.want(f'{size} bytes, {how}', (f'in part: the recording ends inside a frame (frame {number + 1})' in messages,
-                                                    counts.refused, status_of(verdicts, Allowed())), (True, 0, 1))
-    tools.want('allowed', run_of(tools, '--allow-losses', 'a.pcap')[0], 0)
+                tools.want(f'{size} bytes, {how}',
+                           (f'in part: the recording ends inside a frame (frame {number + 1})'
+                            in messages,
+                            counts.refused, status_of(verdicts, Allowed())), (True, 0, 1))
+    found = run_of(tools, '--allow-losses', '-', stdin=content[:-1])
+    tools.want('allowed', found[0], 0)
     packers: dict[str, typing.Callable[[bytes], bytes]] = {'xz': lzma.compress}
     if shutil.which('zstd'):
-        packers['zstd'] = lambda data: subprocess.run(['zstd', '-cq'], input=data, stdout=subprocess.PIPE, check=True).stdout
+        packers['zstd'] = lambda data: subprocess.run(['zstd', '-cq'], input=data,
+                                                      stdout=subprocess.PIPE, check=True).stdout
     long = pcap(good() + [frame for port in range(701, 760) for frame in whole(port=port)])
     for name, pack in packers.items():
-        verdicts = both_ways(tools, pack(long)[:-20], [])[0]
-        counts, is_told = counts_after(verdicts), 'in part: the recording ends inside a frame' in verdicts[-1].message
-        tools.want(name, (is_told, counts.refused, counts.errors, status_of(verdicts, Allowed())), (True, 0, 0, 1))
-    verdicts = both_ways(tools, pcapng(good())[:-1], [])[0]
-    tools.want('pcapng', [verdict.message for verdict in verdicts], ['ok', 'in part: the recording ends inside a frame (frame 15)'])
+        verdicts = both_ways(tools.program, pack(long)[:-20])[0]
+        counts, is_told = counts_after(
+            verdicts), 'in part: the recording ends inside a frame' in verdicts[-1].message
+        tools.want(name, (is_told, counts.refused, counts.errors, status_of(verdicts, Allowed())),
+                   (True, 0, 0, 1))
+    verdicts = both_ways(tools.program, pcapng(good())[:-1])[0]
+    tools.want('pcapng', [verdict.message for verdict in verdicts],
+               ['ok', 'in part: the recording ends inside a frame (frame 15)'])
 
 
 def interfaces_that_are_not_read(tools: Tools) -> None:
@@ -308,18 +365,23 @@ def interfaces_that_are_not_read(tools: Tools) -> None:
     frames = [*map(enhanced, good()), *(enhanced(frame, index=1) for frame in good())]
     recording = section() + interface() + interface(105) + b''.join(frames)
     told = 'not checked: 15 frames of the link type 105 are not read; what is in them is not known'
-    for how, verdicts in zip(('plain', 'followed'), both_ways(tools, recording, [])):
+    for how, verdicts in zip(('plain', 'followed'), both_ways(tools.program, recording)):
         statuses = [status_of(verdicts, Allowed(not_checked=allowed)) for allowed in (False, True)]
-        tools.want(how, ([verdict.message for verdict in verdicts], statuses), (['ok', told], [1, 0]))
+        tools.want(how, ([verdict.message for verdict in verdicts], statuses),
+                   (['ok', told], [1, 0]))
 
 
 def ports_that_are_chosen(tools: Tools) -> None:
     """--port takes the connections that have one of the ports, and no datagrams of others."""
     frames = whole() + whole(port=701, service=900) + whole(port=702, service=20_048) + datagrams(4)
-    for ports, found, left in (('900', 1, 0), ('2049,20048', 2, 1), ('2049', 1, 1), ('701,702', 2, 0), ('5', 0, 0)):
-        for how, verdicts in zip(('plain', 'followed'), both_ways(tools, pcap(frames), ['--port', ports])):
-            tools.want(f'{ports}, {how}', (status_of(verdicts, Allowed()), counts_after(verdicts).words()),
-                       (int(left > 0 or not found), sums(found, left_out=left, errors=int(not found))))
+    for ports, found, left in (('900', 1, 0), ('2049,20048', 2, 1), ('2049', 1, 1),
+                               ('701,702', 2, 0), ('5', 0, 0)):
+        for how, verdicts in zip(('plain', 'followed'),
+                                 both_ways(tools.program, pcap(frames), ['--port', ports])):
+            tools.want(f'{ports}, {how}', (status_of(verdicts, Allowed()),
+                                           counts_after(verdicts).words()),
+                       (int(left > 0 or not found),
+                        sums(found, left_out=left, errors=int(not found))))
     for ports in ('', '2049,', 'nfs', '0', '65536', '-1', '2049,2049'):
         try:
             tools.want(f'no ports: {ports}', ports_of(ports), 'refused')
@@ -328,8 +390,9 @@ def ports_that_are_chosen(tools: Tools) -> None:
 
 
 def tunnels(tools: Tools) -> None:
-    """Connections in tunnels are taken like others, also one tunnel in another, and in fragments. What hides in others is named."""
-    for hosts in ((CLIENT, SERVER), ('2001:db8::7', '2001:db8::1')):
+    """Connections in tunnels are taken like others, also one tunnel in another, and in fragments.
+    What hides in others is named."""
+    for hosts in ((CLIENT, SERVER), (CLIENT_6, SERVER_6)):
         frames = whole(hosts=hosts)
         inner = [frame[14:] for frame in frames]
         kind = 0x86dd if ':' in hosts[0] else 0x0800
@@ -338,21 +401,31 @@ def tunnels(tools: Tools) -> None:
         def outer(content: bytes, protocol: int = 17) -> bytes:
             return datagram('198.51.100.1', '198.51.100.2', content, protocol)
         for what, recorded in (
-                ('MPLS', [in_labels(content) for content in inner]), ('PPPoE', [in_session(content) for content in inner]),
+                ('MPLS', [in_labels(content) for content in inner]),
+                ('PPPoE', [in_session(content) for content in inner]),
                 ('IP in IP', [ethernet(outer(content, number)) for content in inner]),
                 ('GRE', [ethernet(outer(in_gre(kind, content), 47)) for content in inner]),
-                ('GRE with a key', [ethernet(outer(in_gre(kind, content, b'abcd', b'efgh'), 47)) for content in inner]),
-                ('GRE of Ethernet', [ethernet(outer(in_gre(0x6558, frame), 47)) for frame in frames]),
+                ('GRE with a key', [ethernet(outer(in_gre(kind, content, b'abcd', b'efgh'), 47))
+                                    for content in inner]),
+                ('GRE of Ethernet',
+                 [ethernet(outer(in_gre(0x6558, frame), 47)) for frame in frames]),
                 ('VXLAN', [ethernet(outer(in_vxlan(frame))) for frame in frames]),
-                ('VXLAN at the port of Linux', [ethernet(outer(in_vxlan(frame, 8472))) for frame in frames]),
-                ('Geneve', [ethernet(outer(in_geneve(0x6558, frame, bytes(8)))) for frame in frames]),
+                ('VXLAN at the port of Linux',
+                 [ethernet(outer(in_vxlan(frame, 8472))) for frame in frames]),
+                ('Geneve', [ethernet(outer(in_geneve(0x6558, frame, bytes(8))))
+                            for frame in frames]),
                 ('Geneve of IP', [ethernet(outer(in_geneve(kind, content))) for content in inner]),
-                ('VXLAN in IPv6', [ethernet(datagram('2001:db8::1', '2001:db8::2', in_vxlan(frame), 17)) for frame in frames]),
-                ('VXLAN in GRE', [ethernet(outer(in_gre(0x0800, outer(in_vxlan(frame))), 47)) for frame in frames]),
-                ('VXLAN in fragments', [ethernet(piece) for at, frame in enumerate(frames) for piece in fragments(outer(in_vxlan(frame)), 64, at)])):
+                ('VXLAN in IPv6',
+                 [ethernet(datagram('2001:db8::1', '2001:db8::2', in_vxlan(frame), 17))
+                  for frame in frames]),
+                ('VXLAN in GRE', [ethernet(outer(in_gre(0x0800, outer(in_vxlan(frame))), 47))
+                                  for frame in frames]),
+                ('VXLAN in fragments', [ethernet(piece) for at, frame in enumerate(frames)
+                                        for piece in fragments(outer(in_vxlan(frame)), 64, at)])):
             tools.told(what, pcap(recorded), [ALL], [])
     secret = [ethernet(datagram('198.51.100.1', '198.51.100.2', bytes(99), 50)) for _ in range(112)]
-    tools.told('ESP', pcap(whole() + secret), [ALL], ['not checked: 112 frames of ESP are not read; what is in them is not known'])
+    tools.told('ESP', pcap(whole() + secret), [ALL],
+               ['not checked: 112 frames of ESP are not read; what is in them is not known'])
     tools.write('a.pcap', pcap(secret + [bytes(12) + b'\x08\x06' + bytes(28)]))
     tools.want('ESP alone', run_of(tools, 'a.pcap')[1],
                ['not checked: 112 frames of ESP are not read; what is in them is not known',
@@ -360,13 +433,14 @@ def tunnels(tools: Tools) -> None:
     deep = whole()[4][14:]
     for _ in range(9):
         deep = datagram('198.51.100.1', '198.51.100.2', deep, 4)
-    tools.told('many tunnels', pcap([*whole(), ethernet(deep)]), [ALL], ['not checked: 1 frame of many tunnels is not read; what is in it is not known'])
-    tools.want('the kind 0', taken_of(pcap([bytes(14) + frame[14:] for frame in whole()])).connections, [])
+    tools.told('many tunnels', pcap([*whole(), ethernet(deep)]), [ALL],
+               ['not checked: 1 frame of many tunnels is not read; what is in it is not known'])
+    tools.want('the kind 0',
+               taken_of(pcap([bytes(14) + frame[14:] for frame in whole()])).connections, [])
 
 
-TESTS = [words_of_all_kinds, words_on_the_command_line, words_in_files, recordings_that_end_inside_a_frame,
-         interfaces_that_are_not_read, ports_that_are_chosen, tunnels]
-
-
-class CoveredTest(FolderTest, make=Tools, tests=TESTS):
+class CoveredTest(FolderTest, make=Tools, tests=[
+        words_of_all_kinds, words_on_the_command_line,
+        recordings_that_end_inside_a_frame, interfaces_that_are_not_read, ports_that_are_chosen,
+        tunnels]):
     """Each test has a folder of its own."""

@@ -38,7 +38,8 @@ def exchanged(talk: Talk, numbers: typing.Iterable[int], bad: int | None = None)
     """Calls with their replies, one after the other."""
     frames = []
     for number in numbers:
-        frames += [talk.sent(0, fragment(CALLS[number])), talk.sent(1, reply(number, number == bad))]
+        frames += [talk.sent(0, fragment(CALLS[number])),
+                   talk.sent(1, reply(number, number == bad))]
     return frames
 
 
@@ -54,17 +55,20 @@ def with_times(frames: list[bytes], seconds: dict[int, int]) -> bytes:
 def judged(tools: Tools, recording: bytes) -> list[tuple[int, list[str], str]]:
     """The status, the verdicts of all rows, and what is told besides, plain and with --follow."""
     found = []
-    for verdicts in both_ways(tools, recording, []):
-        notes = [note for verdict in verdicts for note in [*verdict.notes, *([] if is_row(verdict) else [verdict.message])]]
+    for verdicts in both_ways(tools.program, recording):
+        notes = [note for verdict in verdicts
+                 for note in [*verdict.notes, *([] if is_row(verdict) else [verdict.message])]]
         rows = sorted(verdict.message for verdict in verdicts if is_row(verdict))
         found.append((status_of(verdicts, Allowed()), rows, '\n'.join(notes)))
     return found
 
 
-def both(tools: Tools, what: str, recording: bytes, status: int, rows: list[str], note: str = '') -> None:
+def both(tools: Tools, what: str, recording: bytes, status: int, rows: list[str],
+         note: str = '') -> None:
     """Both ways give this status and these rows, and tell this."""
     for how, found in zip(('plain', 'followed'), judged(tools, recording)):
-        tools.want(f'{what}, {how}', (found[0], found[1], note in found[2] or found[2]), (status, sorted(rows), True))
+        tools.want(f'{what}, {how}', (found[0], found[1], note in found[2] or found[2]),
+                   (status, sorted(rows), True))
 
 
 # --- Far numbers ---
@@ -77,7 +81,8 @@ def much_is_missing_in_the_middle(tools: Tools) -> None:
             frames = [*talk.opened(), *exchanged(talk, range(10))]
             talk.next = [talk.next[0] + lost, talk.next[1] + lost]
             frames += [*exchanged(talk, range(10, 20), bad), *talk.closed()]
-            row = f'ok in part: 20 calls, {2 * lost:,} bytes missing' if bad is None else RECORD_16 % (3 + 2 * 16)
+            row = (f'ok in part: 20 calls, {2 * lost:,} bytes missing' if bad is None else RECORD_16
+                   % (3 + 2 * 16))
             both(tools, f'{lost} bytes, {bad}', pcap(frames), 1, [row])
 
 
@@ -89,7 +94,8 @@ def much_is_missing_at_the_end(tools: Tools) -> None:
         talk.next = [talk.next[0] + lost, talk.next[1] + lost]
         ending = [talk.frame(0, FIN | ACK), talk.frame(1, FIN | ACK, ahead=0)]
         acknowledging = [talk.frame(0, ACK), talk.frame(1, ACK)]
-        both(tools, f'{lost} bytes', pcap(frames + acknowledging + ending), 1, [f'ok in part: 10 calls, {2 * lost:,} bytes missing'])
+        both(tools, f'{lost} bytes', pcap(frames + acknowledging + ending), 1,
+             [f'ok in part: 10 calls, {2 * lost:,} bytes missing'])
         row = f'ok in part: 10 calls, {2 * lost:,} bytes missing'
         both(tools, f'{lost} bytes, FIN alone', pcap(frames + ending), 1, [row])
 
@@ -103,18 +109,23 @@ def one_frame_that_is_far(tools: Tools) -> None:
         frames.append(talk.frame(1, ACK))
         talk.next[0] -= far
         frames += [*exchanged(talk, range(10, 20)), *talk.closed()]
-        both(tools, f'{far}', pcap(frames), 1, ['ok in part: 20 calls, bytes far beyond the last may be missing'],
-             'client: frame 24 shows bytes far beyond the last that is known, and no other frame does')
+        both(tools, f'{far}', pcap(frames), 1,
+             ['ok in part: 20 calls, bytes far beyond the last may be missing'],
+             'client: frame 24 shows bytes far beyond the last that is known, and no other frame '
+             'does')
 
 
 def much_in_flight(tools: Tools) -> None:
-    """Acknowledgements that lag behind by 200 MB show nothing that is missing, nor does a segment that comes again as late."""
+    """Acknowledgements that lag behind by 200 MB show nothing that is missing, nor does a segment
+    that comes again as late."""
     stream_of_much = streams.Stream(spool.Spool(), streams.Budget(), None)
-    stream_of_much.first, stream_of_much.next, stream_of_much.acked = 50, 5_300_000_000, 5_100_000_000
+    stream_of_much.first, stream_of_much.next, stream_of_much.acked = (50, 5_300_000_000,
+                                                                       5_100_000_000)
     for position in (5_100_000_000, 5_100_000_100, 5_040_000_000, 5_290_000_000):
         tools.want(f'{position}', stream_of_much.position((50 + position) % (1 << 32)), position)
         stream_of_much.is_acknowledged((50 + position) % (1 << 32), 1)
-        tools.want(f'{position}, what it shows', (stream_of_much.known_end <= stream_of_much.next, stream_of_much.far),
+        tools.want(f'{position}, what it shows', (stream_of_much.known_end <= stream_of_much.next,
+                                                  stream_of_much.far),
                    (True, None))
 
 
@@ -124,33 +135,41 @@ def stray_resets(tools: Tools) -> None:
     """A RST that its receiver does not expect ends nothing."""
     for what, ahead in (('far', 0x30000000), ('old', -250)):
         talk = Talk()
-        frames = [*talk.opened(), *exchanged(talk, range(10)), talk.frame(1, RST, ahead=ahead), *exchanged(talk, range(10, 20), 15),
-                  *talk.closed()]
+        frames = [*talk.opened(), *exchanged(talk, range(10)), talk.frame(1, RST, ahead=ahead),
+                  *exchanged(talk, range(10, 20), 15), *talk.closed()]
         both(tools, what, pcap(frames), 1, [RECORD_16 % 36])
         talk = Talk()
-        frames = [*talk.opened(), talk.frame(1, RST, ahead=ahead), *exchanged(talk, range(20)), *talk.closed()]
-        both(tools, what + ', before any payload', pcap(frames), 0, ['ok'], 'frame 4: a RST that its receiver does not expect')
+        frames = [*talk.opened(), talk.frame(1, RST, ahead=ahead), *exchanged(talk, range(20)),
+                  *talk.closed()]
+        both(tools, what + ', before any payload', pcap(frames), 0, ['ok'],
+             'frame 4: a RST that its receiver does not expect')
 
 
 def what_comes_after_a_line(tools: Tools) -> None:
-    """With --follow bytes that come after a connection was judged are told, and the status is 1. The plain tool judges them."""
+    """With --follow bytes that come after a connection was judged are told, and the status is 1.
+    The plain tool judges them."""
     talk = Talk()
-    frames = [*talk.opened(), *exchanged(talk, range(10)), talk.frame(1, RST), *exchanged(talk, range(10, 20), 15), *talk.closed()]
+    frames = [*talk.opened(), *exchanged(talk, range(10)), talk.frame(1, RST),
+              *exchanged(talk, range(10, 20), 15), *talk.closed()]
     plain, followed = judged(tools, pcap(frames))
     tools.want('plain', plain[:2], (1, [RECORD_16 % 36]))
     late = 10 * (CALL + REPLY)
-    tools.want('followed', followed[:2], (1, [f'in part: {ENDS}: {late} bytes came after it was judged', 'ok']))
+    tools.want('followed', followed[:2],
+               (1, [f'in part: {ENDS}: {late} bytes came after it was judged', 'ok']))
     talk = Talk()
     again = [*talk.opened(), *exchanged(talk, range(10)), *talk.closed()]
     both(tools, 'the same bytes', pcap([*again, *again[3:7]]), 0, ['ok'])
     other = again[5][:-4] + b'else'
     plain, followed = judged(tools, pcap([*again, other]))
-    tools.want('plain, other content', plain[:2], (1, ['ok in part: 10 calls, 1 frame with other content']))
-    tools.want('followed, other content', followed[:2], (1, [f'in part: {ENDS}: {CALL} bytes came after it was judged', 'ok']))
+    tools.want('plain, other content', plain[:2],
+               (1, ['ok in part: 10 calls, 1 frame with other content']))
+    tools.want('followed, other content', followed[:2],
+               (1, [f'in part: {ENDS}: {CALL} bytes came after it was judged', 'ok']))
 
 
 def many_idle_connections(tools: Tools) -> None:
-    """A connection that was judged early, since too many are open, is told if it has bytes later."""
+    """A connection that was judged early, since too many are open, is told if it has bytes
+    later."""
     talks = [Talk(1_000 + number) for number in range(32)]
     frames = [frame for talk in talks for frame in talk.opened()]
     frames += [frame for talk in talks for frame in exchanged(talk, range(2))]
@@ -159,22 +178,27 @@ def many_idle_connections(tools: Tools) -> None:
     with patch.object(following, 'OPEN_AT_MOST', 20):
         following.take_all(one, typing.cast(following.Growing, io.BytesIO(pcap(frames))))
     one.connections.spool.close()
-    late = [verdict for verdict in said if verdict.message.endswith(f'{2 * (CALL + REPLY)} bytes came after it was judged')]
+    late = [verdict for verdict in said
+            if verdict.message.endswith(f'{2 * (CALL + REPLY)} bytes came after it was judged')]
     tools.want('followed', (len(late), {verdict.state for verdict in late}), (12, {'in part'}))
     tools.want('the others', sum(verdict.state == 'ok' for verdict in said), 20)
 
 
 def stray_ends(tools: Tools) -> None:
-    """A FIN after which the stream goes on is none, if the other end acknowledges what comes after it. If it does not, that is counted."""
+    """A FIN after which the stream goes on is none, if the other end acknowledges what comes after
+    it. If it does not, that is counted."""
     for side in (0, 1):
         for bad in (None, 15):
             talk = Talk()
-            frames = [*talk.opened(), *exchanged(talk, range(10)), talk.frame(side, FIN | ACK), *exchanged(talk, range(10, 20), bad), *talk.closed()]
-            both(tools, f'{side} {bad}', pcap(frames), bad is not None, ['ok'] if bad is None else [RECORD_16 % 36])
+            frames = [*talk.opened(), *exchanged(talk, range(10)), talk.frame(side, FIN | ACK),
+                      *exchanged(talk, range(10, 20), bad), *talk.closed()]
+            both(tools, f'{side} {bad}', pcap(frames), bad is not None, ['ok'] if bad is None
+                 else [RECORD_16 % 36])
     talk = Talk()
     frames = [*talk.opened(), *exchanged(talk, range(10)), talk.frame(1, FIN | ACK)]
     frames += [talk.frame(1, ACK, reply(9, False)), talk.frame(0, FIN | ACK)]
-    both(tools, 'not acknowledged', pcap(frames), 1, [f'ok in part: 10 calls, {REPLY} bytes left out'],
+    both(tools, 'not acknowledged', pcap(frames), 1,
+         [f'ok in part: 10 calls, {REPLY} bytes left out'],
          f'server: {REPLY} bytes fit nowhere in the stream, and are left out, first frame 25')
     talk = Talk()
     frames = [*talk.opened(), *exchanged(talk, range(10))]
@@ -186,19 +210,23 @@ def stray_ends(tools: Tools) -> None:
 
 
 def stray_beginnings(tools: Tools) -> None:
-    """A SYN or SYN-ACK whose number fits no connection begins none, if the connection that is there goes on."""
+    """A SYN or SYN-ACK whose number fits no connection begins none, if the connection that is there
+    goes on."""
     for flags, side in ((SYN, 0), (SYN | ACK, 1), (SYN | ACK, 0), (SYN, 1)):
         for ahead in (0x30000000, 5_000, -300):
             for bad in (None, 15):
                 talk = Talk()
-                frames = [*talk.opened(), *exchanged(talk, range(10)), talk.frame(side, flags, ahead=ahead),
+                frames = [*talk.opened(), *exchanged(talk, range(10)),
+                          talk.frame(side, flags, ahead=ahead),
                           *exchanged(talk, range(10, 20), bad), *talk.closed()]
-                both(tools, f'{flags} {side} {ahead} {bad}', pcap(frames), bad is not None, ['ok'] if bad is None else [RECORD_16 % 36],
+                both(tools, f'{flags} {side} {ahead} {bad}', pcap(frames), bad is not None,
+                     ['ok'] if bad is None else [RECORD_16 % 36],
                      'frame 24: a SYN that fits no connection' if bad is None else '')
 
 
 def ports_that_are_used_again(tools: Tools) -> None:
-    """Each connection has its own, also if segments of the older one come after the first of the newer one, or it was refused."""
+    """Each connection has its own, also if segments of the older one come after the first of the
+    newer one, or it was refused."""
     first, second = Talk(), Talk(first=(900_000, 800_000))
     older = [*first.opened(), *exchanged(first, range(10)), *first.closed()]
     newer = [*second.opened(), *exchanged(second, range(10)), *second.closed()]
@@ -207,10 +235,12 @@ def ports_that_are_used_again(tools: Tools) -> None:
     first, again = Talk(), Talk()
     refused = [*first.opened(), *exchanged(first, range(10), 5), *first.closed()]
     newer = [*again.opened(), *exchanged(again, range(10)), *again.closed()]
-    for what, frames in (('the same numbers', refused + newer), ('after RST', refused[:-2] + [first.frame(0, RST)] + newer)):
+    for what, frames in (('the same numbers', refused + newer),
+                         ('after RST', refused[:-2] + [first.frame(0, RST)] + newer)):
         rows = ['ok', 'server record 6 byte 20: BadEnum, frame 15']
         both(tools, 'refused, then ' + what, pcap(frames), 1, rows)
-        both(tools, 'refused, and seconds later ' + what, with_times(frames, {17: 5, 30: 5}), 1, rows)
+        both(tools, 'refused, and seconds later ' + what, with_times(frames, {17: 5, 30: 5}), 1,
+             rows)
 
 
 def syn_after_data(tools: Tools) -> None:
@@ -225,25 +255,42 @@ def syn_after_data(tools: Tools) -> None:
     lost = [*frames[1:3], frames[4], frames[0], *frames[5:]]
     missing = -(-len(ALL[0]) // 5)
     found = judged(tools, pcap(lost))
-    tools.want('bytes before the first', [(status, f'{missing} bytes missing' in rows[0]) for status, rows, _ in found], [(1, True)] * 2)
+    tools.want('bytes before the first', [(status, f'{missing} bytes missing' in rows[0])
+                                          for status, rows, _ in found], [(1, True)] * 2)
 
 
 # --- Bytes that come again ---
 
 def other_content(tools: Tools) -> None:
-    """Bytes that come again with other content, or before the first, make a connection in part. Those of a keep-alive do not, nor those of
-    RST."""
+    """Bytes that come again with other content, or before the first, make a connection in part.
+    Those of a keep-alive do not, nor those of RST."""
     talk = Talk()
     frames = [*talk.opened(), *exchanged(talk, range(10))]
     other = talk.frame(0, ACK, b'x' * CALL, ahead=-3 * CALL)
     before = talk.frame(0, ACK, b'x' * 9, ahead=-10 * CALL - 9)
     keep_alive, reset = talk.frame(0, ACK, b'x', ahead=-1), talk.frame(0, RST, b'a reason')
-    both(tools, 'other content', pcap([*frames, other, *talk.closed()]), 1, ['ok in part: 10 calls, 1 frame with other content'],
+    both(tools, 'other content', pcap([*frames, other, *talk.closed()]), 1,
+         ['ok in part: 10 calls, 1 frame with other content'],
          '1 frame repeats bytes with other content, first frame 24')
     talk.next = [talk.next[0] - 1, talk.next[1]]
-    both(tools, 'before the first', pcap([*frames, before, *talk.closed()]), 1, ['ok in part: 10 calls, 9 bytes left out'],
+    both(tools, 'before the first', pcap([*frames, before, *talk.closed()]), 1,
+         ['ok in part: 10 calls, 9 bytes left out'],
          'client: 9 bytes fit nowhere in the stream, and are left out, first frame 24')
     both(tools, 'a keep-alive', pcap([*frames, keep_alive, reset]), 0, ['ok'])
+
+
+def other_content_beyond_an_end(tools: Tools) -> None:
+    """Bytes beyond a FIN that come again with other content are counted, once the other end has
+    acknowledged bytes beyond it. Those that come again as they were are not."""
+    for what, again, row in (('as they were', reply(10, False), 'ok'),
+                             ('with other content', b'x' * REPLY,
+                              'ok in part: 20 calls, 1 frame with other content')):
+        talk = Talk()
+        frames = [*talk.opened(), *exchanged(talk, range(10)), talk.frame(1, FIN | ACK),
+                  *exchanged(talk, [10]), talk.frame(1, ACK, again, ahead=-REPLY),
+                  *exchanged(talk, range(11, 20)), *talk.closed()]
+        both(tools, what, pcap(frames), int(row != 'ok'), [row],
+             '' if row == 'ok' else '1 frame repeats bytes with other content, first frame 27')
 
 
 def bytes_of_a_gap_that_was_given_up(tools: Tools) -> None:
@@ -254,29 +301,38 @@ def bytes_of_a_gap_that_was_given_up(tools: Tools) -> None:
     many = [talk.sent(0, fragment(CALLS[11])), *(talk.sent(0, bytes(60_000)) for _ in range(150))]
     with taken_of(pcap([*frames, *many, lost])) as taken:
         connection = taken.connections[0]
-        tools.want('late', (connection.missing, f'{CALL} bytes left out' in connection.lacks or connection.lacks), (CALL, True))
+        tools.want('late', (connection.missing, f'{CALL} bytes left out' in connection.lacks
+                            or connection.lacks), (CALL, True))
 
 
 # --- Fragments ---
 
 def stale_fragments(tools: Tools) -> None:
-    """A fragment that was recorded twice begins no other datagram, and one that waits for too long is given up."""
-    for cut, hosts, limit in ((fragments, ('192.0.2.7', '192.0.2.1'), 30), (fragments_6, ('2001:db8::7', '2001:db8::1'), 60)):
+    """A fragment that was recorded twice begins no other datagram, and one that waits for too long
+    is given up."""
+    for cut, hosts, limit in ((fragments, ('192.0.2.7', '192.0.2.1'), 30),
+                              (fragments_6, ('2001:db8::7', '2001:db8::1'), 60)):
         for again in (True, False):
             for pause in (limit + 10, 3_600):
                 talk = Talk(hosts=hosts)
                 opened = talk.opened()
-                first = [ethernet(piece) for piece in cut(talk.datagram(0, ACK, stream(CALLS[:5])), 64, 7)]
+                first = [ethernet(piece) for piece in cut(talk.datagram(0, ACK, stream(CALLS[:5])),
+                                                          64, 7)]
                 talk.next[0] += 5 * CALL
-                second = [ethernet(piece) for piece in cut(talk.datagram(0, ACK, stream(CALLS[5:10])), 64, 7)]
+                second = [ethernet(piece)
+                          for piece in cut(talk.datagram(0, ACK, stream(CALLS[5:10])), 64, 7)]
                 talk.next[0] += 5 * CALL
                 left = first + first[-1:] if again else first[:-2] + first[-1:]
                 recording = with_times(opened + left + second, {len(opened + left): pause})
                 found = taken_of(recording)
                 content = found.connections[0].client.read(0, 1 << 20) if found.connections else b''
-                tools.want(f'{limit} {again} {pause}', content, stream(CALLS[:10]) if again else stream(CALLS[5:10]) if content else b'')
+                tools.want(f'{limit} {again} {pause}', content, stream(CALLS[:10]) if again
+                           else stream(CALLS[5:10]) if content else b'')
                 remarks = [remark.reason for remark in found.remarks]
-                tools.want('told', remarks, [] if again else ['1 datagram of TCP is not taken, since not all fragments of it came in time'])
+                tools.want('told', remarks,
+                           [] if again
+                           else ['1 datagram of TCP is not taken, since not all fragments of it '
+                                 'came in time'])
                 found.spool.close()
 
 
@@ -287,19 +343,22 @@ def a_file_that_becomes_shorter(tools: Tools) -> None:
     tools.write('a.pcap', pcap(whole()))
     process = begin([VERDICTS, '--follow', '--program', tools.program, 'a.pcap'], tools.folder)
     out = pipe_of(process.stdout)
-    tools.want('what is there', [out.readline().split()[0], out.readline().split()[-1]], [b'recording', b'ok'])
+    tools.want('what is there', [out.readline().split()[0], out.readline().split()[-1]],
+               [b'recording', b'ok'])
     with open(tools.path('a.pcap'), 'r+b') as file:
         file.truncate(24)
     begun = time.monotonic()
     rest = out.read().decode().splitlines()
     tools.want('it ends', (process.wait(20), time.monotonic() < begun + 20), (1, True))
-    tools.want('told', rest[0].endswith('the recording is damaged after frame 15: the file has become shorter than what was read of it'), True)
+    tools.want('told',
+               rest[0].endswith('the recording is damaged after frame 15: the file has become '
+                                'shorter than what was read of it'), True)
 
 
-TESTS = [much_is_missing_in_the_middle, much_is_missing_at_the_end, one_frame_that_is_far, much_in_flight, stray_resets,
-         what_comes_after_a_line, many_idle_connections, stray_ends, stray_beginnings, ports_that_are_used_again, syn_after_data,
-         other_content, bytes_of_a_gap_that_was_given_up, stale_fragments, a_file_that_becomes_shorter]
-
-
-class DroppedTest(FolderTest, make=Tools, tests=TESTS):
+class DroppedTest(FolderTest, make=Tools, tests=[
+        much_is_missing_in_the_middle, much_is_missing_at_the_end, one_frame_that_is_far,
+        much_in_flight, stray_resets, what_comes_after_a_line, many_idle_connections, stray_ends,
+        stray_beginnings, ports_that_are_used_again, syn_after_data, other_content,
+        other_content_beyond_an_end, bytes_of_a_gap_that_was_given_up, stale_fragments,
+        a_file_that_becomes_shorter]):
     """Each test has a folder of its own."""

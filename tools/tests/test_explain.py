@@ -23,7 +23,8 @@ from .recordings import NANOSECONDS, pcapng
 from .scripts import ALL, CALLS, REPLIES, TOP, WITH_TOOLS, Tools, measured, packed, stream, whole
 
 AID = 'A reader\'s aid, and no part of what is proved.'
-ITEM = re.compile(r'byte (\d+): (\w+)( \((?:its length|residual bytes)\))? = (\'.*\'|b[\'"].*[\'"](?:\.\.)?|\S+)(?: \((.*)\))?')
+ITEM = re.compile(r'byte (\d+): (\w+)( \((?:its length|residual bytes)\))? = '
+                  r'(\'.*\'|b[\'"].*[\'"](?:\.\.)?|\S+)(?: \((.*)\))?')
 MOST_MEMORY = 64 << 20  # bytes
 MOST_OF_A_RECORDING = 40 << 20  # bytes, of one with a million frames
 STRINGS = ('name', 'path', 'machinename', 'dirpath', 'hostname', 'directory')
@@ -42,22 +43,30 @@ def explained(tools: Tools, name: str, place: str, *options: str) -> list[str]:
 def fields_of_a_reply(tools: Tools) -> None:
     """The places of RFC 5531, section 9, and of RFC 1813, sections 2.6 and 3.3.1."""
     attributes = fattr(2, 12, size=34, mode=0o1755, nlink=3, uid=7, gid=8)
-    tools.write('a', messages.capture(([call(5, NFS, 3, 1, fh(b'abc'))], [success(5, ok(attributes))])))
+    tools.write('a',
+                messages.capture(([call(5, NFS, 3, 1, fh(b'abc'))], [success(5, ok(attributes))])))
     values = [int.from_bytes(attributes[at:at + 4], 'big') for at in range(0, 84, 4)]
-    times = zip((84, 88, 92, 96, 100, 104), ('atime_sec', 'atime_nsec', 'mtime_sec', 'mtime_nsec', 'ctime_sec', 'ctime_nsec'))
+    times = zip((84, 88, 92, 96, 100, 104), ('atime_sec', 'atime_nsec', 'mtime_sec', 'mtime_nsec',
+                                             'ctime_sec', 'ctime_nsec'))
     tools.want('lines', explained(tools, 'a', 'connection 1 server record 1'), [
-        'connection 1 server record 1: reply NFSPROC3_GETATTR of program 100003, version 3, procedure 1',
-        'xid 5, a body of 112 bytes, to call record 1', 'byte 0: xid = 5', 'byte 4: mtype = 1 (REPLY)',
-        'byte 8: reply_stat = 0 (MSG_ACCEPTED)', 'byte 12: verf_flavor = 0 (AUTH_NONE)', 'byte 16: verf_body (its length) = 0',
-        'byte 20: accept_stat = 0 (SUCCESS)', 'byte 24: status = 0 (NFS3_OK)', 'byte 28: type = 2 (NF3DIR)',
-        'byte 32: mode = 1005 (1755)', 'byte 36: nlink = 3', 'byte 40: uid = 7', 'byte 44: gid = 8', 'byte 48: size = 34',
-        f'byte 56: used = {values[7] << 32 | values[8]}',
-        f'byte 64: rdev1 = {values[9]}', f'byte 68: rdev2 = {values[10]}', f'byte 72: fsid = {values[11] << 32 | values[12]}',
-        'byte 80: fileid = 12', *(f'byte {at + 4}: {name} = {values[(at - 24) // 4]}' for at, name in times)])
+        'connection 1 server record 1: reply NFSPROC3_GETATTR of program 100003, version 3, '
+        'procedure 1', 'xid 5, a body of 112 bytes, to call record 1', 'byte 0: xid = 5',
+        'byte 4: mtype = 1 (REPLY)',
+        'byte 8: reply_stat = 0 (MSG_ACCEPTED)', 'byte 12: verf_flavor = 0 (AUTH_NONE)',
+        'byte 16: verf_body (its length) = 0',
+        'byte 20: accept_stat = 0 (SUCCESS)', 'byte 24: status = 0 (NFS3_OK)',
+        'byte 28: type = 2 (NF3DIR)',
+        'byte 32: mode = 1005 (1755)', 'byte 36: nlink = 3', 'byte 40: uid = 7', 'byte 44: gid = 8',
+        'byte 48: size = 34', f'byte 56: used = {values[7] << 32 | values[8]}',
+        f'byte 64: rdev1 = {values[9]}', f'byte 68: rdev2 = {values[10]}',
+        f'byte 72: fsid = {values[11] << 32 | values[12]}',
+        'byte 80: fileid = 12', *(f'byte {at + 4}: {name} = {values[(at - 24) // 4]}'
+                                  for at, name in times)])
 
 
 def values_that_are_odd(tools: Tools) -> None:
-    """Bits of the type in a mode, and a second in nanoseconds, are valid bytes and said to be odd."""
+    """Bits of the type in a mode, and a second in nanoseconds, are valid bytes and said to be
+    odd."""
     attributes = fattr(1, 12, mode=0o100644)[:60] + word(9) + word(10**9) + bytes(16)
     tools.write('a', messages.capture(([call(5, NFS, 3, 1, fh(b'abc'))],
                                        [success(5, ok(attributes))])))
@@ -68,7 +77,8 @@ def values_that_are_odd(tools: Tools) -> None:
 
 
 def fields_of_each_message(tools: Tools) -> None:
-    """Those that `show` lists, on every procedure, by the line that it prints; they follow one another up to the end of the body."""
+    """Those that `show` lists, on every procedure, by the line that it prints; they follow one
+    another up to the end of the body."""
     example = str(TOP / 'examples/every_procedure.nfs3cap')
     listing = tools.run('show', example)[1].splitlines()
     tools.want('messages', len(listing), 120)
@@ -77,9 +87,13 @@ def fields_of_each_message(tools: Tools) -> None:
         items = [ITEM.fullmatch(text) for text in lines[2:]]
         tools.want('items of ' + line[:60], None in items, False)
         found = [(item[2], shown(item[4])) for item in items if item and not item[3]]
-        wanted = [(name, value) for name, value in re.findall(r' (\w+)=("[^"]*"|\w*)', line) if value not in ('', '""')]
-        tools.want(line[:60], found, [(name, value.strip('"') if len(value) <= 200 else value[:200] + '..') for name, value in wanted])
-        tools.want('places of ' + line[:60], are_in_a_row([item for item in items if item], lines[1]), True)
+        wanted = [(name, value) for name, value in re.findall(r' (\w+)=("[^"]*"|\w*)', line)
+                  if value not in ('', '""')]
+        tools.want(line[:60], found,
+                   [(name, value.strip('"') if len(value) <= 200 else value[:200] + '..')
+                    for name, value in wanted])
+        tools.want('places of ' + line[:60],
+                   are_in_a_row([item for item in items if item], lines[1]), True)
 
 
 def shown(value: str) -> str:
@@ -88,7 +102,8 @@ def shown(value: str) -> str:
 
 
 def are_in_a_row(items: list[re.Match[str]], second: str) -> bool:
-    """Whether items follow one another up to the body's end: words, numbers of eight bytes, and bytes as many as are shown."""
+    """Whether items follow one another up to the body's end: words, numbers of eight bytes, and
+    bytes as many as are shown."""
     size = int(re.findall(r'a body of (\d+) bytes', second)[0])
     begins = [int(item[1]) for item in items] + [size]
     for item, begin, end in zip(items, begins, begins[1:]):
@@ -101,34 +116,49 @@ def are_in_a_row(items: list[re.Match[str]], second: str) -> bool:
 
 
 def names_of_values(tools: Tools) -> None:
-    """Statuses of both programs, bits, modes and the ways of times have the names of the RFC; other values have none."""
+    """Statuses of both programs, bits, modes and the ways of times have the names of the RFC; other
+    values have none."""
     sattr = messages.sattr(mode=0o640, size=9)
-    calls = [call(1, NFS, 3, 4, fh(b'a') + word(0x15)), call(2, NFS, 3, 19, fh(b'a')), call(3, MOUNT, 3, 1, opaque(b'/a')),
-             call(4, NFS, 3, 2, fh(b'a') + sattr + messages.guard(None)), call(5, NFS, 3, 3, messages.dirop(b'a', b'b'))]
-    fsinfo = ok(post_op_attr(), b''.join(map(word, range(7))), hyper(7), word(0), word(1), word(0x1b))
-    replies = [success(1, ok(post_op_attr(), word(0x2a))), success(2, fsinfo), success(3, failed(13)), success(4, failed(10002, bytes(8))),
+    calls = [call(1, NFS, 3, 4, fh(b'a') + word(0x15)), call(2, NFS, 3, 19, fh(b'a')),
+             call(3, MOUNT, 3, 1, opaque(b'/a')),
+             call(4, NFS, 3, 2, fh(b'a') + sattr + messages.guard(None)),
+             call(5, NFS, 3, 3, messages.dirop(b'a', b'b'))]
+    fsinfo = ok(post_op_attr(), b''.join(map(word, range(7))), hyper(7), word(0), word(1),
+                word(0x1b))
+    replies = [success(1, ok(post_op_attr(), word(0x2a))), success(2, fsinfo),
+               success(3, failed(13)), success(4, failed(10002, bytes(8))),
                success(5, failed(2, word(0)))]
     tools.write('a', messages.capture((calls, replies)))
     for place, wanted in (('client record 1', 'access = 21 (READ|MODIFY|DELETE)'),
                           ('server record 1', 'access = 42 (LOOKUP|EXTEND|EXECUTE)'),
-                          ('server record 2', 'properties = 27 (LINK|SYMLINK|HOMOGENEOUS|CANSETTIME)'),
-                          ('server record 3', 'status = 13 (MNT3ERR_ACCES)'), ('client record 4', 'mode = 416 (0640)'),
-                          ('client record 4', 'set_size = 1 (TRUE)'), ('client record 4', 'set_atime = 0 (DONT_CHANGE)'),
-                          ('client record 4', 'size = 9'), ('server record 4', 'status = 10002 (NFS3ERR_NOT_SYNC)'),
-                          ('server record 5', 'status = 2 (NFS3ERR_NOENT)'), ('client record 5', 'mtype = 0 (CALL)')):
+                          ('server record 2',
+                           'properties = 27 (LINK|SYMLINK|HOMOGENEOUS|CANSETTIME)'),
+                          ('server record 3', 'status = 13 (MNT3ERR_ACCES)'),
+                          ('client record 4', 'mode = 416 (0640)'),
+                          ('client record 4', 'set_size = 1 (TRUE)'),
+                          ('client record 4', 'set_atime = 0 (DONT_CHANGE)'),
+                          ('client record 4', 'size = 9'),
+                          ('server record 4', 'status = 10002 (NFS3ERR_NOT_SYNC)'),
+                          ('server record 5', 'status = 2 (NFS3ERR_NOENT)'),
+                          ('client record 5', 'mtype = 0 (CALL)')):
         lines = [line.partition(': ')[2] for line in explained(tools, 'a', 'connection 1 ' + place)]
         tools.want(wanted, wanted in lines, True)
 
 
 def messages_at_fault(tools: Tools) -> None:
     """The fields are those up to the first that is at fault, and then how many bytes are left."""
-    calls = [call(1, NFS, 3, 0, bytes(12)), call(2, NFS, 3, 1, word(65) + bytes(68)), call(3, NFS, 3, 1, word(8) + bytes(3))]
+    calls = [call(1, NFS, 3, 0, bytes(12)), call(2, NFS, 3, 1, word(65) + bytes(68)),
+             call(3, NFS, 3, 1, word(8) + bytes(3))]
     tools.write('a', messages.capture((calls, [success(1), success(9, b'tail')])))
-    for place, wanted in (('client record 1', ['byte 40: 12 bytes more, which are not taken apart']),
-                          ('client record 2', ['byte 40: fh (its length) = 65', 'allowed: at most 64',
-                                               'byte 44: 68 bytes more, which are not taken apart']),
+    for place, wanted in (('client record 1',
+                           ['byte 40: 12 bytes more, which are not taken apart']),
+                          ('client record 2',
+                           ['byte 40: fh (its length) = 65', 'allowed: at most 64',
+                            'byte 44: 68 bytes more, which are not taken apart']),
                           ('client record 3', ['byte 44: fh = 000000', 'allowed: any bytes']),
-                          ('server record 2', ['byte 4: mtype = 1 (REPLY)', 'byte 8: 20 bytes more, which are not taken apart'])):
+                          ('server record 2',
+                           ['byte 4: mtype = 1 (REPLY)',
+                            'byte 8: 20 bytes more, which are not taken apart'])):
         tools.want(place, explained(tools, 'a', 'connection 1 ' + place)[-len(wanted):], wanted)
     tools.want('no call', explained(tools, 'a', 'connection 1 server record 2')[0],
                'connection 1 server record 2: reply of a procedure that is not known')
@@ -138,15 +168,18 @@ def long_values(tools: Tools) -> None:
     """A long value is cut, and the bytes around a place in it are those around the byte."""
     data = bytes(range(256)) * 40
     tools.write('a', messages.capture(([call(1, NFS, 3, 6, fh(b'a') + hyper(0) + word(10_240))],
-                                       [success(1, ok(post_op_attr(), word(10_240), word(1), opaque(data)))])))
+                                       [success(1, ok(post_op_attr(), word(10_240), word(1),
+                                                      opaque(data)))])))
     lines = explained(tools, 'a', 'connection 1 server record 1')
     tools.want('data', lines[-1], f'byte 44: data = {data[:100].hex()}..')
     lines = explained(tools, 'a', 'connection 1 server record 1 byte 5000')
     tools.want('item', lines[2][:24], 'byte 5000: data = 000102')
-    dumped = {int(line.split()[0]): bytes.fromhex(line[9:73].replace('[', ' ').replace(']', ' ')) for line in lines[4:]}
+    dumped = {int(line.split()[0]): bytes.fromhex(line[9:73].replace('[', ' ').replace(']', ' '))
+              for line in lines[4:]}
     body = success(1, ok(post_op_attr(), word(10_240), word(1), opaque(data)))
     tools.want('bytes', all(body[at:at + 16] == piece for at, piece in dumped.items()), True)
-    tools.want('around', min(dumped) < 4_992 - 64 and max(dumped) > 4_992 + 64 and 4_992 in dumped, True)
+    tools.want('around', min(dumped) < 4_992 - 64 and max(dumped) > 4_992 + 64 and 4_992 in dumped,
+               True)
 
 
 # --- Recordings ---
@@ -169,7 +202,8 @@ def faults_of_recordings(tools: Tools) -> None:
 
 
 def recordings_of_all_kinds(tools: Tools) -> None:
-    """pcap, pcapng, gzip, standard input, a pipe, and parts: the frames of `tools/where`, and then what a capture of them has."""
+    """pcap, pcapng, gzip, standard input, a pipe, and parts: the frames of `tools/where`, and then
+    what a capture of them has."""
     frames = [*whole(), *whole(port=701)]
     tools.write('capture', packed(ALL, ALL))
     tools.write('a.pcap', pcap(frames, magic=NANOSECONDS))
@@ -177,7 +211,8 @@ def recordings_of_all_kinds(tools: Tools) -> None:
     tools.write('c.gz', gzip.compress(pcap(frames)))
     tools.write('part0', pcap(frames[:9]))
     tools.write('part1', pcap(frames[9:]))
-    for place, number in (('connection 2 server record 39 byte 8', 28), ('connection 1 client record 1', 4)):
+    for place, number in (('connection 2 server record 39 byte 8', 28),
+                          ('connection 1 client record 1', 4)):
         wanted = explained(tools, 'capture', place)
         for name in ('a.pcap', 'b.pcapng', 'c.gz', 'part?'):
             lines = explained(tools, name, place)
@@ -186,74 +221,86 @@ def recordings_of_all_kinds(tools: Tools) -> None:
             tools.want('its frames', [int(re.findall(r'\d+', line)[0]) for line in told], [number])
         for name in ('a.pcap', 'c.gz', 'capture'):
             content = tools.read(name) or b''
-            tools.want('standard input', tools.tool('explain', '-', place, stdin=content)[1], tools.tool('explain', name, place)[1])
-            piped = ended(['bash', '-c', f'exec "$@" <(cat {name}) "{place}"', 'bash', str(TOP / 'tools/explain')], tools.folder).text()
+            tools.want('standard input', tools.tool('explain', '-', place, stdin=content)[1],
+                       tools.tool('explain', name, place)[1])
+            piped = ended(['bash', '-c', f'exec "$@" <(cat {name}) "{place}"', 'bash',
+                           str(TOP / 'tools/explain')], tools.folder).text()
             tools.want('a pipe', piped[:2], tools.tool('explain', name, place)[:2])
     tools.want('no place', tools.tool('explain', '-', stdin=pcap(frames)),
                (2, '', 'explain: POSITION has to be an argument if FILE is standard input\n'))
 
 
-def options_of_recordings(tools: Tools) -> None:
-    """The options decide on the numbers of records, as those of `tools/from_pcap` do; they change nothing of a capture."""
+def records_of_recordings(tools: Tools) -> None:
+    """Records have the numbers that `tools/from_pcap` gives them, after bytes that are missing and
+    at an end that is cut."""
     frames, size, piece = whole(), len(stream(CALLS[:1])), -(-len(ALL[0]) // 5)
     tools.write('a.pcap', pcap(frames[:4] + frames[5:]))
     first = 2 * piece // size + 1  # the first whole call behind the second piece, which is missing
-    tools.want('without', tools.tool('explain', '--no-midstream', 'a.pcap', f'connection 1 client record {first}')[0], 1)
     lines = explained(tools, 'a.pcap', 'connection 1 client record 8')
-    tools.want('with', 'byte 0: xid = %d' % (first + 1) in lines, True)
+    tools.want('after a gap', 'byte 0: xid = %d' % (first + 1) in lines, True)
     tools.write('a.pcap', pcap(frames[:4]))
-    tools.want('a record that the recorder cut', tools.tool('explain', 'a.pcap', 'connection 1 client record 8')[0], 1)
+    tools.want('a record that the recorder cut',
+               tools.tool('explain', 'a.pcap', 'connection 1 client record 8')[0], 1)
     talk = Talk()
     tools.write('a.pcap', pcap([*talk.opened(), talk.sent(0, ALL[0][:piece]), *talk.closed()]))
-    tools.want('a record that its sender cut', len(explained(tools, 'a.pcap', 'connection 1 client record 8')) > 3, True)
-    tools.want('whole records', tools.tool('explain', '--whole-records', 'a.pcap', 'connection 1 client record 8')[0], 1)
-    tools.write('a', packed(ALL))
-    tools.want('a capture', explained(tools, 'a', 'connection 1 client record 8', '--no-midstream', '--whole-records'),
-               explained(tools, 'a', 'connection 1 client record 8'))
+    tools.want('a record that its sender cut',
+               len(explained(tools, 'a.pcap', 'connection 1 client record 8')) > 3, True)
 
 
 # --- Bytes of a file ---
 
 def bytes_of_captures(tools: Tools) -> None:
-    """The part of each byte of a capture, also of one that is cut, compressed, or of a recording of which it could be made."""
+    """The part of each byte of a capture, also of one that is cut, compressed, or of a recording of
+    which it could be made."""
     capture = packed(ALL)
     tools.write('a', capture)
     tools.write('a.gz', gzip.compress(capture))
     tools.write('a.pcap', pcap(whole()))
     tools.write('cut', capture[:40])
     at = 20 + len(ALL[0])
-    for place, told in ((0, 'the magic, from byte 0'), (11, 'the word 1 before connection 1, from byte 8'),
-                        (12, f'the length of a chunk of connection 1 client, {len(ALL[0])}, from byte 12'),
+    for place, told in ((0, 'the magic, from byte 0'),
+                        (11, 'the word 1 before connection 1, from byte 8'),
+                        (12, f'the length of a chunk of connection 1 client, {len(ALL[0])}, from '
+                         'byte 12'),
                         (at - 5, 'a chunk of connection 1 client, from byte 16'),
-                        (at - 4, f'the end of the stream of connection 1 client, from byte {at - 4}'),
-                        (len(capture) - 1, f'the word after the last connection, 0, from byte {len(capture) - 4}')):
+                        (at - 4,
+                         f'the end of the stream of connection 1 client, from byte {at - 4}'),
+                        (len(capture) - 1,
+                         f'the word after the last connection, 0, from byte {len(capture) - 4}')):
         for name in ('a', 'a.gz', 'a.pcap'):
             lines = explained(tools, name, f'file {place}')
             tools.want(f'{name} {place}', f'file byte {place}: {told}' in lines, True)
     tools.want('the frame of a byte', explained(tools, 'a.pcap', 'file 16')[2], 'frame.number == 4')
     tools.want('the end of a cut one', explained(tools, 'cut', 'file 40: CaptureCut')[0],
                'file byte 40: a chunk of connection 1 client, from byte 16')
-    tools.want('connections that are not whole', explained(tools, 'cut', 'connection 1 client record 1')[2], 'byte 0: xid = 1')
+    tools.want('connections that are not whole',
+               explained(tools, 'cut', 'connection 1 client record 1')[2], 'byte 0: xid = 1')
 
 
 def places_that_are_not_there(tools: Tools) -> None:
     tools.write('a', packed(ALL))
     tools.write('a.pcap', pcap(whole()))
     for place, message in (
-            ('connection 1 client record 1 byte 41', 'there is no connection 1 client record 1 byte 41: the body is shorter'),
+            ('connection 1 client record 1 byte 41',
+             'there is no connection 1 client record 1 byte 41: the body is shorter'),
             ('connection 1 client record 40', 'there is no connection 1 client record 40'),
             ('connection 1 client record 0', 'there is no connection 1 client record 0'),
             ('connection 2 client record 1 byte 0', 'there is no connection 2'),
-            ('connection 0 client record 1', 'there is no connection 0'), ('file 999999', 'the capture has no byte 999999')):
+            ('connection 0 client record 1', 'there is no connection 0'),
+            ('file 999999', 'the capture has no byte 999999')):
         for name in ('a', 'a.pcap'):
-            tools.want(f'{name} {place}', tools.tool('explain', name, place), (1, '', f'explain: {message}\n'))
+            tools.want(f'{name} {place}', tools.tool('explain', name, place),
+                       (1, '', f'explain: {message}\n'))
     tools.write('none', b'no recording')
-    tools.want('a file that is neither', tools.tool('explain', 'none', 'connection 1 client record 1'),
+    tools.want('a file that is neither',
+               tools.tool('explain', 'none', 'connection 1 client record 1'),
                (2, '', 'explain: it is neither pcap nor pcapng\n'))
-    tools.want('its first byte', explained(tools, 'none', 'file 0: BadMagic')[0], 'file byte 0: the magic, from byte 0')
+    tools.want('its first byte', explained(tools, 'none', 'file 0: BadMagic')[0],
+               'file byte 0: the magic, from byte 0')
 
 
-# Explains a place for each line of standard input, and prints the status, and whether the place's reason is told.
+# Explains a place for each line of standard input, and prints the status, and whether the place's
+# reason is told.
 EACH = """import contextlib, io, sys
 from nfs3tools.commands.explain import main
 for line in sys.stdin:
@@ -267,16 +314,20 @@ for line in sys.stdin:
 def faults_of_damaged_captures(tools: Tools) -> None:
     """Each place at which `check` refuses a capture is there, whatever became of the capture."""
     chance, lines = random.Random(11), list[str]()
-    bases = [(TOP / f'examples/{name}.nfs3cap').read_bytes() for name in ('every_procedure', 'interleaved', 'auth_sys', 'two_connections')]
+    bases = [(TOP / f'examples/{name}.nfs3cap').read_bytes()
+             for name in ('every_procedure', 'interleaved', 'auth_sys', 'two_connections')]
     for number in range(300):
         content = bytearray(chance.choice(bases))
         for _ in range(chance.randrange(1, 4)):
-            content[chance.randrange(len(content))] = chance.choice((0, 1, 2, 255, chance.randrange(256)))
-        tools.write(str(number), content[:chance.randrange(len(content))] if chance.random() < 0.3 else content)
+            content[chance.randrange(len(content))] = chance.choice(
+                (0, 1, 2, 255, chance.randrange(256)))
+        tools.write(str(number), content[:chance.randrange(len(content))] if chance.random() < 0.3
+                    else content)
         status, _, line = tools.run('check', str(number))
         lines += [f'{number} {line}'] if status == 2 else []
     command = [sys.executable, '-c', EACH]
-    status, out, error = ended(command, tools.folder, stdin=''.join(lines).encode(), env=WITH_TOOLS).text()
+    status, out, error = ended(command, tools.folder, stdin=''.join(lines).encode(),
+                               env=WITH_TOOLS).text()
     tools.want('all', (status, len(out.splitlines()), error), (0, len(lines), ''))
     for line, answer in zip(lines, out.splitlines()):
         tools.want(line, answer, '0 True')
@@ -300,42 +351,60 @@ def memory_of_large_captures(tools: Tools) -> None:
     """20 replies of 16 MB each, in one connection of either version."""
     read = fh(b'a') + hyper(0) + word(1 << 24)
     data = ok(post_op_attr(), word(1), word(1), opaque(bytes((1 << 24) - 100)))
-    calls, replies = [call(number, NFS, 3, 6, read) for number in range(1, 21)], (success(number, data) for number in range(1, 21))
+    calls, replies = [call(number, NFS, 3, 6, read) for number in range(1, 21)], (
+        success(number, data) for number in range(1, 21))
     written(tools, 'one', itertools.chain([messages.MAGIC, word(1), chunk(stream(calls)), word(0)],
-                                          (chunk(fragment(body)) for body in replies), [word(0), word(0)]))
+                                          (chunk(fragment(body)) for body in replies),
+                                          [word(0), word(0)]))
     replies = (success(number, data) for number in range(1, 21))
-    written(tools, 'two', itertools.chain([messages.MAGIC_2, word(1), word(1), chunk(stream(calls))],
-                                          (word(2) + chunk(fragment(body)) for body in replies), [word(0), word(0)]))
+    written(tools, 'two',
+            itertools.chain([messages.MAGIC_2, word(1), word(1), chunk(stream(calls))],
+                            (word(2) + chunk(fragment(body)) for body in replies),
+                            [word(0), word(0)]))
     for name in ('one', 'two'):
-        heading = 'connection 1 server record 20: reply NFSPROC3_READ of program 100003, version 3, procedure 6'
-        in_memory(tools, name, 'connection 1 server record 20', heading, f'byte 44: data = {"00" * 100}..')
-        in_memory(tools, name, 'connection 1 server record 20 byte 16000000', heading, f'byte 16000000: data = {"00" * 100}..')
-        in_memory(tools, name, 'file 200000000: BadMark', 'BadMark: a connection word is 0 or 1, and of version 2 a side word 0, 1 or 2, '
+        heading = ('connection 1 server record 20: reply NFSPROC3_READ of program 100003, version '
+                   '3, procedure 6')
+        in_memory(tools, name, 'connection 1 server record 20', heading,
+                  f'byte 44: data = {"00" * 100}..')
+        in_memory(tools, name, 'connection 1 server record 20 byte 16000000', heading,
+                  f'byte 16000000: data = {"00" * 100}..')
+        in_memory(tools, name, 'file 200000000: BadMark',
+                  'BadMark: a connection word is 0 or 1, and of version 2 a side word 0, 1 or 2, '
                   'and a length word at least 1')
 
 
 def memory_of_many_parts(tools: Tools) -> None:
-    """65,535 connections; 200,000 calls; a message of 500,000 fields; a record of 200,000 fragments."""
+    """65,535 connections; 200,000 calls; a message of 500,000 fields; a record of 200,000
+    fragments."""
     one = word(1) + chunk(stream(CALLS[:1])) + word(0) + chunk(stream(REPLIES[:1])) + word(0)
     written(tools, 'connections', iter([messages.MAGIC, one * 65_535, word(0)]))
-    in_memory(tools, 'connections', 'connection 65535 server record 1', 'xid 1, a body of 24 bytes, to call record 1')
-    calls, replies = ([make(number) for number in range(200_000)] for make in (lambda number: call(number, NFS, 3, 0), success))
+    in_memory(tools, 'connections', 'connection 65535 server record 1',
+              'xid 1, a body of 24 bytes, to call record 1')
+    calls, replies = ([make(number) for number in range(200_000)]
+                      for make in (lambda number: call(number, NFS, 3, 0), success))
     tools.write('calls', packed((stream(calls), stream(replies))))
-    in_memory(tools, 'calls', 'connection 1 server record 200000', 'xid 199999, a body of 24 bytes, to call record 200000')
-    names = entries(None, bytes(8), (entry(number, b'name', number) for number in range(100_000)), True)
+    in_memory(tools, 'calls', 'connection 1 server record 200000',
+              'xid 199999, a body of 24 bytes, to call record 200000')
+    names = entries(None, bytes(8), (entry(number, b'name', number) for number in range(100_000)),
+                    True)
     listed = [call(7, NFS, 3, 16, fh(b'a') + bytes(16) + word(1 << 22))], [success(7, ok(names))]
     tools.write('fields', messages.capture(listed))
     size = len(listed[1][0])
     for place in ('', f' byte {size - 4}'):
-        in_memory(tools, 'fields', 'connection 1 server record 1' + place, f'byte {size - 4}: eof = 1 (TRUE)')
-    body = call(7, NFS, 3, 7, fh(b'a') + hyper(0) + word(199_900) + word(0) + opaque(bytes(199_900)))
-    pieces = b''.join(fragment(body[at:at + 1], is_last=at == len(body) - 1) for at in range(len(body)))
+        in_memory(tools, 'fields', 'connection 1 server record 1' + place,
+                  f'byte {size - 4}: eof = 1 (TRUE)')
+    body = call(7, NFS, 3, 7, fh(b'a') + hyper(0) + word(199_900) + word(0)
+                + opaque(bytes(199_900)))
+    pieces = b''.join(fragment(body[at:at + 1], is_last=at == len(body) - 1)
+                      for at in range(len(body)))
     tools.write('fragments', packed((pieces, b'')))
-    in_memory(tools, 'fragments', f'connection 1 client record 1 byte {len(body) - 1}', f'byte {len(body) - 1}: data = {"00" * 100}..')
+    in_memory(tools, 'fragments', f'connection 1 client record 1 byte {len(body) - 1}',
+              f'byte {len(body) - 1}: data = {"00" * 100}..')
 
 
 def memory_of_large_recordings(tools: Tools) -> None:
-    """A recording of 1,000,000 frames, each with some bytes of calls: memory does not follow them."""
+    """A recording of 1,000,000 frames, each with some bytes of calls: memory does not follow
+    them."""
     talk, size, count = Talk(), 16, 1_000_000
     frame = ethernet(talk.datagram(0, ACK, bytes(size)))
     opened = pcap(talk.opened())
@@ -347,15 +416,15 @@ def memory_of_large_recordings(tools: Tools) -> None:
               for at, sequence in zip(range(0, count * size, size), sequences))
     written(tools, 'frames', itertools.chain([opened], frames))
     last = count * size // 44
-    in_memory(tools, 'frames', f'connection 1 client record {last} byte 0', f'byte 0: xid = {last - 1}',
+    in_memory(tools, 'frames', f'connection 1 client record {last} byte 0',
+              f'byte 0: xid = {last - 1}',
               f'frame.number == {4 + ((last - 1) * 44 + 4) // size}', most=MOST_OF_A_RECORDING)
 
 
-TESTS = [fields_of_a_reply, values_that_are_odd, fields_of_each_message, names_of_values, messages_at_fault, long_values,
-         faults_of_recordings,
-         recordings_of_all_kinds, options_of_recordings, bytes_of_captures, places_that_are_not_there,
-         faults_of_damaged_captures, memory_of_large_captures, memory_of_many_parts, memory_of_large_recordings]
-
-
-class ExplainTest(FolderTest, make=Tools, tests=TESTS):
+class ExplainTest(FolderTest, make=Tools, tests=[
+        fields_of_a_reply, values_that_are_odd, fields_of_each_message, names_of_values,
+        messages_at_fault, long_values, faults_of_recordings, recordings_of_all_kinds,
+        records_of_recordings, bytes_of_captures, places_that_are_not_there,
+        faults_of_damaged_captures, memory_of_large_captures, memory_of_many_parts,
+        memory_of_large_recordings]):
     """Each test has a folder of its own."""

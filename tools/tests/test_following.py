@@ -46,7 +46,8 @@ class Fed:
         """Sends frames, all of one time."""
         self.seconds = self.seconds if seconds is None else seconds
         whole_seconds, rest = divmod(round(self.seconds * 1_000_000), 1_000_000)
-        blocks = [struct.pack('<4I', whole_seconds, rest, len(frame), len(frame)) + frame for frame in frames]
+        blocks = [struct.pack('<4I', whole_seconds, rest, len(frame), len(frame)) + frame
+                  for frame in frames]
         self.frames += len(blocks)
         self.feed(b''.join(blocks))
 
@@ -99,7 +100,8 @@ def row(number: int, port: int, calls: int, replies: int, verdict: str) -> list[
 
 def write_of(number: int, size: int) -> bytes:
     """A WRITE call with data."""
-    return call(number, NFS, 3, 7, fh(b'abcd') + hyper(0) + word(size) + word(0) + opaque(bytes(size)))
+    return call(number, NFS, 3, 7, fh(b'abcd') + hyper(0) + word(size) + word(0)
+                + opaque(bytes(size)))
 
 
 def written(number: int, size: int, committed: int = 0) -> bytes:
@@ -110,8 +112,8 @@ def written(number: int, size: int, committed: int = 0) -> bytes:
 # --- When lines come ---
 
 def closed_connections(tools: Tools) -> None:
-    """The line of a closed connection comes while the pipe is open: after FIN of both sides, in any order of the last segments, and
-    after RST."""
+    """The line of a closed connection comes while the pipe is open: after FIN of both sides, in any
+    order of the last segments, and after RST."""
     fed = Fed(tools)
     tools.want('heads', fed.line(), HEADS)
     fed.send(whole())
@@ -131,13 +133,17 @@ def closed_connections(tools: Tools) -> None:
     tools.want('a reply comes after RST', fed.line(0.5), [])
     fed.send([late[4]])
     tools.want('it came', fed.line(), row(4, 704, 39, 39, 'ok'))
-    fed.send([talk.frame(1, ACK), talk.frame(0, RST), frames[5]])  # the last segments of connections that were judged
+    # the last segments of connections that were judged
+    fed.send([talk.frame(1, ACK), talk.frame(0, RST), frames[5]])
     fed.send(Talk(703).opened())
-    tools.want('at the end', fed.ended(), (0, [[sums(4, bare=1, left_out=1)]], '-: left out: 192.0.2.7:703 and 192.0.2.1:2049: no payload\n'))
+    tools.want('at the end', fed.ended(), (0, [[sums(4, bare=1, left_out=1)]],
+                                           '-: left out: 192.0.2.7:703 and 192.0.2.1:2049: no '
+                                           'payload\n'))
 
 
 def bytes_that_never_come(tools: Tools) -> None:
-    """A closed connection that lacks bytes is judged after ten seconds of the recording, or eleven, without a segment of it."""
+    """A closed connection that lacks bytes is judged after ten seconds of the recording, or eleven,
+    without a segment of it."""
     lost, fed = whole(), Fed(tools)
     fed.line()
     fed.send([*lost[:4], *lost[5:]], 1)
@@ -148,12 +154,15 @@ def bytes_that_never_come(tools: Tools) -> None:
     tools.want('after', fed.line(), row(1, 700, 30, 30, 'ok in part: 30 calls, 344 bytes missing'))
     status, rows, error = fed.ended()
     tools.want('the end', (status, rows), (1, [[sums(0, 1, left_out=2, bare=2)]]))
-    tools.want('told', error.splitlines()[0], '-: connection 1: client: 344 bytes are missing from the recording after the first 344, '
+    tools.want('told', error.splitlines()[0],
+               '-: connection 1: client: 344 bytes are missing from the recording after the first '
+               '344, '
                'before frame 5; 52 bytes of torn records are left out')
 
 
 def faults_of_open_connections(tools: Tools) -> None:
-    """By the rules of the manual page: after a second of the recording, after a second without input, and at 65,536 bytes."""
+    """By the rules of the manual page: after a second of the recording, after a second without
+    input, and at 65,536 bytes."""
     fault = 'server record 1 byte 20: BadEnum, frame %d'
     fed, talk = Fed(tools), Talk()
     fed.line()
@@ -165,14 +174,16 @@ def faults_of_open_connections(tools: Tools) -> None:
     fed.send([*talk.opened(), talk.sent(0, ALL[0]), talk.sent(1, fragment(BAD))])
     tools.want('a second without input', fed.line(), row(2, 701, 39, 1, fault % 14))
     talk = Talk(702)
-    fed.send([*talk.opened(), talk.sent(0, ALL[0]), talk.sent(1, fragment(BAD)), talk.sent(0, fragment(write_of(40, 60_000)))])
+    fed.send([*talk.opened(), talk.sent(0, ALL[0]), talk.sent(1, fragment(BAD)),
+              talk.sent(0, fragment(write_of(40, 60_000)))])
     fed.send([talk.sent(0, fragment(write_of(number, 6_000))) for number in (41, 42)])
     tools.want('at 65,536 bytes, without the next call', fed.line(), row(3, 702, 41, 1, fault % 19))
     tools.want('the end', fed.ended()[:2], (1, [[sums(0, 0, 3, left_out=1, bare=1)]]))
 
 
 def what_is_no_fault_yet(tools: Tools) -> None:
-    """A record that is not whole yet, and a reply whose call was recorded later. A reply without a call is a fault at the second look."""
+    """A record that is not whole yet, and a reply whose call was recorded later. A reply without a
+    call is a fault at the second look."""
     fed, talk = Fed(tools), Talk()
     fed.line()
     late = talk.opened() + [talk.sent(0, ALL[0]), talk.sent(1, ALL[1][:-9])]
@@ -183,14 +194,16 @@ def what_is_no_fault_yet(tools: Tools) -> None:
     fed.send([after, talk.sent(0, ALL[0][:100])])
     tools.want('a record that is cut', fed.line(2.5), [])
     fed.send([talk.sent(0, ALL[0][100:]), talk.sent(1, stream([success(99)]))], 5)
-    tools.want('no call', fed.line(), row(1, 700, 79, 41, 'server record 41 byte 0: NoCall, frame 11'))
+    tools.want('no call', fed.line(),
+               row(1, 700, 79, 41, 'server record 41 byte 0: NoCall, frame 11'))
     tools.want('the end', fed.ended()[:2], (1, [[sums(0, 0, 1, left_out=1, bare=1)]]))
 
 
 # --- How it ends ---
 
 def interrupted(tools: Tools) -> None:
-    """SIGINT and SIGTERM: connections that are open are judged, and the sums are printed. Another ends it at once."""
+    """SIGINT and SIGTERM: connections that are open are judged, and the sums are printed. Another
+    ends it at once."""
     for number in (signal.SIGINT, signal.SIGTERM):
         fed, talk = Fed(tools), Talk(701)
         fed.line()
@@ -208,7 +221,8 @@ def files_that_grow(tools: Tools) -> None:
     words = [VERDICTS, '--follow', '--program', tools.program]
     process = begin([*words, 'a.pcap'], tools.folder, prepare=take_signals)
     out = pipe_of(process.stdout)
-    tools.want('what is there', [out.readline().split()[0], out.readline().split()[-1]], [b'recording', b'ok'])
+    tools.want('what is there', [out.readline().split()[0], out.readline().split()[-1]],
+               [b'recording', b'ok'])
     with open(tools.path('a.pcap'), 'ab') as file:
         file.write(pcap(whole(port=701))[24:])
     tools.want('what came', out.readline().split()[1:3], [b'2', b'192.0.2.7:701'])
@@ -223,63 +237,77 @@ def files_that_grow(tools: Tools) -> None:
 
 
 def what_is_refused(tools: Tools) -> None:
-    """What needs the whole recording, or several; a capture; a file that is not there or is damaged."""
+    """What needs the whole recording, or several; a capture; a file that is not there or is
+    damaged."""
     tools.write('a.pcap', pcap(whole()))
     tools.write('b.pcap', pcap(whole()) + b'\xff' * 16)
     said = '--follow takes one recording, and none of -j, --junit, --html and --filter'
-    for words in (['a.pcap', 'a.pcap'], ['--junit', 'x', '-'], ['--html', 'x', '-'], ['--filter', 'tcp', '-'], ['-j', '2', '-']):
+    for words in (['a.pcap', 'a.pcap'], ['--junit', 'x', '-'], ['--html', 'x', '-'],
+                  ['--filter', 'tcp', '-'], ['-j', '2', '-']):
         status, out, error = tools.tool('verdicts', '--follow', *words)
         tools.want(' '.join(words), (status, out, said in error), (2, '', True))
     tools.want('no file', tools.exists('x'), False)
     recording = (TOP / 'examples/null.nfs3cap').read_bytes()
-    for name, content, line in (('-', recording, 'it is a capture, and only a recording can be followed'),
+    for name, content, line in (('-', recording,
+                                 'it is a capture, and only a recording can be followed'),
                                 ('-', b'no recording', 'it is neither pcap nor pcapng'),
                                 ('absent', b'', 'absent: No such file or directory'),
                                 ('-', pcap([]), 'no connection to judge'),
-                                ('-', pcap([]) + b'\xff' * 16, 'the recording is damaged after frame 0: frame 1 claims 4294967295 bytes')):
-        status, out, _ = tools.tool('verdicts', '--follow', '--program', tools.program, name, stdin=content)
+                                ('-', pcap([]) + b'\xff' * 16,
+                                 'the recording is damaged after frame 0: frame 1 claims '
+                                 '4294967295 bytes')):
+        status, out, _ = tools.tool('verdicts', '--follow', '--program', tools.program, name,
+                                    stdin=content)
         rows = [re.split('  +', one) for one in out.splitlines()]
-        tools.want(line, (status, rows[1:]), (1, [[name, '-', '-', '-', '-', '-', line], [sums(0, 0, 0, 1)]]))
+        tools.want(line, (status, rows[1:]),
+                   (1, [[name, '-', '-', '-', '-', '-', line], [sums(0, 0, 0, 1)]]))
 
 
 def lines_of_json(tools: Tools) -> None:
-    """With --json - a line comes as soon as a connection is closed or has a fault; the counts and the status at the end are those of
-    the plain form, and -q leaves out what is `ok`."""
-    tools.want('a file', (tools.tool('verdicts', '--follow', '--json', 'x', '-')[0], tools.exists('x')), (2, False))
+    """With --json - a line comes as soon as a connection is closed or has a fault; the counts and
+    the status at the end are those of the plain form, and -q leaves out what is `ok`."""
+    tools.want('a file', (tools.tool('verdicts', '--follow', '--json', 'x', '-')[0],
+                          tools.exists('x')), (2, False))
     frames = whole()
     talk = Talk(701)
-    frames += [*talk.opened(), talk.sent(0, stream([call(1, NFS, 3, 0)])), talk.sent(1, stream([BAD])), *talk.closed()]
+    frames += [*talk.opened(), talk.sent(0, stream([call(1, NFS, 3, 0)])),
+               talk.sent(1, stream([BAD])), *talk.closed()]
     for words, states in (((), ['ok', 'refused']), (('-q',), ['refused'])):
         fed = Fed(tools, '--json', '-', *words)
         fed.send(frames[:13] if words else whole())
         first = json.loads(fed.line()[0]) if not words else None
-        tools.want('at once', first and (first['version'], first['row']['connection'], first['row']['calls']), None if words else (2, 1, 39))
+        tools.want('at once', first and (first['version'], first['row']['connection'],
+                                         first['row']['calls']), None if words else (2, 1, 39))
         fed.send(frames[len(whole()):] if not words else frames[13:])
         status, lines, _ = fed.ended()
         rest = [json.loads('  '.join(line)) for line in lines]
         rows = [*([first] if first else []), *rest[:-1]]
         tools.want('rows', ([one['row']['state'] for one in rows], status), (states, 1))
-        wanted = {'judged': 2, 'ok': 1, 'refused': 1, 'in part': 0, 'left out': 0, 'without calls': 0, 'not checked': 0, 'errors': 0,
-                  'without reply': 0, 'raw': {}}
+        wanted = {'judged': 2, 'ok': 1, 'refused': 1, 'in part': 0, 'left out': 0,
+                  'without calls': 0, 'not checked': 0, 'errors': 0, 'without reply': 0, 'raw': {}}
         tools.want('the end', rest[-1], {'version': 2, 'counts': wanted, 'status': 1})
 
 
 def the_same_verdicts(tools: Tools) -> None:
-    """On the recordings of the examples, with and without --no-midstream, cut at the front or not: the rows of the tool without --follow, in
-    another order, and the same words on standard error."""
+    """On the recordings of the examples, cut at the front or not: the rows of the tool without
+    --follow, in another order, and the same words on standard error."""
     for path in sorted((TOP / 'examples').glob('*.pcap')):
         content = path.read_bytes()
-        for options, begun in ((['--no-midstream'], 0), (['--no-midstream'], 40), ([], 0), ([], 40), (['--port', '2049,20048'], 0)):
+        for options, begun in (([], 0), ([], 40), (['--port', '2049,20048'], 0)):
             recording = content[:24] + content[at_frame(content, begun):]
             named = ['--program', tools.program, *options]
-            answers = [tools.tool('verdicts', *named, *words, '-', stdin=recording) for words in ([], ['--follow'])]
-            (status, out, error), found = [(status, sorted(re.split('  +', line) for line in out.splitlines()), sorted(error.splitlines()))
-                                           for status, out, error in answers]
+            answers = [tools.tool('verdicts', *named, *words, '-', stdin=recording)
+                       for words in ([], ['--follow'])]
+            (status, out,
+             error), found = [(status, sorted(re.split('  +', line) for line in out.splitlines()),
+                               sorted(error.splitlines()))
+                              for status, out, error in answers]
             tools.want(f'{path.name} {options} {begun}', found, (status, out, error))
 
 
 def at_frame(recording: bytes, number: int) -> int:
-    """Where the frame with an index begins in a recording in little-endian pcap, or the last one."""
+    """Where the frame with an index begins in a recording in little-endian pcap, or the last
+    one."""
     at = 24
     for _ in range(number):
         size, = struct.unpack_from('<I', recording, at + 8)
@@ -290,13 +318,16 @@ def at_frame(recording: bytes, number: int) -> int:
 # --- How much is kept ---
 
 def many_short_connections(tools: Tools) -> None:
-    """2,000 connections of 210 KB one after the other: 64 MB of memory and 1 MB of the temporary file are enough."""
+    """2,000 connections of 210 KB one after the other: 64 MB of memory and 1 MB of the temporary
+    file are enough."""
     fed, size = Fed(tools), 0
     fed.line()
-    content = stream(write_of(number, 30_000) for number in range(1, 8)), stream(written(number, 30_000) for number in range(1, 8))
+    content = stream(write_of(number, 30_000) for number in range(1, 8)), stream(
+        written(number, 30_000) for number in range(1, 8))
     for number in range(2_000):
         talk = Talk(1_000 + number)
-        frames = [*talk.opened(), *(talk.sent(0, content[0][at:at + 60_000]) for at in range(0, len(content[0]), 60_000))]
+        frames = [*talk.opened(), *(talk.sent(0, content[0][at:at + 60_000])
+                                    for at in range(0, len(content[0]), 60_000))]
         fed.send([*frames, talk.sent(1, content[1]), *talk.closed()], 1 + number / 100)
         tools.want('a line', fed.line(), row(number + 1, 1_000 + number, 7, 7, 'ok'))
         size = max(size, fed.stored()) if not number % 100 else size
@@ -306,29 +337,35 @@ def many_short_connections(tools: Tools) -> None:
 
 
 def a_long_connection(tools: Tools) -> None:
-    """300 MB of one connection, with and without its beginning: 64 MB of memory, and of the temporary file four times the 8 MB that are
-    judged at once. A fault then has the number of its record in the whole stream, and that of its frame. A call whose reply comes
-    300 MB later is not forgotten."""
+    """300 MB of one connection, with and without its beginning: 64 MB of memory, and of the
+    temporary file four times the 8 MB that are judged at once. A fault then has the number of its
+    record in the whole stream, and that of its frame. A call whose reply comes 300 MB later is not
+    forgotten."""
     for words, first in (([], 0), ([], 4)):
         fed, talk, size = Fed(tools, *words), Talk(), 0
         fed.line()
         fed.send([*talk.opened(), talk.sent(0, stream([call(7_000_000, NFS, 3, 0)]))][first:])
         for number in range(1, 5_001):
-            frames = [talk.sent(0, fragment(write_of(number, 60_000))), talk.sent(1, fragment(written(number, 60_000)))]
+            frames = [talk.sent(0, fragment(write_of(number, 60_000))),
+                      talk.sent(1, fragment(written(number, 60_000)))]
             fed.send(frames, 1 + number / 100)
             size = max(size, fed.stored()) if not number % 50 else size
         tools.want('no line', fed.line(0.1), [])
         late = [] if first else [success(7_000_000)]
-        fed.send([talk.sent(0, stream([write_of(5_001, 5)])), talk.sent(1, stream([*late, written(5_001, 5, 3)]))])
+        fed.send([talk.sent(0, stream([write_of(5_001, 5)])),
+                  talk.sent(1, stream([*late, written(5_001, 5, 3)]))])
         calls = 5_001 + len(late)
-        tools.want('a fault', fed.line(), row(1, 700, calls, calls, f'server record {calls} byte 40: BadEnum, frame {fed.frames}'))
+        tools.want('a fault', fed.line(),
+                   row(1, 700, calls, calls,
+                       f'server record {calls} byte 40: BadEnum, frame {fed.frames}'))
         tools.want('memory', fed.memory() < 64_000 or fed.memory(), True)
         tools.want('the temporary file', size < 32 << 20 or size, True)
         tools.want('the end', fed.ended()[:2], (1, [[sums(0, 0, 1)]]))
 
 
 def bytes_that_are_forgotten(tools: Tools) -> None:
-    """At random: what is not forgotten reads as it was appended, and the temporary file has no more than twice the most that was kept."""
+    """At random: what is not forgotten reads as it was appended, and the temporary file has no more
+    than twice the most that was kept."""
     chance, spool = random.Random(7), Spool()
     streams = [(Stored(spool), bytearray()) for _ in range(5)]
     dropped, most, largest = [0] * 5, 0, 0
@@ -342,19 +379,20 @@ def bytes_that_are_forgotten(tools: Tools) -> None:
             dropped[index] = chance.randint(max(dropped[index], stored.size - 500_000), stored.size)
             stored.drop(dropped[index])
         begin = chance.randint(dropped[index], stored.size)
-        tools.want(f'step {step}', stored.read(begin, 200_000) == bytes(content[begin:begin + 200_000]), True)
+        tools.want(f'step {step}',
+                   stored.read(begin, 200_000) == bytes(content[begin:begin + 200_000]), True)
         most = max(most, sum(one.size for one, _ in streams) - sum(dropped))
         largest = max(largest, spool.room.end)
     tools.want('the file', largest < 2 * most or (largest, most), True)
     for stored, _ in streams:
         stored.close()
-    tools.want('all is forgotten', (spool.room.end, spool.room.begins, spool.unwritten, spool.stored), (0, [], 0, {}))
+    tools.want('all is forgotten', (spool.room.end, spool.room.begins, spool.unwritten,
+                                    spool.stored), (0, [], 0, {}))
     spool.close()
 
 
-TESTS = [closed_connections, bytes_that_never_come, faults_of_open_connections, what_is_no_fault_yet, interrupted, files_that_grow,
-         what_is_refused, lines_of_json, the_same_verdicts, many_short_connections, a_long_connection, bytes_that_are_forgotten]
-
-
-class FollowingTest(FolderTest, make=Tools, tests=TESTS):
+class FollowingTest(FolderTest, make=Tools, tests=[
+        closed_connections, bytes_that_never_come, faults_of_open_connections, what_is_no_fault_yet,
+        interrupted, files_that_grow, what_is_refused, lines_of_json, the_same_verdicts,
+        many_short_connections, a_long_connection, bytes_that_are_forgotten]):
     """Each test has a folder of its own."""

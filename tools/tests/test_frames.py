@@ -99,23 +99,18 @@ def frames_without_a_record(tools: Tools) -> None:
 def words_of_a_position(tools: Tools) -> None:
     """An unfinished or a superfluous word is refused, and an example is told."""
     tools.write('a.pcap', pcap(whole()))
-    good = ('connection 1 client record 2', ' 1 client 2 ',
-            '1 client 2 xid=2 NFSPROC3_NULL mtype=0',
-            'connection 1 client record 2 byte 3: BadEnum',
-            'first: connection 1 client record 2',
-            'second: connection 1 client record 2: Short',
-            'differ at connection 1 client record 2',
-            'frame 5', 'nfs3canon: a word before\nconnection 1 client record 2: Short\n')
+    good = (
+        'connection 1 client record 2', ' 1 client 2 ', '1 client 2 xid=2 NFSPROC3_NULL mtype=0',
+        'connection 1 client record 2 byte 3: BadEnum', 'first: connection 1 client record 2',
+        'second: connection 1 client record 2: Short', 'differ at connection 1 client record 2',
+        'frame 5', 'nfs3canon: a word before\nconnection 1 client record 2: Short\n')
     for text in good:
         tools.want(repr(text), tool(tools, 'where', 'a.pcap', text)[0], 0)
     for text in ('1 client 2 byte 3', '1 client 2 byte',
-                 '1 client', 'connection 1 client record 2 byte',
-                 'connection 1 client record',
-                 '1 client 2: x y',
-                 'connection 1 client record 2 byte 3 4',
+                 '1 client', 'connection 1 client record 2 byte', 'connection 1 client record',
+                 '1 client 2: x y', 'connection 1 client record 2 byte 3 4',
                  'x connection 1 client record 2', 'third: connection 1 client record 2',
-                 'frame', 'frame 5 6', 'frame five', 'file',
-                 'file 12 13',
+                 'frame', 'frame 5 6', 'frame five', 'file', 'file 12 13',
                  'connection 1 client record 2 BadEnum',
                  'connection 1 client record 2: BadEnum, frame 5', ''):
         for name, *out in (('where',), ('explain',), ('cut', 'out')):
@@ -132,17 +127,18 @@ def parts_of(frames: Sequence[bytes], parts: dict[int, tuple[int, int]]) -> list
 
 
 def frames_of_the_records(tools: Tools) -> None:
-    """OUT.pcap has the frames of SYN, and those of the call and of its reply without the bytes of other
-    records, with their times, in both units of time."""
+    """OUT.pcap has the frames of SYN, and those of the call and of its reply without the bytes of
+    other records, with their times, in both units of time."""
     frames = [*whole(port=699), *whole()]
     for magic, unit in ((0xa1b2c3d4, 1_000), (0xa1b23c4d, 1)):
         for order in '<>':
             tools.write('a.pcap', pcap(frames, magic=magic, order=order))
             # The second connection begins in frame 16. Record 9 of its calls is in frame 20, and
-            # record 9 of its replies in frame 25.
-            # They begin 8 and 5 bytes after their frames. The replies acknowledge all 1,716 bytes of
-            # the calls, of which 44 are there. Of the replies 224 bytes come before.
-            wanted = extract(parts_of(frames, {20: (8, 52), 25: (5, 33)}), [16, 17, 20, 25], unit=unit)
+            # record 9 of its replies in frame 25. They begin 8 and 5 bytes after their frames. The
+            # replies acknowledge all 1,716 bytes of the calls, of which 44 are there. Of the
+            # replies 224 bytes come before.
+            wanted = extract(parts_of(frames, {20: (8, 52), 25: (5, 33)}), [16, 17, 20, 25],
+                             unit=unit)
             status, lines, error = tool(tools, 'cut', 'a.pcap',
                                         'connection 2 client record 9', 'out.pcap')
             tools.want('lines', (status, lines, error), (0, [
@@ -204,7 +200,8 @@ def parts_and_pcapng(tools: Tools) -> None:
 
 def datagrams_in_fragments(tools: Tools) -> None:
     """Of a datagram that came in fragments all frames are taken as they are, though the last alone
-    completed it, and none of another one. That other records are in it is said, and the status 1."""
+    completed it, and none of another one. That other records are in it is said, and the status
+    1."""
     for cut_up, hosts in ((fragments, ('192.0.2.7', '192.0.2.1')),
                           (fragments_6, ('2001:db8::7', '2001:db8::1'))):
         talk = Talk(hosts=hosts)
@@ -345,34 +342,40 @@ def as_tshark_reads_it(tools: Tools) -> None:
 
 @unittest.skipUnless(shutil.which('tshark'), 'tshark is not there')
 def cuts_as_tshark_reads_them(tools: Tools) -> None:
-    """tshark finds the call and its reply in each cut, and nothing else, though in the recording they
-    begin and end inside segments; their checksums are right."""
+    """tshark finds the call and its reply in each cut, and nothing else, though in the recording
+    they begin and end inside segments; their checksums are right."""
     v6 = '2001:db8::7', '2001:db8::1'
     several = {
         'Ethernet': pcap(whole()), 'IPv6': pcap(whole(hosts=v6)),
         'a VLAN': pcap(whole(vlan=7)),
         'cooked': pcap([cooked(frame[14:]) for frame in whole()], link=113),
         'a large message': pcap(large_messages()), 'IPv6, large': pcap(large_messages(hosts=v6))}
-    fields = [word for field in ('rpc.msgtyp', 'rpc.xid', 'tcp.checksum.status', 'ip.checksum.status')
+    fields = [word for field in ('rpc.msgtyp', 'rpc.xid', 'tcp.checksum.status',
+                                 'ip.checksum.status')
               for word in ('-e', field)]
     checked = ['-o', 'tcp.check_checksum:TRUE', '-o', 'ip.check_checksum:TRUE']
     for name, recording in several.items():
         tools.write('a.pcap', recording)
         # Record 9 is inside a segment, and record 16 has bytes of two.
         for record in (9, 16) if 'large' not in name else (2, 3):
-            status, _, error = tool(tools, 'cut', 'a.pcap', f'connection 1 client record {record}', 'out.pcap')
-            out = ended(['tshark', '-n', '-r', 'out.pcap', '-Y', 'rpc', *checked, '-T', 'fields', *fields],
+            status, _, error = tool(tools, 'cut', 'a.pcap', f'connection 1 client record {record}',
+                                    'out.pcap')
+            out = ended(['tshark', '-n', '-r', 'out.pcap', '-Y', 'rpc', *checked, '-T', 'fields',
+                         *fields],
                         tools.folder).out.decode()
             sums_of_ip = '' if 'IPv6' in name else '1'
             wanted = [f'{kind}\t0x{record:08x}\t1\t{sums_of_ip}'.rstrip('\t') for kind in (0, 1)]
-            tools.want(f'{name}, record {record}', (status, error, [line.rstrip('\t') for line in out.splitlines()]),
+            tools.want(f'{name}, record {record}',
+                       (status, error, [line.rstrip('\t') for line in out.splitlines()]),
                        (0, '', wanted))
             os.remove(tools.path('out.pcap'))
 
 
 def large_messages(**options: Any) -> list[bytes]:
-    """A connection with three WRITEs of 20,000 bytes and their replies, in segments of 1,448 bytes."""
-    calls = [call(xid, NFS, 3, 7, fh(b'h') + struct.pack('>QII', 0, 20_000, 2) + opaque(bytes(20_000)))
+    """A connection with three WRITEs of 20,000 bytes and their replies, in segments of 1,448
+    bytes."""
+    calls = [call(xid, NFS, 3, 7, fh(b'h') + struct.pack('>QII', 0, 20_000, 2)
+                  + opaque(bytes(20_000)))
              for xid in (1, 2, 3)]
     replies = [success(xid, struct.pack('>IIIII8x', 0, 0, 0, 20_000, 2)) for xid in (1, 2, 3)]
     talk = Talk(**options)
@@ -384,12 +387,9 @@ def large_messages(**options: Any) -> list[bytes]:
     return [part_of(frame, 0, len(frame)) for frame in (*frames, *talk.closed())]
 
 
-TESTS = [records_of_a_frame, frames_without_a_record, words_of_a_position,
-         frames_of_the_records, parts_and_pcapng, datagrams_in_fragments,
-         exchanges_in_the_extract, with_origins, records_at_fault,
-         openings_that_do_not_fit, outputs_that_are_refused, as_tshark_reads_it,
-         cuts_as_tshark_reads_them]
-
-
-class FramesTest(FolderTest, make=Tools, tests=TESTS):
+class FramesTest(FolderTest, make=Tools, tests=[
+        records_of_a_frame, frames_without_a_record, words_of_a_position, frames_of_the_records,
+        parts_and_pcapng, datagrams_in_fragments, exchanges_in_the_extract, with_origins,
+        records_at_fault, openings_that_do_not_fit, outputs_that_are_refused, as_tshark_reads_it,
+        cuts_as_tshark_reads_them]):
     """Each test has a folder of its own."""

@@ -1,5 +1,5 @@
-"""Tests of calls without a reply, of calls that were sent again on a later connection, of windows of
-time, and of names that change."""
+"""Tests of calls without a reply, of calls that were sent again on a later connection, of windows
+of time, and of names that change."""
 import json
 import re
 import struct
@@ -24,7 +24,8 @@ def timed(frames: Iterable[tuple[float, bytes]]) -> bytes:
     """A recording of frames, each so many seconds after it began."""
     header = struct.pack('<IHHiIII', 0xa1b2c3d4, 2, 4, 0, 0, 65_535, 1)
     return header + b''.join(
-        struct.pack('<IIII', BEGUN + int(at), round(at % 1 * 1_000_000), len(frame), len(frame)) + frame
+        struct.pack('<IIII', BEGUN + int(at), round(at % 1 * 1_000_000), len(frame), len(frame))
+        + frame
         for at, frame in frames)
 
 
@@ -35,7 +36,8 @@ def hung() -> bytes:
     calls = [fragment(call(xid, NFS, 3, 1, fh(bytes([xid])))) for xid in (1, 2, 3)]
     frames = [(0.0, frame) for frame in first.opened()]
     frames += [(1.0 + at, first.sent(0, content)) for at, content in enumerate(calls)]
-    frames += [(2.5, first.sent(1, fragment(success(1, word(70))))), (5.0, first.frame(0, RST | ACK))]
+    frames += [(2.5, first.sent(1, fragment(success(1, word(70))))),
+               (5.0, first.frame(0, RST | ACK))]
     frames += [(6.0, frame) for frame in second.opened()]
     frames += [(7.0, second.sent(0, calls[1] + calls[2])),
                (9.0, second.sent(1, fragment(success(2, word(70))))), (20.0, second.frame(0, ACK))]
@@ -55,8 +57,8 @@ LINE = sums(2, silent=2)
 
 
 def listed_without_a_reply(tools: Tools) -> None:
-    """--no-reply lists those that never got one, and those that got it on a later connection, with how
-    long each waited; --slow counts that as well."""
+    """--no-reply lists those that never got one, and those that got it on a later connection, with
+    how long each waited; --slow counts that as well."""
     tools.write('a.pcap', hung())
     wanted = [['2.000000', '1:2', 'GETATTR ?', 'no reply in 7.000 s, answered as 2:1'],
               ['3.000000', '1:3', 'GETATTR ?', 'no reply in 17.000 s, sent again as 2:2']]
@@ -76,34 +78,37 @@ def counted_in_each_form(tools: Tools) -> None:
     status, out, _ = tools.tool('verdicts', '--program', tools.program, *words)
     tools.want('text', (status, out.splitlines()[-1]), (0, LINE))
     written = json.loads(tools.read('x.json') or b'')
-    tools.want('JSON', (written['counts']['without reply'], [row['unanswered'] for row in written['rows']]),
+    tools.want('JSON', (written['counts']['without reply'],
+                        [row['unanswered'] for row in written['rows']]),
                (2, [2, 0]))
     suite = xml.etree.ElementTree.fromstring((tools.read('x.xml') or b'').decode())
     tools.want('JUnit', [one.get('value') for one in suite.iter('property')
                          if one.get('name') == 'without reply'], ['2'])
     tools.want('page', b'<b>2</b> calls without a reply' in (tools.read('x.html') or b''), True)
     for tool, more in (('verdicts', ['--follow']), ('procedures', ['--total']), ('calls', [])):
-        out = tools.tool(tool, '--program', tools.program, *more, '-' if more == ['--follow'] else 'a.pcap',
-                         stdin=tools.read('a.pcap'))[1]
+        out = tools.tool(tool, '--program', tools.program, *more, '-' if more == ['--follow']
+                         else 'a.pcap', stdin=tools.read('a.pcap'))[1]
         tools.want(tool, LINE in out, True)
 
 
 def sent_again_later(tools: Tools) -> None:
-    """An equal call with the same xid on a later connection of the same ends is a retransmission; one
-    with other bytes, of another client or of another server is none."""
+    """An equal call with the same xid on a later connection of the same ends is a retransmission;
+    one with other bytes, of another client or of another server is none."""
     tools.write('a.pcap', hung())
     tools.tool('procedures', '--program', tools.program, '--json', 'x.json', 'a.pcap')
     tables = json.loads(tools.read('x.json') or b'')['tables']
     tools.want('again', [table['procedures'][-1]['again'] for table in tables], [0, 2, 2])
     tools.want('no reply', [table['procedures'][-1]['unanswered'] for table in tables], [2, 0, 2])
-    others = [Talk(701, hosts=('192.0.2.9', SERVER)), Talk(701, hosts=('192.0.2.7', '192.0.2.2')), Talk(701)]
+    others = [Talk(701, hosts=('192.0.2.9', SERVER)), Talk(701, hosts=('192.0.2.7', '192.0.2.2')),
+              Talk(701)]
     for other, handle in zip(others, (b'a', b'a', b'b')):
         first = Talk(700)
         frames = [*first.opened(), first.sent(0, fragment(call(1, NFS, 3, 1, fh(b'a')))),
                   first.frame(0, RST | ACK), *other.opened(),
                   other.sent(0, fragment(call(1, NFS, 3, 1, fh(handle))))]
         tools.write('b.pcap', timed((at, frame) for at, frame in enumerate(frames)))
-        tools.want('none', [row[3] for row in rows_of(tools, '--no-reply', 'b.pcap')], ['1:1', '2:1'])
+        tools.want('none', [row[3] for row in rows_of(tools, '--no-reply', 'b.pcap')],
+                   ['1:1', '2:1'])
 
 
 # --- Positions, and windows of time ---
@@ -126,7 +131,8 @@ def windows(tools: Tools) -> None:
                ['12:26:41.000000', '12:26:42.000000'])
     for words in (['--from', '2', '--to', '3.5'], ['--from', '12:26:42', '--to', '12:26:43.5'],
                   ['--from', '1.5', '--to', '12:26:43']):
-        tools.want(' '.join(words), [row[3] for row in rows_of(tools, *words, 'a.pcap')], ['1:2', '1:3'])
+        tools.want(' '.join(words), [row[3] for row in rows_of(tools, *words, 'a.pcap')],
+                   ['1:2', '1:3'])
         tools.tool('procedures', '--program', tools.program, *words, '--json', 'x.json', 'a.pcap')
         tables = json.loads(tools.read('x.json') or b'')['tables']
         tools.want('procedures', tables[-1]['procedures'][-1]['calls'], 2)
@@ -142,7 +148,8 @@ def renamed() -> bytes:
     asked = [
         (MOUNT, 1, opaque(b'/x'), word(0) + fh(ROOT) + word(1) + word(1)),
         (NFS, LOOKUP, dirop(ROOT, b'd'), ok(fh(FOLDER), word(0), word(0))),
-        (NFS, CREATE, dirop(FOLDER, b'tmp') + word(0) + bytes(24), ok(word(1), fh(FILE), word(0), none)),
+        (NFS, CREATE, dirop(FOLDER, b'tmp') + word(0) + bytes(24),
+         ok(word(1), fh(FILE), word(0), none)),
         (NFS, GETATTR, fh(FILE), word(70)),
         (NFS, RENAME, dirop(FOLDER, b'tmp') + dirop(FOLDER, b'final'), ok(none, none)),
         (NFS, GETATTR, fh(FILE), word(70)),
@@ -156,7 +163,8 @@ def renamed() -> bytes:
 
 
 def names_at_the_time(tools: Tools) -> None:
-    """A file has the name that it had when it was called, and --path fits each name; so in a capture."""
+    """A file has the name that it had when it was called, and --path fits each name; so in a
+    capture."""
     tools.write('a.pcap', renamed())
     tools.want('from_pcap', tools.tool('from_pcap', 'a.pcap', 'a.nfs3cap')[0], 0)
     wanted = ['/x/d/tmp', '/x/d/final', '/x/e/final']
@@ -166,8 +174,10 @@ def names_at_the_time(tools: Tools) -> None:
     for pattern in ('tmp', 'final', '*/d/final', '/x/d/tmp'):
         found = rows_of(tools, '--path', pattern, '--procedure', 'GETATTR', 'a.pcap')
         tools.want(pattern, len(found), 3)
-    tools.want('made', rows_of(tools, '--path', 'final', 'a.pcap')[0][4:6], ['CREATE', '/x/d/tmp UNCHECKED'])
-    out = tools.tool('calls', '--program', tools.program, '--json', '--procedure', 'GETATTR', 'a.pcap')[1]
+    tools.want('made', rows_of(tools, '--path', 'final', 'a.pcap')[0][4:6],
+               ['CREATE', '/x/d/tmp UNCHECKED'])
+    out = tools.tool('calls', '--program', tools.program, '--json', '--procedure', 'GETATTR',
+                     'a.pcap')[1]
     tools.want('JSON', [(one['path'], one['other_names']) for one in json.loads(out)['calls']],
                [(path, [other for other in wanted if other != path]) for path in wanted])
     told = tools.tool('calls', '--user', 'root', 'a.pcap')[2]
@@ -179,7 +189,8 @@ def names_at_the_time(tools: Tools) -> None:
 def memory_of_connections(tools: Tools) -> None:
     """A connection of a SYN alone takes a few hundred bytes, from its frame to its verdict."""
     number = 4_000
-    frames = (ethernet(datagram(f'10.1.{at // 256}.{at % 256}', SERVER, segment((700, 2049), 1 << 31, 0, SYN)))
+    frames = (ethernet(datagram(f'10.1.{at // 256}.{at % 256}', SERVER,
+                                segment((700, 2049), 1 << 31, 0, SYN)))
               for at in range(number))
     recording = timed((0.0, frame) for frame in frames)
     tracemalloc.start()

@@ -1,7 +1,7 @@
 """Tests of what tools/ could harm: files of others, outputs that are not whole, and answers of
 programs that died.
 
-Changing owners takes root, and is left out otherwise.
+Making devices takes root, and is left out otherwise.
 """
 import errno
 import gzip
@@ -25,7 +25,8 @@ from .scripts import ALL, TOP, WITH_TOOLS, Tools, packed, whole
 
 RECORDING, CAPTURE = pcap(whole()), packed(ALL)
 EXAMPLES = TOP / 'examples'
-FIRST, CHANGED, NULL = (str(EXAMPLES / name) for name in ('ganesha_a.pcap', 'ganesha_changed.pcap', 'null.nfs3cap'))
+FIRST, CHANGED, NULL = (str(EXAMPLES / name) for name in ('ganesha_a.pcap', 'ganesha_changed.pcap',
+                                                          'null.nfs3cap'))
 IS_ROOT, NOBODY = os.geteuid() == 0, 65534
 # Runs a tool in this process, in which a call of the system is not what it was.
 PATCHED = '''
@@ -33,14 +34,16 @@ import os, signal, sys
 from nfs3tools.commands import compare, from_pcap, verdicts
 from nfs3tools.reporting import messages
 %s
-sys.exit(messages.run(sys.argv[1], {'compare': compare, 'from_pcap': from_pcap, 'verdicts': verdicts}[sys.argv.pop(1)].main))
+tools = {'compare': compare, 'from_pcap': from_pcap, 'verdicts': verdicts}
+sys.exit(messages.run(sys.argv[1], tools[sys.argv.pop(1)].main))
 '''
 
 
 def patched(tools: Tools, patch: str, *words: str, umask: int = 0o022) -> Answer:
     """What a tool ends with after a patch."""
     command = [sys.executable, '-c', PATCHED % patch, *words]
-    return ended(command, tools.folder, prepare=lambda: os.umask(umask), env=WITH_TOOLS).text('replace')
+    return ended(command, tools.folder, prepare=lambda: os.umask(umask),
+                 env=WITH_TOOLS).text('replace')
 
 
 def through_bash(tools: Tools, before: str, *command: str) -> Answer:
@@ -64,7 +67,8 @@ def last_of(error: str) -> str:
 def one_line(tools: Tools, what: str, answer: Answer, status: int, *texts: str) -> None:
     """It ends with the status and one line on standard error, which has the texts."""
     lines = answer[2].splitlines()
-    tools.want(what, (answer[0], len(lines), [text for text in texts if text not in answer[2]]), (status, 1, []))
+    tools.want(what, (answer[0], len(lines), [text for text in texts if text not in answer[2]]),
+               (status, 1, []))
 
 
 # --- What is not replaced ---
@@ -80,7 +84,8 @@ def writers(tools: Tools, file: str, *inputs: str) -> list[list[str]]:
             ['compare', '--program', tools.program, '--junit', file, *compared],
             ['procedures', '--program', tools.program, '--json', file, *inputs],
             ['procedures', '--program', tools.program, '--csv', file, *inputs],
-            ['procedures', '--program', tools.program, '--html', file, *inputs], ['from_pcap', inputs[-1], file]]
+            ['procedures', '--program', tools.program, '--html', file, *inputs],
+            ['from_pcap', inputs[-1], file]]
 
 
 def outputs_that_are_inputs(tools: Tools) -> None:
@@ -98,46 +103,57 @@ def outputs_that_are_inputs(tools: Tools) -> None:
                 one_line(tools, ' '.join(words[-3:]), tools.tool(*words), 2, file)
                 tools.want('what it has', tools.read(name), content)
         with open(tools.path(name), 'rb') as source:
-            one_line(tools, 'standard input', tools.tool('verdicts', '--json', 'hard', '-', stdin=source), 2, 'hard is an input')
+            one_line(tools, 'standard input', tools.tool('verdicts', '--json', 'hard', '-',
+                                                         stdin=source), 2, 'hard is an input')
     tools.want('what is there', tools.names(), ['a.pcap', 'b.pcap', 'hard', 'link'])
 
 
 def outputs_that_are_recordings(tools: Tools) -> None:
-    """A file that is no input is not replaced either if it begins as a recording or a capture. Only from_pcap replaces captures."""
+    """A file that is no input is not replaced either if it begins as a recording or a capture. Only
+    from_pcap replaces captures."""
     big = pcap(whole())[:4][::-1] + RECORDING[4:]
     zstd = b'\x28\xb5\x2f\xfd' + RECORDING
-    files = {'pcap': RECORDING, 'big': big, 'nano': b'\x4d\x3c\xb2\xa1' + RECORDING[4:], 'pcapng': b'\x0a\x0d\x0d\x0a' + bytes(24),
-             'gzip': gzip.compress(RECORDING), 'xz': lzma.compress(RECORDING), 'zstd': zstd, 'capture': CAPTURE, 'mixed': b'NFS3CAP2' + bytes(4)}
+    files = {'pcap': RECORDING, 'big': big, 'nano': b'\x4d\x3c\xb2\xa1' + RECORDING[4:],
+             'pcapng': b'\x0a\x0d\x0d\x0a' + bytes(24),
+             'gzip': gzip.compress(RECORDING), 'xz': lzma.compress(RECORDING), 'zstd': zstd,
+             'capture': CAPTURE, 'mixed': b'NFS3CAP2' + bytes(4)}
     for name, content in files.items():
         tools.write(name, content)
         for words in writers(tools, name, FIRST):
             if words[0] != 'from_pcap' or content[:4] != b'NFS3':
-                one_line(tools, f'{words[0]} to {name}', tools.tool(*words), 2, f'{words[0]}: {name} is a')
+                one_line(tools, f'{words[0]} to {name}', tools.tool(*words), 2,
+                         f'{words[0]}: {name} is a')
                 tools.want('what it has', tools.read(name) == content, True)
     tools.want('an older capture', tools.tool('from_pcap', FIRST, 'mixed')[0], 0)
     for content in (b'', b'<?xml', b'\xd4\xc3'):
         for words in writers(tools, 'page', FIRST):
             tools.write('page', content)
-            tools.want(f'{words[0]} to another file', (tools.tool(*words)[0], tools.read('page') != content), (0, True))
+            tools.want(f'{words[0]} to another file',
+                       (tools.tool(*words)[0], tools.read('page') != content), (0, True))
 
 
 # --- Whole, or as it was ---
 
 def full_disks(tools: Tools) -> None:
-    """A page or a list that does not fit on the disk leaves the old one, and a device that is full is told."""
+    """A page or a list that does not fit on the disk leaves the old one, and a device that is full
+    is told."""
     for name, mode in (('a', 0), ('b', 1)):
         asked = [call(xid, NFS, 3, 1, fh(b'f')) for xid in range(60)]
-        tools.write(name, capture((asked, [success(xid, ok(fattr(1, 1, size=60 * mode + xid))) for xid in range(60)])))
+        tools.write(name,
+                    capture((asked, [success(xid, ok(fattr(1, 1, size=60 * mode + xid)))
+                                     for xid in range(60)])))
     several, wide = writers(tools, 'page', FIRST, CHANGED, FIRST), writers(tools, 'page', 'a', 'b')
     # (60 replies take 8 KB, and 60 findings more)
     for kilobytes, words in ((1, several[0]), (1, several[1]), (12, wide[2]), (12, wide[3])):
         tools.write('page', AS_IT_WAS)
-        answer = through_bash(tools, f'ulimit -f {kilobytes}; exec "$@"', tool(words[0]), *words[1:])
+        answer = through_bash(tools, f'ulimit -f {kilobytes}; exec "$@"', tool(words[0]),
+                              *words[1:])
         one_line(tools, ' '.join(words[:4]), answer, 3, 'page: File too large')
         tools.want('the old one', (tools.read('page'), parts(tools)), (AS_IT_WAS, []))
     for words in writers(tools, '/dev/full', FIRST):
         status, _, error = tools.tool(*words)
-        tools.want('a full device', (status, last_of(error)), (3, f'{words[0]}: /dev/full: No space left on device'))
+        tools.want('a full device', (status, last_of(error)),
+                   (3, f'{words[0]}: /dev/full: No space left on device'))
 
 
 # The look number N of those at a name fails.
@@ -156,7 +172,8 @@ os.stat, os.lstat = failing(os.stat), failing(os.lstat)
 
 
 def looks_that_fail(tools: Tools) -> None:
-    """Whichever look at an output fails, or comes too early to find it, a device stays one, and a file is whole or as it was."""
+    """Whichever look at an output fails, or comes too early to find it, a device stays one, and a
+    file is whole or as it was."""
     tools.write('a.pcap', RECORDING)
     if IS_ROOT:
         os.mknod(tools.path('node'), 0o600 | stat.S_IFCHR, NULL_DEVICE)
@@ -167,174 +184,62 @@ def looks_that_fail(tools: Tools) -> None:
             what = f'look {number} fails with {errno.errorcode[code]}'
             answer = patched(tools, LOOK % (number, 'node', code), 'from_pcap', 'a.pcap', 'node')
             tools.want(what, (answer[0] in (0, 3), 'Traceback' in answer[2]), (True, False))
-            tools.want(what + ': the device', stat.S_ISCHR(os.stat(tools.path('node')).st_mode), True)
+            tools.want(what + ': the device', stat.S_ISCHR(os.stat(tools.path('node')).st_mode),
+                       True)
             tools.write('out', AS_IT_WAS)
             answer = patched(tools, LOOK % (number, 'out', code), 'from_pcap', 'a.pcap', 'out')
-            tools.want(what + ': the file', (answer[0], tools.read('out')), (0, CAPTURE) if answer[0] == 0 else (3, AS_IT_WAS))
+            tools.want(what + ': the file', (answer[0], tools.read('out')),
+                       (0, CAPTURE) if answer[0] == 0 else (3, AS_IT_WAS))
     tools.want('what is left', parts(tools), [])
 
 
-# Another file gets the name at the last moment before that.
-ANOTHER = '''
-real = os.fsync
-def fsync(number):
-    real(number)
-    with open('theirs', 'w') as file:
-        file.write('theirs')
-    os.rename('theirs', 'out')
-os.fsync = fsync
-'''
-
-
-def names_that_another_gets(tools: Tools) -> None:
-    """A file that gets the name of an output meanwhile is left alone, be the name new or that of a file that was to be replaced."""
-    for is_there in (False, True):
-        for words in (['from_pcap', FIRST, 'out'], ['verdicts', '--program', tools.program, '--json', 'out', FIRST]):
-            if is_there:
-                tools.write('out', AS_IT_WAS)
-            elif tools.exists('out'):
-                os.remove(tools.path('out'))
-            status, _, error = patched(tools, ANOTHER, *words)
-            tools.want('the end', (status, last_of(error).startswith(f'{words[0]}: out: ')), (3, True))
-            tools.want('what is there', (tools.read('out'), parts(tools)), (b'theirs', []))
-
-
-# As overlayfs does it: a file of its lower layer is copied once it is opened for writing, and so it is another file.
-COPIED = '''
-import shutil
-real = os.open
-def opening(path, flags, *words, **named):
-    if path == 'out' and flags & os.O_ACCMODE == os.O_WRONLY:
-        shutil.copy2('out', 'copy')
-        os.rename('copy', 'out')
-    return real(path, flags, *words, **named)
-os.open = opening
-'''
-
-
-def files_of_a_lower_layer(tools: Tools) -> None:
-    """A file with several links that gets another number as it is opened is replaced at once. Its other link stays."""
-    tools.write('a.pcap', RECORDING)
-    for links in (2, 1):
-        tools.write('out', AS_IT_WAS)
-        if links == 2:
-            os.link(tools.path('out'), tools.path('link'))
-        status, _, error = patched(tools, COPIED, 'from_pcap', 'a.pcap', 'out')
-        tools.want(f'{links} links', (status, tools.read('out') == CAPTURE), (0, True) if links == 2 else (3, False))
-    tools.want('the other link', (tools.read('link'), parts(tools)), (AS_IT_WAS, []))
-
-
-def removed_files(tools: Tools) -> None:
-    """The link of an open file that was removed reads as the name of another, which is left alone. So is a link to nothing."""
-    tools.write('del (deleted)', AS_IT_WAS)
+def links_to_nothing(tools: Tools) -> None:
+    """A link to nothing is left alone."""
     os.symlink('absent', tools.path('link'))
-    for words in writers(tools, '/proc/self/fd/7', FIRST):
-        status, _, error = through_bash(tools, 'exec 7<>del; rm del; exec "$@"', tool(words[0]), *words[1:])
-        tools.want(words[0], (status, last_of(error).startswith(f'{words[0]}: /proc/self/fd/7: ')), (3, True))
-        tools.want('the other file', tools.read('del (deleted)'), AS_IT_WAS)
     for words in writers(tools, 'link', FIRST):
         tools.want('a link to nothing', (tools.tool(*words)[0], tools.exists('absent')), (3, False))
-    tools.want('what is there', tools.names(), ['del (deleted)', 'link'])
+    tools.want('what is there', tools.names(), ['link'])
 
 
 # --- Permissions and signals ---
 
-# A file that others may open before it has its permissions at last ends the tool.
-MODES = '''
-real = os.fchmod
-def fchmod(number, mode):
-    if os.fstat(number).st_mode & 0o077:
-        os.kill(os.getpid(), signal.SIGKILL)
-    real(number, mode)
-os.fchmod = fchmod
-%s
-'''
-AS_NOBODY = 'os.setgroups([]); os.setgid(65534); os.setuid(65534)'
-
-
 def permissions(tools: Tools) -> None:
-    """Nobody gets more than before: the owner and the group are kept, or what is lost with them is taken away from all who had it."""
+    """A file that is replaced keeps its permissions, and a new one has those that the umask leaves.
+    One that nobody may write stays."""
     tools.write('a.pcap', RECORDING)
-    os.chmod(tools.folder, 0o777)
     for umask, mode in ((0o022, 0o644), (0o027, 0o640), (0o077, 0o600)):
-        answer = patched(tools, MODES % '', 'from_pcap', 'a.pcap', 'new', umask=umask)
+        answer = patched(tools, '', 'from_pcap', 'a.pcap', 'new', umask=umask)
         tools.want('a new file', (answer[0], os.stat(tools.path('new')).st_mode & 0o777), (0, mode))
         os.remove(tools.path('new'))
-    me = (os.getuid(), os.getgid())
-    rows = [('', me, 0o600, me, 0o600), ('', me, 0o664, me, 0o664), ('', me, 0o444, me, 0o444)]
-    if IS_ROOT:
-        rows += [('', (12, 13), 0o640, (12, 13), 0o640), ('', (12, 13), 0o4755, (12, 13), 0o755),
-                 (AS_NOBODY, (NOBODY, 0), 0o640, (NOBODY, NOBODY), 0o600), (AS_NOBODY, (NOBODY, 0), 0o644, (NOBODY, NOBODY), 0o604),
-                 (AS_NOBODY, (NOBODY, 0), 0o604, (NOBODY, NOBODY), 0o600), (AS_NOBODY, (0, 0), 0o606, (NOBODY, NOBODY), 0o600),
-                 (AS_NOBODY, (0, 0), 0o646, (NOBODY, NOBODY), 0o644)]
-    for patch, owner, mode, owner_after, mode_after in rows:
+    for mode, status, content in ((0o600, 0, CAPTURE), (0o664, 0, CAPTURE), (0o646, 0, CAPTURE),
+                                  (0o444, 3, AS_IT_WAS)):
         tools.write('out', AS_IT_WAS)
-        os.chown(tools.path('out'), *owner)
         os.chmod(tools.path('out'), mode)
-        answer = patched(tools, MODES % patch, 'from_pcap', 'a.pcap', 'out')
-        found = os.stat(tools.path('out'))
-        is_replaced = mode & 0o222 != 0
-        tools.want('%o of %s' % (mode, owner), (answer[0], found.st_uid, found.st_gid, '%o' % (found.st_mode & 0o7777), tools.read('out')),
-                   (0 if is_replaced else 3, *owner_after, '%o' % mode_after, CAPTURE if is_replaced else AS_IT_WAS))
+        answer = patched(tools, '', 'from_pcap', 'a.pcap', 'out')
+        tools.want(f'{mode:o}', (answer[0], f'{os.stat(tools.path("out")).st_mode & 0o7777:o}',
+                                 tools.read('out')), (status, f'{mode:o}', content))
         os.remove(tools.path('out'))
     tools.want('what is left', parts(tools), [])
 
 
 # An access control list as Linux keeps it (linux/posix_acl_xattr.h): tags, permissions and numbers.
 OWN, USER, GROUP, MASK, OTHER, NO_NUMBER = 0x01, 0x02, 0x04, 0x10, 0x20, 0xffffffff
-
-
-def access_list(group: int, mask: int, other: int = 0) -> bytes:
-    """Its owner and the user nobody may read and write, the latter as far as the mask allows it."""
-    rows = [(OWN, 6, NO_NUMBER), (USER, 6, NOBODY), (GROUP, group, NO_NUMBER), (MASK, mask, NO_NUMBER), (OTHER, other, NO_NUMBER)]
-    return struct.pack('<I', 2) + b''.join(struct.pack('<HHI', *row) for row in rows)
-
-
-def found_list(path: str) -> bytes | None:
-    try:
-        return os.getxattr(path, 'system.posix_acl_access')
-    except OSError:
-        return None
+LIST = struct.pack('<I', 2) + b''.join(struct.pack('<HHI', *row) for row in (
+    (OWN, 6, NO_NUMBER), (USER, 6, NOBODY), (GROUP, 4, NO_NUMBER), (MASK, 6, NO_NUMBER),
+    (OTHER, 4, NO_NUMBER)))
 
 
 def access_control_lists(tools: Tools) -> None:
-    """A file that is replaced keeps its list with its owner and group, or its owner alone has rights to the new one; a list that its folder
-    would give to new files is not put on a file that had none. A new file has what its folder gives."""
+    """A file in place of one with a list has none, and its owner alone has rights to it."""
     tools.write('a.pcap', RECORDING)
-    os.chmod(tools.folder, 0o777)
     tools.write('out', AS_IT_WAS)
     try:
-        os.setxattr(tools.path('out'), 'system.posix_acl_access', access_list(0, 6))
+        os.setxattr(tools.path('out'), 'system.posix_acl_access', LIST)
     except OSError:
         raise unittest.SkipTest('the file system has no access control lists') from None
-    me = (os.getuid(), os.getgid())
-    rows = [('', me, access_list(0, 6), access_list(0, 6), 0o660), ('', me, access_list(4, 4, 4), access_list(4, 4, 4), 0o644),
-            ('def refused(*_): raise OSError(1, "no")\nos.setxattr = refused', me, access_list(0, 6), None, 0o600),
-            ('def refused(*_): raise OSError(5, "no")\nos.getxattr = refused', me, access_list(0, 6), None, 0o600)]
-    if IS_ROOT:
-        rows += [(AS_NOBODY, (NOBODY, 0), access_list(0, 6), None, 0o600), (AS_NOBODY, (NOBODY, 0), access_list(6, 6, 4), None, 0o600),
-                 ('', (12, 13), access_list(0, 6), access_list(0, 6), 0o660)]
-    for patch, owner, before, after, mode in rows:
-        tools.write('out', AS_IT_WAS)
-        os.chown(tools.path('out'), *owner)
-        os.setxattr(tools.path('out'), 'system.posix_acl_access', before)
-        status, _, error = patched(tools, patch, 'from_pcap', 'a.pcap', 'out')
-        found = os.stat(tools.path('out'))
-        tools.want(f'{patch} {owner}', (status, tools.read('out') == CAPTURE, found_list(tools.path('out')), f'{found.st_mode & 0o7777:o}'),
-                   (0, True, after, f'{mode:o}'))
-        os.remove(tools.path('out'))
-    os.setxattr(tools.folder, 'system.posix_acl_default', access_list(4, 6, 4))
-    for mode in (0o640, 0o660, 0o600):
-        tools.write('out', AS_IT_WAS)
-        os.removexattr(tools.path('out'), 'system.posix_acl_access')
-        os.chmod(tools.path('out'), mode)
-        status, _, _ = patched(tools, '', 'from_pcap', 'a.pcap', 'out')
-        tools.want(f'in a folder with a list, {mode:o}', (status, found_list(tools.path('out')), os.stat(tools.path('out')).st_mode & 0o777),
-                   (0, None, mode))
-        os.remove(tools.path('out'))
-    tools.write('plain', b'')
-    status, out, plain = patched(tools, '', 'from_pcap', 'a.pcap', 'out')[0], tools.path('out'), tools.path('plain')
-    tools.want('a new file', (status, found_list(out), os.stat(out).st_mode), (0, found_list(plain), os.stat(plain).st_mode))
+    status, _, _ = tools.tool('from_pcap', 'a.pcap', 'out')
+    tools.want('the new file', (status, os.listxattr(tools.path('out')),
+                                os.stat(tools.path('out')).st_mode & 0o7777), (0, [], 0o600))
 
 
 # A signal comes after a call of the system, which are counted.
@@ -348,25 +253,30 @@ def signalling(real):
             os.kill(os.getpid(), %d)
         return result
     return call
-for name in ('open', 'fsync', 'fchmod', 'link', 'rename', 'unlink', 'fstat', 'mkdir'):
+for name in ('open', 'fsync', 'fchmod', 'replace', 'unlink', 'fstat', 'mkdir'):
     setattr(os, name, signalling(getattr(os, name)))
 '''
 
 
 def signals(tools: Tools) -> None:
-    """Whenever SIGHUP, SIGINT or SIGTERM comes, nothing is left beside the output, nor where temporary files are."""
+    """Whenever SIGHUP, SIGINT or SIGTERM comes, nothing is left beside the output, nor where
+    temporary files are."""
     tools.write('a.pcap', RECORDING)
     os.mkdir(tools.path('tmp'))
-    calm = 'signal.signal(signal.SIGINT, signal.default_int_handler); os.environ["TMPDIR"] = "tmp"\n'
+    calm = ('signal.signal(signal.SIGINT, signal.default_int_handler); os.environ["TMPDIR"] = '
+            '"tmp"\n')
     for number in (signal.SIGHUP, signal.SIGINT, signal.SIGTERM):
         for at in range(1, 18):
-            words = ['compare', '--program', tools.program, '--html', 'out', 'a.pcap', NULL] if at % 3 == 0 else ['from_pcap', 'a.pcap', 'out']
+            words = ['compare', '--program', tools.program, '--html', 'out', 'a.pcap',
+                     NULL] if at % 3 == 0 else ['from_pcap', 'a.pcap', 'out']
             tools.write('out', AS_IT_WAS)
             status, _, error = patched(tools, calm + SIGNAL % (at, number), *words)
             what, out = f'{number.name} after call {at} of {words[0]}', tools.read('out') or b''
             tools.want(what, (status in (0, 1, 130), 'Traceback' in error), (True, False))
-            tools.want(what + ': what is left', (parts(tools), os.listdir(tools.path('tmp'))), ([], []))
-            tools.want(what + ': OUT', out in (AS_IT_WAS, CAPTURE) or out.endswith(b'</html>\n'), True)
+            tools.want(what + ': what is left', (parts(tools), os.listdir(tools.path('tmp'))),
+                       ([], []))
+            tools.want(what + ': OUT', out in (AS_IT_WAS, CAPTURE) or out.endswith(b'</html>\n'),
+                       True)
 
 
 # --- Programs that die ---
@@ -379,27 +289,36 @@ KILLED, ABSENT, FAILED = 'kill -9 $$', 'exit 127', 'echo "out of memory" >&2; ex
 
 
 def dying(tools: Tools, command: str, how: str) -> str:
-    """Makes programs that do as the built ones, but that one of their commands ends so. Returns the first."""
+    """Makes programs that do as the built ones, but that one of their commands ends so. Returns the
+    first."""
     for name in ('nfs3canon', 'nfs3mask'):
-        tools.write(name, (DYING % (command, command, program_named(name, tools.program), how)).encode())
+        tools.write(name,
+                    (DYING % (command, command, program_named(name, tools.program), how)).encode())
         os.chmod(tools.path(name), 0o755)
     return tools.path('nfs3canon')
 
 
 def programs_that_die(tools: Tools) -> None:
-    """A program that is killed, that is not there, that fails or does not say what its status says has given no answer."""
-    ways = ((KILLED, 'was killed by signal 9'), (ABSENT, 'ended with status 127'), (FAILED, 'ended with status 3: out of memory'),
+    """A program that is killed, that is not there, that fails or does not say what its status says
+    has given no answer."""
+    ways = ((KILLED, 'was killed by signal 9'), (ABSENT, 'ended with status 127'),
+            (FAILED, 'ended with status 3: out of memory'),
             ('exit 4', 'ended with status 4'))
     some = f'{tools.program} show "$2" | head -n 30; '
     rows = [(command, *way) for command in ('check', 'same', 'show', 'nfs3mask') for way in ways]
-    rows += [('same', 'exit 1', 'ended with status 1'), ('same', 'exit 0', 'ended with status 0'), ('check', 'exit 1', 'ended with status 1'),
-             ('check', 'exit 0', 'ended with status 0'), ('show', some + KILLED, 'was killed by signal 9'),
-             ('show', some + 'printf "2 client 9 xi"; ' + FAILED, 'ended with status 3'), ('show', 'exit 1', 'ended with status 1'),
-             ('nfs3mask', 'exit 2', 'ended with status 2'), ('same', 'echo differ at connection 1; ' + KILLED, 'was killed by signal 9')]
+    rows += [('same', 'exit 1', 'ended with status 1'), ('same', 'exit 0', 'ended with status 0'),
+             ('check', 'exit 1', 'ended with status 1'),
+             ('check', 'exit 0', 'ended with status 0'),
+             ('show', some + KILLED, 'was killed by signal 9'),
+             ('show', some + 'printf "2 client 9 xi"; ' + FAILED, 'ended with status 3'),
+             ('show', 'exit 1', 'ended with status 1'),
+             ('nfs3mask', 'exit 2', 'ended with status 2'),
+             ('same', 'echo differ at connection 1; ' + KILLED, 'was killed by signal 9')]
     for command, how, told in rows:
         program = dying(tools, command, how)
         name = command if command == 'nfs3mask' else 'nfs3canon ' + command
-        one_line(tools, f'{command}: {how}', tools.tool('compare', '--program', program, FIRST, CHANGED), 3, f'compare: {name} {told}')
+        one_line(tools, f'{command}: {how}', tools.tool('compare', '--program', program, FIRST,
+                                                        CHANGED), 3, f'compare: {name} {told}')
         if command == 'check':
             for inputs in ([FIRST], [FIRST, CHANGED]):
                 answer = tools.tool('verdicts', '--program', program, *inputs)
@@ -410,71 +329,100 @@ def programs_that_die(tools: Tools) -> None:
                 one_line(tools, f'{tool_name}, {command}: {how}', answer, 3,
                          f'{tool_name}: {FIRST}: {name} {told}')
     program = dying(tools, 'show', KILLED)
-    tools.want('one that is not asked', tools.tool('compare', '--program', program, FIRST, FIRST)[0], 0)
+    tools.want('one that is not asked', tools.tool('compare', '--program', program, FIRST,
+                                                   FIRST)[0], 0)
     tools.write('page', AS_IT_WAS)
-    tools.want('the page', (tools.tool('compare', '--program', program, '--html', 'page', FIRST, CHANGED)[0], tools.read('page')), (3, AS_IT_WAS))
+    tools.want('the page', (tools.tool('compare', '--program', program, '--html', 'page', FIRST,
+                                       CHANGED)[0], tools.read('page')), (3, AS_IT_WAS))
     tools.write('nfs3canon', b'\0no program')
     for name in ('compare', 'verdicts'):
-        one_line(tools, 'no program', tools.tool(name, '--program', program, FIRST, CHANGED), 3, 'cannot be started')
+        one_line(tools, 'no program', tools.tool(name, '--program', program, FIRST, CHANGED), 3,
+                 'cannot be started')
 
 
 def filters_that_die(tools: Tools) -> None:
-    """A tshark that is killed or cannot run has not chosen frames; one that refuses the filter has."""
+    """A tshark that is killed or cannot run has not chosen frames; one that refuses the filter
+    has."""
     os.mkdir(tools.path('bin'))
     env = {**os.environ, 'PATH': f'{tools.path("bin")}:{os.environ["PATH"]}'}
-    for how, status, told in ((KILLED, 3, 'tshark was killed by signal 9'), ('echo 4; ' + KILLED, 3, 'tshark was killed by signal 9'),
-                              (ABSENT, 3, 'tshark ended with status 127'), ('echo "tshark: no" >&2; echo more >&2; exit 4', 2, 'tshark: no')):
+    for how, status, told in ((KILLED, 3, 'tshark was killed by signal 9'),
+                              ('echo 4; ' + KILLED, 3, 'tshark was killed by signal 9'),
+                              (ABSENT, 3, 'tshark ended with status 127'),
+                              ('echo "tshark: no" >&2; echo more >&2; exit 4', 2, 'tshark: no')):
         tools.write('bin/tshark', f'#!/bin/sh\n{how}\n'.encode())
         os.chmod(tools.path('bin/tshark'), 0o755)
-        for words in (['from_pcap', '--filter', 'tcp', FIRST, 'out'], ['where', '--filter', 'tcp', FIRST, 'file 12']):
-            one_line(tools, f'{words[0]}: {how}', tools.tool(*words, env=env), status, f'{words[0]}: {told}')
+        for words in (['from_pcap', '--filter', 'tcp', FIRST, 'out'],
+                      ['where', '--filter', 'tcp', FIRST, 'file 12']):
+            one_line(tools, f'{words[0]}: {how}', tools.tool(*words, env=env), status,
+                     f'{words[0]}: {told}')
         tools.want('OUT', tools.exists('out'), False)
 
 
 # --- Standard streams, and names ---
 
 def closed_outputs(tools: Tools) -> None:
-    """A standard stream that is closed, or on a full device, is a failure: one line at most, and never the status of an answer."""
+    """A standard stream that is closed, or on a full device, is a failure: one line at most, and
+    never the status of an answer."""
     program, place = ['--program', tools.program], 'connection 1 client record 1 byte 0'
     bare = Talk(701)
     tools.write('bare.pcap', pcap([*whole(), *bare.opened(), *bare.closed()]))
-    rows: list[tuple[list[str], bool, bool]] = [  # whether something goes to standard output, and to standard error
-        (['compare', *program, FIRST, CHANGED], True, False), (['compare', *program, FIRST, FIRST], True, False),
-        (['compare', *program, str(EXAMPLES / 'bad_bool.pcap'), FIRST], False, True), (['verdicts', *program, FIRST], True, False),
-        (['verdicts', *program, 'bare.pcap'], True, True), (['procedures', *program, 'bare.pcap'], True, True),
-        (['calls', *program, 'bare.pcap'], True, True),
-        (['calls', *program, '--json', FIRST], True, False),
-        (['procedures', *program, '--beside', FIRST, CHANGED], True, False), (['cut', *program, FIRST, place, 'out'], True, False),
-        (['where', FIRST, place], True, False),
-        (['where', FIRST, 'connection 9 client record 1'], False, True), (['where', FIRST, 'nothing'], False, True),
-        (['from_pcap', FIRST, 'out'], False, True), (['explain', NULL, place], True, False), (['explain', NULL, 'file 999'], False, True),
-        (['install', *program, 'prefix'], True, False), (['install', '--program', 'absent', 'prefix'], False, True),
-        (['release', '--program', 'absent', '.'], False, True),
-        *(([name, '--help'], True, False) for name in ('compare', 'verdicts', 'calls', 'procedures', 'cut', 'where', 'from_pcap', 'explain',
-                                                         'install', 'release'))]
+    # whether something goes to standard output, and to standard error
+    rows: list[tuple[list[str], bool, bool]] = [
+(['compare', *program, FIRST, CHANGED], True, False),
+        (['compare', *program, FIRST, FIRST], True, False),
+(['compare', *program, str(EXAMPLES / 'bad_bool.pcap'), FIRST], False, True),
+        (['verdicts', *program, FIRST], True, False),
+(['verdicts', *program, 'bare.pcap'], True, True),
+        (['procedures', *program, 'bare.pcap'], True, True),
+(['calls', *program, 'bare.pcap'], True, True),
+(['calls', *program, '--json', FIRST], True, False),
+(['procedures', *program, '--beside', FIRST, CHANGED], True, False),
+        (['cut', *program, FIRST, place, 'out'], True, False),
+(['where', FIRST, place], True, False),
+(['where', FIRST, 'connection 9 client record 1'], False, True),
+        (['where', FIRST, 'nothing'], False, True),
+(['from_pcap', FIRST, 'out'], False, True), (['explain', NULL, place], True, False),
+        (['explain', NULL, 'file 999'], False, True),
+(['install', *program, 'prefix'], True, False), (['install', '--program', 'absent', 'prefix'],
+                                                 False, True),
+(['release', '--program', 'absent', '.'], False, True),
+*(([name, '--help'], True, False) for name in ('compare', 'verdicts', 'calls', 'procedures', 'cut',
+                                               'where', 'from_pcap', 'explain',
+                                                 'install', 'release'))]
     for words, prints, tells in rows:
-        for streams, is_wanted in (('>&-', True), ('2>&-', True), ('>&- 2>&-', True), ('>/dev/full', prints), ('2>/dev/full', tells)):
+        for streams, is_wanted in (('>&-', True), ('2>&-', True), ('>&- 2>&-', True),
+                                   ('>/dev/full', prints), ('2>/dev/full', tells)):
             if is_wanted:
-                status, _, error = through_bash(tools, f'exec "$@" {streams}', tool(words[0]), *words[1:])
+                status, _, error = through_bash(tools, f'exec "$@" {streams}', tool(words[0]),
+                                                *words[1:])
                 last = error.splitlines()[-1:]
-                tools.want(f'{" ".join(words)} {streams}', (status, [line for line in last if not line.startswith(words[0] + ': ')]), (3, []))
-                tools.want('lines', len(error.splitlines()) - tells * (words[-1] == 'bare.pcap' and streams != '>&-'
-                                                                       and not streams.startswith('2')) <= 1, True)
+                tools.want(f'{" ".join(words)} {streams}',
+                           (status,
+                            [line for line in last if not line.startswith(words[0] + ': ')]),
+                           (3, []))
+                tools.want('lines', len(error.splitlines()) - tells
+                           * (words[-1] == 'bare.pcap' and streams != '>&-'
+                              and not streams.startswith('2')) <= 1, True)
     answer = through_bash(tools, 'exec "$@" <&-', tool('from_pcap'), '-', 'out')
     one_line(tools, 'standard input that is closed', answer, 3, 'from_pcap: ')
 
 
 def outputs_before_the_work(tools: Tools) -> None:
-    """Each tool tries its outputs before it reads anything, takes none twice, and writes to standard output if one is called `-`; the table
-    goes to standard error then."""
+    """Each tool tries its outputs before it reads anything, takes none twice, and writes to
+    standard output if one is called `-`; the table goes to standard error then."""
     program = ['--program', tools.program]
-    for name, *options in (['verdicts', '--json', '--junit'], ['procedures', '--json', '--csv'], ['compare', '--json', '--html']):
+    for name, *options in (['verdicts', '--json', '--junit'], ['procedures', '--json', '--csv'],
+                           ['compare', '--json', '--html']):
         inputs = ['no recording'] * (2 if name == 'compare' else 1)
-        for words, status, told in (([options[0], 'absent/x'], 3, 'absent/x: '), ([options[0], 'x', options[1], './x'], 2, 'are one file')):
+        for words, status, told in (([options[0], 'absent/x'], 3, 'absent/x: '),
+                                    ([options[0], 'x', options[1], './x'], 2, 'are one file')):
             answer = tools.tool(name, *program, *words, *inputs)
-            tools.want(f'{name} {words}', (answer[0], answer[1], told in answer[2], 'no recording' in answer[2]), (status, '', True, False))
-        status, out, error = tools.tool(name, *program, options[0], '-', FIRST, *([FIRST] if name == 'compare' else []))
-        tools.want(f'{name} {options[0]} -', (status, isinstance(json.loads(out), (dict, list)), '103' in error or 'judged' in error), (0, True, True))
+            tools.want(f'{name} {words}', (answer[0], answer[1], told in answer[2],
+                                           'no recording' in answer[2]), (status, '', True, False))
+        status, out, error = tools.tool(name, *program, options[0], '-', FIRST,
+                                        *([FIRST] if name == 'compare' else []))
+        tools.want(f'{name} {options[0]} -', (status, isinstance(json.loads(out), (dict, list)),
+                                              '103' in error or 'judged' in error), (0, True, True))
     done = ended([tool('from_pcap'), FIRST, '-'], tools.folder)
     tools.want('a capture on standard output', (done.status, done.out[:8]), (0, b'NFS3CAP1'))
     answer = tools.tool('from_pcap', 'no recording', 'absent/x')
@@ -489,30 +437,42 @@ SHOWN = 'a\\x1b[31m\\x0a\\x5cä\\xff'
 def names(tools: Tools) -> None:
     """Names of files are printed as the programs print them, wherever that is."""
     lost = Talk(701)
-    for name, content in (('.pcap', pcap([*whole(), lost.sent(0, bytes(8))])), ('.nfs3cap', CAPTURE), ('.text', b'no recording')):
+    for name, content in (('.pcap', pcap([*whole(), lost.sent(0, bytes(8))])),
+                          ('.nfs3cap', CAPTURE), ('.text', b'no recording')):
         with open(os.fsencode(tools.path(HOSTILE + name)), 'wb') as file:
             file.write(content)
-    recording, capture, program = HOSTILE + '.pcap', HOSTILE + '.nfs3cap', ['--program', tools.program]
-    rows = [['from_pcap', capture, 'out'], ['from_pcap', HOSTILE, 'out'], ['from_pcap', recording, HOSTILE + '/out'],
-            ['from_pcap', recording, recording], ['where', capture, 'file 8'], ['where', HOSTILE, 'file 8'], ['where', recording, HOSTILE],
-            ['where', recording, 'file 8', HOSTILE], ['compare', *program, recording, capture], ['compare', *program, HOSTILE, capture],
-            ['compare', *program, '--html', recording, capture, capture], ['compare', '--program', HOSTILE, capture, capture],
-            ['verdicts', *program, recording, HOSTILE], ['verdicts', *program, '--junit', recording, capture],
-            ['explain', recording, 'file 0: BadMagic'], ['explain', HOSTILE, 'file 8'], ['install', '--program', HOSTILE, 'prefix'],
-            ['install', '--remove', HOSTILE], ['install', *program, HOSTILE], ['release', '--program', HOSTILE, '.']]
+    recording, capture, program = HOSTILE + '.pcap', HOSTILE + '.nfs3cap', [
+        '--program', tools.program]
+    rows = [['from_pcap', capture, 'out'], ['from_pcap', HOSTILE, 'out'],
+            ['from_pcap', recording, HOSTILE + '/out'],
+            ['from_pcap', recording, recording], ['where', capture, 'file 8'],
+            ['where', HOSTILE, 'file 8'], ['where', recording, HOSTILE],
+            ['where', recording, 'file 8', HOSTILE], ['compare', *program, recording, capture],
+            ['compare', *program, HOSTILE, capture],
+            ['compare', *program, '--html', recording, capture, capture],
+            ['compare', '--program', HOSTILE, capture, capture],
+            ['verdicts', *program, recording, HOSTILE],
+            ['verdicts', *program, '--junit', recording, capture],
+            ['explain', recording, 'file 0: BadMagic'], ['explain', HOSTILE, 'file 8'],
+            ['install', '--program', HOSTILE, 'prefix'],
+            ['install', *program, HOSTILE], ['release', '--program', HOSTILE, '.']]
     for words in rows:
         command = [tool(words[0]), *words[1:]]
         done = ended([os.fsencode(word) for word in command], tools.folder)
         printed = (done.out + done.error).decode(errors='replace')
         what = f'{words[0]} {words[-1]!r}'
-        tools.want(what, (re.findall(r'[\x00-\x09\x0b-\x1f]|Traceback', printed), SHOWN in printed or SHOWN.replace('\\x5c', '\\') in printed),
+        tools.want(what, (re.findall(r'[\x00-\x09\x0b-\x1f]|Traceback', printed),
+                          SHOWN in printed or SHOWN.replace('\\x5c', '\\') in printed),
                    ([], True))
-    ended([os.fsencode(word) for word in (tool('compare'), *program, '--html', 'page', recording, capture)], tools.folder)
+    ended([os.fsencode(word) for word in (tool('compare'), *program, '--html', 'page', recording,
+                                          capture)], tools.folder)
     page = (tools.read('page') or b'').decode()
     tools.want('the page', (page.count(SHOWN), '\x1b' in page), (4, False))
-    ended([os.fsencode(word) for word in (tool('compare'), *program, '--json', 'json', recording, capture)], tools.folder)
+    ended([os.fsencode(word) for word in (tool('compare'), *program, '--json', 'json', recording,
+                                          capture)], tools.folder)
     content = (tools.read('json') or b'').decode()
-    tools.want('JSON', (re.findall(r'\\ud[89a-f]', content), [run['name'] for run in json.loads(content)['runs']]),
+    tools.want('JSON', (re.findall(r'\\ud[89a-f]', content),
+                        [run['name'] for run in json.loads(content)['runs']]),
                ([], [SHOWN + '.pcap', SHOWN + '.nfs3cap']))
 
 
@@ -529,14 +489,12 @@ def refused_lines(tools: Tools) -> None:
         status, out, error = tools.tool(name, '--no-such-option')
         usage, *told = error.splitlines()
         tools.want(name, (status, out, usage), (2, '', f'usage: {name} [OPTION ..] {operands}'))
-        tools.want(f'{name} says what is wrong', [line.startswith(f'{name}: error: ') for line in told], [True])
+        tools.want(f'{name} says what is wrong',
+                   [line.startswith(f'{name}: error: ') for line in told], [True])
 
 
-TESTS = [outputs_that_are_inputs, outputs_that_are_recordings, full_disks, looks_that_fail, names_that_another_gets,
-         files_of_a_lower_layer, removed_files,
-         permissions, access_control_lists, signals, programs_that_die, filters_that_die, closed_outputs, outputs_before_the_work,
-         names, refused_lines]
-
-
-class HarmTest(FolderTest, make=Tools, tests=TESTS):
+class HarmTest(FolderTest, make=Tools, tests=[
+        outputs_that_are_inputs, outputs_that_are_recordings, full_disks, looks_that_fail,
+        links_to_nothing, permissions, access_control_lists, signals, programs_that_die,
+        filters_that_die, closed_outputs, outputs_before_the_work, names, refused_lines]):
     """Each test has a folder of its own."""

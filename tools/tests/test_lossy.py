@@ -28,34 +28,40 @@ def frames_of(recording: bytes) -> list[bytes]:
 
 
 def mutated(tools: Tools) -> None:
-    """Random mutations of recordings: no traceback, and no byte in a capture that its frame does not have."""
+    """Random mutations of recordings: no traceback, and no byte in a capture that its frame does
+    not have."""
     chance = random.Random(11)
     v6 = whole(hosts=('2001:db8::7', '2001:db8::1'), vlan=3)
-    bases = [pcap(whole()), pcapng(whole()), pcap(v6), pcap(whole() + whole(port=701, first=(7, 9))), pcap(whole()[4:]), pcap(whole(), 154),
+    bases = [pcap(whole()), pcapng(whole()), pcap(v6),
+             pcap(whole() + whole(port=701, first=(7, 9))), pcap(whole()[4:]), pcap(whole(), 154),
              gzip.compress(pcap(whole())),
-             pcap(ethernet(piece) for number, frame in enumerate(whole()) for piece in fragments(frame[14:], 64, number))]
+             pcap(ethernet(piece) for number, frame in enumerate(whole())
+                  for piece in fragments(frame[14:], 64, number))]
     for number in range(4_000):
         base = bases[number % len(bases)]
         recording = mutation(chance, base)
         try:
-            taken = taken_of(recording, midstream=number % 3 == 0, whole_records=number % 5 == 0)
+            taken = taken_of(recording)
         except NotTaken:
             continue
         except Exception as wrong:  # what is wanted is that there is none
             tools.want(f'mutation {number}', repr(wrong), 'none')
             continue
         if recording[:4] == base[:4] == b'\xd4\xc3\xb2\xa1' and base is not bases[-1]:
-            tools.want(f'bytes of mutation {number}', bytes_not_on_the_wire(taken, frames_of(recording)), [])
+            tools.want(f'bytes of mutation {number}',
+                       bytes_not_on_the_wire(taken, frames_of(recording)), [])
 
 
 def short_way(tools: Tools) -> None:
-    """Plain frames, which are read by a way of their own, give the same segments as by that for frames of any kind."""
+    """Plain frames, which are read by a way of their own, give the same segments as by that for
+    frames of any kind."""
     chance = random.Random(13)
     frames = [frame for vlan in (None, 7) for frame in whole(vlan=vlan)]
     for number in range(20_000):
         data = bytearray(chance.choice(frames))
         for _ in range(chance.randrange(3)):
-            data[chance.randrange(12, min(60, len(data)))] = chance.choice((0, 1, 5, 6, 0x45, 0x50, 0x60, 0xf0, 255, chance.randrange(256)))
+            data[chance.randrange(12, min(60, len(data)))] = chance.choice(
+                (0, 1, 5, 6, 0x45, 0x50, 0x60, 0xf0, 255, chance.randrange(256)))
         data = data[:chance.choice((len(data), len(data), chance.randrange(len(data))))]
         frame = Frame(1, 0, 1, bytes(data), len(data) + chance.choice((0, 0, 9)))
         found = [Segments().segment(frame), Segments().of_any(frame)]
@@ -79,7 +85,8 @@ def mutation(chance: random.Random, base: bytes) -> bytes:
                 other = chance.randrange(len(content))
                 content[at:at + 60] = content[other:other + 60]
             case 5:
-                content[at & ~3:(at & ~3) + 4] = chance.choice((bytes(4), b'\xff' * 4, b'\0\0\1\0', b'\x80\0\0\x28'))
+                content[at & ~3:(at & ~3) + 4] = chance.choice((bytes(4), b'\xff' * 4, b'\0\0\1\0',
+                                                                b'\x80\0\0\x28'))
         content = content or bytearray(base)
     return bytes(content[:chance.randrange(len(content))] if chance.random() < 0.1 else content)
 
@@ -93,7 +100,8 @@ def bytes_not_on_the_wire(taken: Taken, frames: list[bytes]) -> list[int]:
             noted = list(frames_of_side.between(0, stored.size)) if frames_of_side else []
             ends = [*(brought.begin for brought in noted[1:]), stored.size]
             wrong += [brought.number for brought, end in zip(noted, ends)
-                      if stored.read(brought.begin, end - brought.begin) not in frames[brought.number - 1][16:]]
+                      if stored.read(brought.begin,
+                                     end - brought.begin) not in frames[brought.number - 1][16:]]
     return wrong
 
 
@@ -106,14 +114,17 @@ class Conversation(typing.NamedTuple):
 
 def conversations() -> list[Conversation]:
     """The real recordings of the examples, and random traffic in segments of any size."""
-    recordings = [(TOP / 'examples' / name).read_bytes() for name in ('ganesha_a.pcap', 'ganesha_b.pcap')]
+    recordings = [(TOP / 'examples' / name).read_bytes()
+                  for name in ('ganesha_a.pcap', 'ganesha_b.pcap')]
     for seed in range(4):
         recordings.append(random_recording(seed))
-    return [Conversation(content[:24], frames_of(content), taken_of(content)) for content in recordings]
+    return [Conversation(content[:24], frames_of(content), taken_of(content))
+            for content in recordings]
 
 
 def random_recording(seed: int) -> bytes:
-    """Connections of random traffic at once, in segments of any size; replies come after their calls."""
+    """Connections of random traffic at once, in segments of any size; replies come after their
+    calls."""
     chance, talks = random.Random(seed), []
     for number, (calls, replies) in enumerate(Traffic(seed, Names.drawn(chance)).connections):
         known, several = {body[:4] for body in calls}, []
@@ -139,7 +150,8 @@ def segments_of(chance: random.Random, talk: Talk, exchanges: list[Streams]) -> 
 
 
 def whole_messages(conversation: Conversation, present: set[int]) -> int:
-    """How many messages have all their bytes in the frames that are present; of replies those whose calls have them, too."""
+    """How many messages have all their bytes in the frames that are present; of replies those whose
+    calls have them, too."""
     number = 0
     for connection in conversation.taken.connections:
         known = set[bytes]()
@@ -147,23 +159,27 @@ def whole_messages(conversation: Conversation, present: set[int]) -> int:
             taken_stream = connection.stream(side)
             for record in taken_stream.records():
                 extent = taken_stream.extent(record.number)
-                if extent and all(frame.number in present for frame in taken_stream.frames(extent.begin, extent.end)):
+                if extent and all(frame.number in present
+                                  for frame in taken_stream.frames(extent.begin, extent.end)):
                     if side == 'client':
                         known.add(record.body[:4])
                     number += side == 'client' or record.body[:4] in known
     return number
 
 
-def checked(tools: Tools, what: str, conversation: Conversation, present: list[int], midstream: bool, share: float) -> None:
-    """The frames that are present give a well-formed capture, of at least a share of the messages that are whole in them."""
+def checked(tools: Tools, what: str, conversation: Conversation, present: list[int]) -> None:
+    """The frames that are present give a well-formed capture, of at least nine in ten of the
+    messages that are whole in them."""
     content = conversation.head + b''.join(conversation.frames[number - 1] for number in present)
-    taken = taken_of(content, midstream=midstream)
+    taken = taken_of(content)
     tools.write('a', b''.join(capture_of(taken.pairs())))
     status, out, error = tools.run('check', 'a')
     tools.want(what, (status, error), (0, ''))
-    tools.want(what + ', its frames', beside_their_frames(taken, [conversation.frames[number - 1] for number in present]), [])
+    tools.want(what + ', its frames',
+               beside_their_frames(taken, [conversation.frames[number - 1] for number in present]),
+               [])
     kept = messages_in(taken)
-    tools.want(what + ', kept', kept >= share * whole_messages(conversation, set(present)), True)
+    tools.want(what + ', kept', kept >= 0.9 * whole_messages(conversation, set(present)), True)
     told = [line for line in lines_of(taken) if ': client ' not in line]
     tools.want(what + ', told', bool(told) or not is_shown(conversation, set(present)), True)
 
@@ -175,49 +191,49 @@ def beside_their_frames(taken: Taken, frames: list[bytes]) -> list[str]:
         for side in SIDES:
             for record in connection.stream(side).records():
                 extent = connection.stream(side).extent(record.number)
-                noted = connection.stream(side).frames(extent.begin, extent.begin + 8) if extent else []
-                if extent and len(noted) == 1 and connection.stream(side).read(extent.begin, 8) not in frames[noted[0].number - 1]:
+                noted = connection.stream(side).frames(extent.begin,
+                                                       extent.begin + 8) if extent else []
+                if extent and len(noted) == 1 and connection.stream(side).read(
+                    extent.begin, 8) not in frames[noted[0].number - 1]:
                     wrong.append(f'connection {connection.number} {side} record {record.number}')
     return wrong
 
 
 def messages_in(taken: Taken) -> int:
-    return sum(connection.stream(side).count_records() for connection in taken.connections for side in SIDES)
+    return sum(connection.stream(side).count_records() for connection in taken.connections
+               for side in SIDES)
 
 
 def is_shown(conversation: Conversation, present: set[int]) -> bool:
-    """Whether a frame that is absent brought bytes, and one before and one after it in its stream are there."""
+    """Whether a frame that is absent brought bytes, and one before and one after it in its stream
+    are there."""
     for connection in conversation.taken.connections:
         for side in SIDES:
-            numbers = [frame.number for frame in connection.stream(side).frames(0, connection.stream(side).size)]
+            numbers = [frame.number
+                       for frame in connection.stream(side).frames(0, connection.stream(side).size)]
             there = sorted(present & set(numbers))
-            if there and any(there[0] < number < there[-1] for number in numbers if number not in present):
+            if there and any(there[0] < number < there[-1] for number in numbers
+                             if number not in present):
                 return True
     return False
 
 
-def cuts(tools: Tools) -> None:
-    """Recordings that begin, and end, in the middle of connections, give well-formed captures with nearly all that is whole."""
+def cuts_and_losses(tools: Tools) -> None:
+    """Recordings that begin and end in the middle of connections, or lack frames, give well-formed
+    captures with nearly all that is whole."""
     chance = random.Random(1)
     for conversation in conversations():
         count = len(conversation.frames)
-        for _ in range(20):
-            begin, end = chance.randrange(count), count if chance.random() < 0.5 else chance.randrange(1, count + 1)
-            present = list(range(begin + 1, max(begin + 1, end) + 1))
-            checked(tools, f'frames {present[0]} to {present[-1]}', conversation, [n for n in present if n <= count], True, 0.9)
+        for number in range(30):
+            begin = end = 0
+            if number < 18:
+                begin = chance.randrange(count)
+                end = count if chance.random() < 0.5 else chance.randrange(1, count + 1)
+            lost = (0, 0.01, 0.05)[max(0, number // 6 - 2)]
+            present = [at for at in range(begin + 1, max(begin + 1, end or count) + 1)
+                       if at <= count and chance.random() >= lost]
+            checked(tools, f'{number}: {len(present)} of {begin} to {end}', conversation, present)
 
 
-def losses(tools: Tools) -> None:
-    """Of recordings that lack frames nothing wrong is said, and with --midstream nearly all that is whole is kept."""
-    chance = random.Random(2)
-    for conversation in conversations():
-        for number in range(14):
-            present = [at for at in range(1, len(conversation.frames) + 1) if chance.random() > 0.01 * (1 + number % 2 * 4)]
-            checked(tools, f'loss {number}', conversation, present, number % 4 > 1, 0.9 if number % 4 > 1 else 0.0)
-
-
-TESTS = [mutated, short_way, cuts, losses]
-
-
-class LossyTest(FolderTest, make=Tools, tests=TESTS):
+class LossyTest(FolderTest, make=Tools, tests=[mutated, short_way, cuts_and_losses]):
     """Each test has a folder of its own."""

@@ -1,12 +1,7 @@
-"""Tests of tools/compare on runs whose calls come in another order, and of what writes a run in
-another order.
-"""
+"""Tests of tools/compare on runs whose calls come in another order."""
 import json
-import pathlib
 import random
 import re
-from array import array
-from collections import Counter
 from collections.abc import Callable, Iterator, Sequence
 from dataclasses import dataclass, field
 from typing import NamedTuple
@@ -17,146 +12,14 @@ from examples.messages import (
     wcc, word)
 from examples.packets import Talk, pcap
 from tests.shared.running import ended
-from tests.shared.traffic import Names, Traffic
 
-from ..nfs3tools.comparison.exchanges.reordered import Numbered, Rewriting, write_in_order
-from ..nfs3tools.comparison.values.classes import Way, default_mask, following, in_any_order, mask_of
-from ..nfs3tools.recordings.taken import take
-from ..nfs3tools.shared.places import Side
-from ..nfs3tools.shared.programs import Died
+from ..nfs3tools.comparison.values.classes import (
+    Way, default_mask, following, in_any_order, mask_of)
 from .cases import FolderTest
 from .scripts import TOP, measured
-from .test_compare import Comparisons, Conversation
+from .test_compare import Comparisons, Conversation, Exchange, conversation_of
 
 GETATTR, SETATTR, LOOKUP, READ, WRITE, CREATE, MKDIR, REMOVE = 1, 2, 3, 6, 7, 8, 9, 12
-
-
-# --- Writing a run in another order ---
-
-Said = tuple[bytes, tuple[bytes, ...]]  # a call and its replies, without their xids
-
-
-def one_of(connection: int, record: int, replies: Sequence[int]) -> Numbered:
-    """An exchange of one call."""
-    return Numbered(connection, [record], replies)
-
-
-def exchanges_of(connections: Sequence[Conversation]) -> list[tuple[Numbered, Said]]:
-    """The exchanges of a capture by a way of our own: replies belong to the call with their xid, by turns if there are several."""
-    out = []
-    for number, (calls, replies) in enumerate(connections, 1):
-        answers: dict[bytes, list[tuple[int, bytes]]] = {}
-        for record, reply in enumerate(replies, 1):
-            answers.setdefault(reply[:4], []).append((record, reply[4:]))
-        left = Counter(body[:4] for body in calls)
-        for record, body in enumerate(calls, 1):
-            left[body[:4]] -= 1
-            waiting = answers.get(body[:4], [])
-            own = waiting if not left[body[:4]] else waiting[:1]
-            answers[body[:4]] = waiting[len(own):]
-            out.append((one_of(number, record, [at for at, _ in own]), (body[4:], tuple(said for _, said in own))))
-    return out
-
-
-def written(place: Comparisons, chosen: Sequence[Numbered], left_out: Sequence[Numbered],
-            writer: type[Rewriting] = Rewriting) -> list[Said]:
-    """Writes the capture `a` in an order, and returns what has been written. Its xids have to be the turns."""
-    path = pathlib.Path(place.folder)
-    with take(str(path / 'a')) as taken:
-        write_in_order(taken, chosen, left_out, str(path / 'ordered'), writer)
-    with take(str(path / 'ordered')) as taken:
-        (connection,) = taken.connections
-        calls, replies = ([record.body for record in stream.records()] for stream in (connection.client, connection.server))
-    place.want('xids', [int.from_bytes(body[:4], 'big') for body in calls], list(range(1, len(chosen) + 1)))
-    return [said for _, said in exchanges_of([(calls, replies)])]
-
-
-def shuffled(chance: random.Random, seed: int) -> tuple[list[Conversation], list[tuple[Numbered, Said]]]:
-    """The connections of random traffic, and its exchanges in any order."""
-    connections = Traffic(seed, Names.drawn(chance)).connections
-    known = exchanges_of(connections)
-    chance.shuffle(known)
-    return connections, known
-
-
-def runs_are_written_anew(place: Comparisons) -> None:
-    """What is written are the chosen exchanges in their order, and nothing else; with fragments of any kind, too."""
-    for seed in range(60):
-        chance = random.Random(seed)
-        connections, known = shuffled(chance, seed)
-        place.put('a', *connections)
-        number = chance.randrange(len(known) + 1)
-        chosen, left_out = known[:number], known[number:]
-        place.want(f'seed {seed}', written(place, [one for one, _ in chosen], [one for one, _ in left_out]), [said for _, said in chosen])
-        if chosen:
-            place.want(f'seed {seed} is a capture', place.run('check', 'ordered')[0], 0)
-
-
-def records_of_several_fragments(place: Comparisons) -> None:
-    """A record is written as one fragment."""
-    bodies = [call(xid, NFS, 3, 0) for xid in (7, 8)]
-    stream = b''.join(messages.fragment(body[:4], is_last=False) + messages.fragment(b'', is_last=False) + messages.fragment(body[4:])
-                      for body in bodies)
-    place.write('a', b''.join(messages.version_1([([messages.chunk(stream)], [])])))
-    found = written(place, [one_of(1, 2, []), one_of(1, 1, [])], [])
-    place.want('written', found, [(body[4:], ()) for body in reversed(bodies)])
-    both = messages.fragment(word(1) + bodies[1][4:]) + messages.fragment(word(2) + bodies[0][4:])
-    place.want('fragments', place.read('ordered'), b''.join(messages.version_1([([messages.chunk(both)], [])])))
-
-
-def orders_that_are_none(place: Comparisons) -> None:
-    """An exchange twice, one that is missing, records that are not there, and a reply to another call."""
-    place.put('a', ([call(xid, NFS, 3, 0) for xid in (7, 8)], [success(7), success(8)]))
-    first, second = one_of(1, 1, [1]), one_of(1, 2, [2])
-    orders = {'twice': [first, second, first], 'missing': [first], 'not there': [first, second, one_of(1, 3, [])],
-              'a reply is missing': [first, one_of(1, 2, [])], 'a reply twice': [first, one_of(1, 2, [2, 2])],
-              'replies of others': [one_of(1, 1, [2]), one_of(1, 2, [1])], 'record 0': [first, second, one_of(1, 0, [])]}
-    for name, order in orders.items():
-        try:
-            written(place, order, [])
-            place.want(name, 'written', 'refused')
-        except Died as died:
-            place.want(name, type(died).__name__, 'WrongOrder')
-    place.want('left out', written(place, [second], [first]), [(call(8, NFS, 3, 0)[4:], (success(8)[4:],))])
-
-
-class Changed(Rewriting):
-    """Changes a byte of each message."""
-
-    def messages(self, side: Side) -> Iterator[bytes]:
-        return (message[:-1] + bytes([message[-1] ^ 1]) for message in super().messages(side))
-
-
-class Turned(Rewriting):
-    """Gives each reply to another call."""
-
-    def messages(self, side: Side) -> Iterator[bytes]:
-        some = list(super().messages(side))
-        return iter(some if side == 'client' else [one[:8] + other[8:] for one, other in zip(some, some[1:] + some[:1])])
-
-
-class Repeated(Rewriting):
-    """Writes each reply twice."""
-
-    def messages(self, side: Side) -> Iterator[bytes]:
-        return (message for message in super().messages(side) for _ in range(1 + (side == 'server')))
-
-
-class Forgotten(Rewriting):
-    """Forgets the first reply."""
-
-    def messages(self, side: Side) -> Iterator[bytes]:
-        return (message for number, message in enumerate(super().messages(side)) if number or side == 'client')
-
-
-def wrong_writers_are_caught(place: Comparisons) -> None:
-    """What these tests look at finds a writer that changes a byte, gives a reply to another call, or writes one twice or not at all."""
-    calls, replies = [call(xid, NFS, 3, 1, fh(b'a')) for xid in (7, 8)], [success(7, word(5)), success(8, word(13))]
-    place.put('a', (calls, replies))
-    known, order = [said for _, said in exchanges_of([(calls, replies)])], [one_of(1, 1, [1]), one_of(1, 2, [2])]
-    place.want('right', written(place, order, []), known)
-    for wrong in (Changed, Turned, Repeated, Forgotten):
-        place.want(wrong.__name__, written(place, order, [], wrong) == known, False)
 
 
 # --- Runs of several clients at once ---
@@ -180,14 +43,17 @@ class World:
     def handle(self, path: str) -> bytes:
         return self.handles.setdefault(path, self.chance.randbytes(28))
 
-    def attributes(self, path: str, kind: int = 1, size: int = 0, mode: int = 0o644, nlink: int = 1) -> bytes:
+    def attributes(self, path: str, kind: int = 1, size: int = 0, mode: int = 0o644,
+                   nlink: int = 1) -> bytes:
         fileid = self.ids.setdefault(path, len(self.ids) + 64)
-        return fattr(kind, fileid, size, mode, nlink)[:60] + b''.join(word(self.time + number) for number in range(6))
+        return fattr(kind, fileid, size, mode,
+                     nlink)[:60] + b''.join(word(self.time + number) for number in range(6))
 
 
 @dataclass
 class Client:
-    """A client that works in a folder of its own: the steps that it makes. Each changes the size of data and the mode as it is told."""
+    """A client that works in a folder of its own: the steps that it makes. Each changes the size of
+    data and the mode as it is told."""
     name: str
     data: bytes = b'some data'
     mode: int = 0o644
@@ -203,30 +69,40 @@ class Client:
 
     def of_file(self, folder: str, name: str) -> Iterator[Step]:
         path = f'{folder}/{name}'
-        yield Step(LOOKUP, lambda w: dirop(w.handle(folder), name.encode()), lambda w: messages.failed(2, post_op_attr()))
-        yield Step(CREATE, lambda w: dirop(w.handle(folder), name.encode()) + word(0) + sattr(mode=0o644),
-                   lambda w: ok(messages.made(w.handle(path), w.attributes(path, mode=self.mode), wcc())))
-        yield Step(WRITE, lambda w: fh(w.handle(path)) + hyper(0) + word(len(self.data)) + word(0) + opaque(self.data),
-                   lambda w: ok(wcc(None, w.attributes(path, size=9, mode=self.mode)), word(9), word(2), b'verifier'))
+        yield Step(LOOKUP, lambda w: dirop(w.handle(folder), name.encode()),
+                   lambda w: messages.failed(2, post_op_attr()))
+        yield Step(CREATE, lambda w: dirop(w.handle(folder), name.encode()) + word(0)
+                   + sattr(mode=0o644),
+                   lambda w: ok(messages.made(w.handle(path), w.attributes(path, mode=self.mode),
+                                              wcc())))
+        yield Step(WRITE, lambda w: fh(w.handle(path)) + hyper(0) + word(len(self.data)) + word(0)
+                   + opaque(self.data),
+                   lambda w: ok(wcc(None, w.attributes(path, size=9, mode=self.mode)), word(9),
+                                word(2), b'verifier'))
         yield Step(READ, lambda w: fh(w.handle(path)) + hyper(0) + word(512),
-                   lambda w: ok(post_op_attr(w.attributes(path, size=9, mode=self.mode)), word(9), word(1), opaque(self.data)))
+                   lambda w: ok(post_op_attr(w.attributes(path, size=9, mode=self.mode)), word(9),
+                                word(1), opaque(self.data)))
         yield self.asked(path)
 
     def asked(self, path: str) -> Step:
-        return Step(GETATTR, lambda w: fh(w.handle(path)), lambda w: ok(w.attributes(path, size=9, mode=self.mode)))
+        return Step(GETATTR, lambda w: fh(w.handle(path)),
+                    lambda w: ok(w.attributes(path, size=9, mode=self.mode)))
 
 
 def mixed(chance: random.Random, clients: Sequence[Client], connections: int) -> list[Conversation]:
-    """A run of clients at once: in which order they get their turns, and over which connection each call is sent, is chance."""
+    """A run of clients at once: in which order they get their turns, and over which connection each
+    call is sent, is chance."""
     world, streams = World(chance), [list(client.steps()) for client in clients]
     out: list[Conversation] = [([], []) for _ in range(connections)]
-    out.append(([call(1, MOUNT, 3, 1, opaque(b'/'))], [success(1, ok(fh(world.handle('/')), word(0)))]))
+    out.append(([call(1, MOUNT, 3, 1, opaque(b'/'))],
+                [success(1, ok(fh(world.handle('/')), word(0)))]))
     xids = iter(chance.sample(range(1 << 32), 1_000))
     while any(streams):
         steps = chance.choice([steps for steps in streams if steps])
         step, xid = steps.pop(0), next(xids)
         calls, replies = out[chance.randrange(connections)]
-        calls.append(call(xid, step.program, 3, step.procedure, step.asks(world), credential=auth_sys(world.time, b'box', 0, 0, [])))
+        calls.append(call(xid, step.program, 3, step.procedure, step.asks(world),
+                          credential=auth_sys(world.time, b'box', 0, 0, [])))
         replies.append(success(xid, step.answer(world)))
     for _, replies in out:
         at = chance.randrange(len(replies))
@@ -244,39 +120,49 @@ def calls_of(count: int) -> str:
 
 
 def clients_at_once(place: Comparisons) -> None:
-    """Two runs of clients at once differ in their order, and are the same in another. So they are over more connections."""
+    """Two runs of clients at once differ in their order, and are the same in another. So they are
+    over more connections."""
     for seed in range(12):
         place.put('a', *mixed(random.Random(seed), clients(), 3))
         place.put('b', *mixed(random.Random(seed + 100), clients(), 3 + seed % 2))
         status, out, error = place.compare('--order', 'any', 'a', 'b')
-        place.want(f'seed {seed}', (status, out[1].startswith('same in another order: 106 calls; '), error, len(out)), (0, True, '', 3))
+        place.want(f'seed {seed}', (status, out[1].startswith('same in another order: 106 calls; '),
+                                    error, len(out)), (0, True, '', 3))
         place.want(f'seed {seed} in words', out[2].startswith(calls_of(106)), True)
         place.want(f'seed {seed} by default', place.compare('a', 'b'), (1, out, ''))
         status, strict, _ = place.compare('--order', 'strict', 'a', 'b')
-        place.want(f'seed {seed} strictly', (status, strict[1].startswith('differ at '), strict[-1].startswith(calls_of(106))),
+        place.want(f'seed {seed} strictly', (status, strict[1].startswith('differ at '),
+                                             strict[-1].startswith(calls_of(106))),
                    (1, True, True))
 
 
 def what_differs_is_found(place: Comparisons) -> None:
-    """A changed byte of a file, a changed mode, and one call more that changes something are the only findings."""
+    """A changed byte of a file, a changed mode, and one call more that changes something are the
+    only findings."""
     names = [f'/c2/f{number}' for number in range(4)]
-    more = Step(MKDIR, lambda w: dirop(w.handle('/c2'), b'more') + sattr(), lambda w: messages.success(0)[24:] + messages.failed(13, wcc()))
+    more = Step(MKDIR, lambda w: dirop(w.handle('/c2'), b'more') + sattr(),
+                lambda w: messages.success(0)[24:] + messages.failed(13, wcc()))
     cases: list[tuple[Client, set[str], list[str]]] = [
-        (Client('c2', data=b'some datA'), {f'NFSPROC3_{name} {path}' for path in names for name in ('WRITE', 'READ reply')}, ['data']),
+        (Client('c2', data=b'some datA'), {f'NFSPROC3_{name} {path}' for path in names
+                                           for name in ('WRITE', 'READ reply')}, ['data']),
         (Client('c2', mode=0o640),
-         {f'NFSPROC3_{name} reply {path}' for path in names for name in ('CREATE', 'WRITE', 'READ', 'GETATTR')}, ['mode']),
+         {f'NFSPROC3_{name} reply {path}' for path in names
+          for name in ('CREATE', 'WRITE', 'READ', 'GETATTR')}, ['mode']),
         (Client('c2', more=[more]), {'only in the second run: NFSPROC3_MKDIR /c2/more'}, [])]
     for seed, (client, wanted, fields) in enumerate(cases):
         place.put('a', *mixed(random.Random(seed), clients(), 3))
-        place.put('b', *mixed(random.Random(seed + 100), [client if one.name == 'c2' else one for one in clients()], 3))
+        place.put('b', *mixed(random.Random(seed + 100),
+                              [client if one.name == 'c2' else one for one in clients()], 3))
         status, out, error = place.compare('--order', 'any', '--all', 'a', 'b')
         found = {line.partition(': connection')[0] for line in out[2:] if ': connection' in line}
         place.want(f'{fields}', (status, found, error), (1, wanted, ''))
         where = re.search(r'connection \d+ \w+ record \d+', out[2])
-        place.want(f'{fields} in any order', out[1].removesuffix(' of the second run'), f'differ in any order at {where and where[0]}')
+        place.want(f'{fields} in any order', out[1].removesuffix(' of the second run'),
+                   f'differ in any order at {where and where[0]}')
         place.want(f'{fields} by default', place.compare('--all', 'a', 'b')[1][2:], out[2:])
         values = {line[4:].partition('=')[0] for line in out if line.startswith('  ')}
-        place.want(f'fields {fields}', sorted({value.rpartition('.')[2] for value in values}), fields)
+        place.want(f'fields {fields}', sorted({value.rpartition('.')[2] for value in values}),
+                   fields)
 
 
 def calls_that_only_ask(place: Comparisons) -> None:
@@ -288,43 +174,54 @@ def calls_that_only_ask(place: Comparisons) -> None:
     status, out, _ = place.compare('--order', 'any', 'a', 'b')
     place.want('left out', (status, '; left out: 3 GETATTR of the first run' in out[1]), (0, True))
     where = out[2].partition(': ')
-    place.want('listed', (where[0], re.fullmatch(r'3 NFSPROC3_GETATTR /c2/f1, first: connection \d client record \d+', where[2]) is not None),
+    place.want('listed',
+               (where[0],
+                re.fullmatch(r'3 NFSPROC3_GETATTR /c2/f1, first: connection \d client record \d+',
+                             where[2]) is not None),
                ('left out of the first run', True))
     place.want('in words', out[3].endswith('; left out: 3 GETATTR only in the first run'), True)
-    every = [line for line in place.compare('--order', 'any', '--all', 'a', 'b')[1] if line.startswith('left out of the first run: 1 ')]
+    every = [line for line in place.compare('--order', 'any', '--all', 'a', 'b')[1]
+             if line.startswith('left out of the first run: 1 ')]
     place.want('all', (len(every), len(set(every))), (3, 3))
     place.want('by default', place.compare('a', 'b')[0], 1)
     status, out, _ = place.compare('b', 'a')
     place.want('of the second', '; left out: 3 GETATTR of the second run' in out[1], True)
     status, out, _ = place.compare('--order', 'any', '--extra', 'none', 'a', 'b')
-    found = [line for line in out if line.startswith('only in the first run: 3 calls of NFSPROC3_GETATTR /c2/f1, first: ')]
-    place.want('none', (status, len(found), out[-1].partition('; ')[2].endswith('3 only in the first run')), (1, 1, True))
+    found = [line for line in out
+             if line.startswith(
+                 'only in the first run: 3 calls of NFSPROC3_GETATTR /c2/f1, first: ')]
+    place.want('none',
+               (status, len(found), out[-1].partition('; ')[2].endswith('3 only in the first run')),
+               (1, 1, True))
 
 
 def looked_up(*names: bytes) -> Conversation:
     """LOOKUPs in one folder, of names that are not there."""
-    return ([call(xid, NFS, 3, LOOKUP, dirop(b'top', name)) for xid, name in enumerate(names)],
-            [success(xid, messages.failed(2, post_op_attr())) for xid, _ in enumerate(names)])
+    return conversation_of((LOOKUP, dirop(b'top', name), messages.failed(2, post_op_attr()))
+                    for name in names)
 
 
 def runs_without_a_common_call(place: Comparisons) -> None:
-    """Names that the other run does not know are differences. With as many questions in one place each is a changed call. A run without
-    a call is not compared."""
+    """Names that the other run does not know are differences. With as many questions in one place
+    each is a changed call. A run without a call is not compared."""
     place.put('a', looked_up(b'a0', b'a1', b'a2'))
     for names in ((b'b0', b'b1'), (b'b0',)):
         place.put('b', looked_up(*names))
         for words in (['a', 'b'], ['b', 'a']):
             status, out, error = place.compare('--order', 'any', *words)
-            place.want(f'{names} {words}', (status, out[1].startswith('differ in any order'), error), (1, True, ''))
+            place.want(f'{names} {words}', (status, out[1].startswith('differ in any order'),
+                                            error), (1, True, ''))
     place.put('b', looked_up())
     answer = place.compare('--order', 'any', '--junit', 'x.xml', 'a', 'b')
-    place.want('none', (answer[0], answer[1][1:], answer[2]), (2, [], 'compare: nothing to compare: no call of b is taken\n'))
+    place.want('none', (answer[0], answer[1][1:], answer[2]),
+               (2, [], 'compare: nothing to compare: no call of b is taken\n'))
     place.want('junit', b'<error message="nothing to compare' in (place.read('x.xml') or b''), True)
     place.put('b', looked_up(b'b0', b'b1', b'b2'))
     status, out, _ = place.compare('--order', 'any', '--all', 'a', 'b')
     place.want('as many', (status, out[1], [line for line in out if line.startswith('  ')]), (
         1, 'differ in any order at connection 1 client record 1', [
-            line for number in range(3) for line in (f'  - name="a{number}"', f'  + name="b{number}"')]))
+            line for number in range(3) for line in (f'  - name="a{number}"',
+                                                     f'  + name="b{number}"')]))
 
 
 def questions_that_are_changed(place: Comparisons) -> None:
@@ -337,26 +234,27 @@ def questions_that_are_changed(place: Comparisons) -> None:
     status, out, _ = place.compare('--order', 'any', 'a', 'b')
     place.want('another name', (status, out[1:5]), (1, [
         'differ in any order at connection 1 client record 4',
-        'NFSPROC3_LOOKUP ?/f3: connection 1 client record 4 | connection 1 client record 4', '  - name="f3"',
-        '  + name="wrong"']))
+        'NFSPROC3_LOOKUP ?/f3: connection 1 client record 4 | connection 1 client record 4',
+        '  - name="f3"', '  + name="wrong"']))
     place.put('b', looked_up(*names[:3], *names[4:], b'wrong'))
     status, out, _ = place.compare('--order', 'any', 'a', 'b')
-    place.want('in another place', (status, [line.partition(': ')[0] for line in out if line.startswith('only in')]),
+    place.want('in another place',
+               (status, [line.partition(': ')[0] for line in out if line.startswith('only in')]),
                (1, ['only in the first run', 'only in the second run']))
 
 
 def a_client_without_commit(place: Comparisons) -> None:
     """COMMIT asks the server to keep what was written: it is not left out."""
-    def run(*procedures: int) -> Conversation:
-        said = {GETATTR: (fh(b'a'), ok(fattr(1, 1))), 21: (fh(b'a') + hyper(0) + word(0), ok(wcc(), b'verifier')),
-                WRITE: (fh(b'a') + hyper(0) + word(1) + word(0) + opaque(b'x'), ok(wcc(), word(1), word(0), b'verifier'))}
-        return ([call(xid, NFS, 3, number, said[number][0]) for xid, number in enumerate(procedures)],
-                [success(xid, said[number][1]) for xid, number in enumerate(procedures)])
-    place.put('a', run(GETATTR, WRITE, 21))
-    place.put('b', run(GETATTR, WRITE))
+    steps = [(GETATTR, fh(b'a'), ok(fattr(1, 1))),
+             (WRITE, fh(b'a') + hyper(0) + word(1) + word(0) + opaque(b'x'),
+              ok(wcc(), word(1), word(0), b'verifier')),
+             (21, fh(b'a') + hyper(0) + word(0), ok(wcc(), b'verifier'))]
+    place.put('a', conversation_of(steps))
+    place.put('b', conversation_of(steps[:2]))
     for order in ('any', 'strict'):
         status, out, _ = place.compare('--order', order, 'a', 'b')
-        place.want(order, (status, out[2].partition(': connection')[0]), (1, 'only in the first run: NFSPROC3_COMMIT'))
+        place.want(order, (status, out[2].partition(': connection')[0]),
+                   (1, 'only in the first run: NFSPROC3_COMMIT'))
 
 
 Half = tuple[int, int, bytes]  # a message: the shell, its side, 0 for a call, and its body
@@ -364,7 +262,8 @@ MKDIR_OK = ok(messages.made(None, None, wcc()))
 
 
 def shared_folder(*steps: Half) -> bytes:
-    """A recording of two shells that work in one folder, each over a connection of its own, message by message."""
+    """A recording of two shells that work in one folder, each over a connection of its own, message
+    by message."""
     talks = [Talk(700 + number) for number in range(2)]
     frames = [frame for talk in talks for frame in talk.opened()]
     frames += [talks[shell].sent(side, messages.fragment(body)) for shell, side, body in steps]
@@ -392,7 +291,8 @@ def made_in_folder(xid: int, name: bytes, shell: int = 1) -> Asked:
 
 def listed_names(xid: int, *names: bytes) -> Asked:
     """READDIR of the folder, with these names."""
-    entries = messages.entries(fattr(2, 1), bytes(8), [messages.entry(1, name, 0) for name in names], is_end=True)
+    entries = messages.entries(fattr(2, 1), bytes(8),
+                               [messages.entry(1, name, 0) for name in names], is_end=True)
     return Asked(0, xid, 16, fh(b'folder') + bytes(16) + word(512), ok(entries))
 
 
@@ -409,24 +309,33 @@ def one_by_one(*steps: Asked) -> bytes:
 
 
 def in_which_others_worked(place: Comparisons) -> None:
-    """What a folder shows depends on whether another shell's call came first. Such a question is left out, and listed with its folder; if the
-    other's calls came as before, or changed nothing, it still differs. So does it with --extra none, in the order of the runs, and in
-    captures, which have no frames."""
-    top = Asked(0, 1, LOOKUP, dirop(b'top', b'w'), ok(fh(b'folder'), post_op_attr(), post_op_attr()))
+    """What a folder shows depends on whether another shell's call came first. Such a question is
+    left out, and listed with its folder; if the other's calls came as before, or changed nothing,
+    it still differs. So does it with --extra none, in the order of the runs, and in captures, which
+    have no frames."""
+    top = Asked(0, 1, LOOKUP, dirop(b'top', b'w'),
+                ok(fh(b'folder'), post_op_attr(), post_op_attr()))
     new, last = made_in_folder(5, b'new'), Asked(0, 9, GETATTR, fh(b'top'), ok(fattr(2, 3)))
-    without, with_new, wrong = listed_names(7, b'x'), listed_names(7, b'x', b'new'), listed_names(7, b'x', b'another')
-    failing, elsewhere = new._replace(results=messages.failed(17, wcc())), new._replace(arguments=dirop(b'other', b'new') + sattr())
-    during = [top.call(), top.reply(), new.call(), without.call(), without.reply(), new.reply(), last.call(), last.reply()]
+    without, with_new, wrong = listed_names(7, b'x'), listed_names(7, b'x', b'new'), listed_names(
+        7, b'x', b'another')
+    failing, elsewhere = new._replace(results=messages.failed(17, wcc())), new._replace(
+        arguments=dirop(b'other', b'new') + sattr())
+    during = [top.call(), top.reply(), new.call(), without.call(), without.reply(), new.reply(),
+              last.call(), last.reply()]
     rows: list[tuple[str, bytes, bytes, int]] = [
-        ('before and after', one_by_one(top, without, new, last), one_by_one(top, new, with_new, last), 0),
+        ('before and after', one_by_one(top, without, new, last),
+         one_by_one(top, new, with_new, last), 0),
         ('during', one_by_one(top, new, with_new, last), shared_folder(*during), 0),
         ('as before', one_by_one(top, new, with_new, last), one_by_one(top, new, wrong, last), 1),
         ('after both', one_by_one(top, without, new, last), one_by_one(top, wrong, new, last), 1),
-        ('a change that fails', one_by_one(top, without, failing, last), one_by_one(top, failing, wrong, last), 1),
+        ('a change that fails', one_by_one(top, without, failing, last),
+         one_by_one(top, failing, wrong, last), 1),
         ('a name that comes', one_by_one(top, in_folder(7, b'new', None), new, last),
          one_by_one(top, new, in_folder(7, b'new', 0o755), last), 0),
-        ('another name', one_by_one(top, in_folder(7, b'x', 0o644), new, last), one_by_one(top, new, in_folder(7, b'x', 0o600), last), 1),
-        ('another folder', one_by_one(top, without, elsewhere, last), one_by_one(top, elsewhere, with_new, last), 1)]
+        ('another name', one_by_one(top, in_folder(7, b'x', 0o644), new, last),
+         one_by_one(top, new, in_folder(7, b'x', 0o600), last), 1),
+        ('another folder', one_by_one(top, without, elsewhere, last),
+         one_by_one(top, elsewhere, with_new, last), 1)]
     for what, first, second, wanted in rows:
         place.write('a', first)
         place.write('b', second)
@@ -440,72 +349,81 @@ def in_which_others_worked(place: Comparisons) -> None:
 
 
 def what_is_left_out_is_listed(place: Comparisons) -> None:
-    """A question that others overtook is in the verdict and in a line of its own, with both positions, in each form of output. Captures do not
-    say what came first."""
-    top = Asked(0, 1, LOOKUP, dirop(b'top', b'w'), ok(fh(b'folder'), post_op_attr(), post_op_attr()))
+    """A question that others overtook is in the verdict and in a line of its own, with both
+    positions, in each form of output. Captures do not say what came first."""
+    top = Asked(0, 1, LOOKUP, dirop(b'top', b'w'),
+                ok(fh(b'folder'), post_op_attr(), post_op_attr()))
     new, last = made_in_folder(5, b'new'), Asked(0, 9, GETATTR, fh(b'top'), ok(fattr(2, 3)))
     place.write('a', one_by_one(top, listed_names(7, b'x'), new, last))
     place.write('b', one_by_one(top, new, listed_names(7, b'x', b'new'), last))
-    status, out, _ = place.compare('--order', 'any', '--json', 'out.json', '--html', 'out.html', '--junit', 'out.xml', 'a', 'b')
+    status, out, _ = place.compare('--order', 'any', '--json', 'out.json', '--html', 'out.html',
+                                   '--junit', 'out.xml', 'a', 'b')
     why = 'MKDIR ?/w/new at connection 2 client record 1 of the second run'
-    line = ('left out: 1 NFSPROC3_READDIR ?/w, explained by order: connection 1 client record 2 (frame 9) | '
+    line = ('left out: 1 NFSPROC3_READDIR ?/w, explained by order: connection 1 client record 2 '
+            '(frame 9) | '
             f'connection 1 client record 2 (frame 11), by {why}')
     place.want('the verdict', out[1],
-               'same in another order, 1 answer explained by order: 3 calls; left out: 1 READDIR of ?/w, explained by order')
+               'same in another order, 1 answer explained by order: 3 calls; left out: 1 READDIR '
+               'of ?/w, explained by order')
     place.want('the list', out[2], line)
     found = json.loads(place.read('out.json') or b'')['left_out']
-    first, second = ({'position': 'connection 1 client record 2', 'frames': [frame]} for frame in (9, 11))
-    place.want('JSON', found, [{'procedure': 'NFSPROC3_READDIR', 'path': '?/w', 'first': first, 'second': second, 'kind': 'explained',
-                                'why': why}])
+    first, second = ({'position': 'connection 1 client record 2', 'frames': [frame]}
+                     for frame in (9, 11))
+    place.want('JSON', found, [{'procedure': 'NFSPROC3_READDIR', 'path': '?/w', 'first': first,
+                                'second': second, 'kind': 'explained', 'why': why}])
     for name in ('out.html', 'out.xml'):
         place.want(name, line.encode() in (place.read(name) or b''), True)
     for name in 'ab':
-        captured = ended([str(TOP / 'tools/from_pcap'), name, f'{name}.nfs3cap'], place.folder).status
+        captured = ended([str(TOP / 'tools/from_pcap'), name, f'{name}.nfs3cap'],
+                         place.folder).status
         place.want('captured', captured, 0)
     place.want('captures', place.compare('--order', 'any', 'a.nfs3cap', 'b.nfs3cap')[0], 1)
 
 
 def ids_and_orders(place: Comparisons) -> None:
-    """File ids are given out in the order of creation, and given again after a removal: no renaming of them can be one to one."""
-    def run(*order: int) -> Conversation:
-        calls, replies, ids = list[bytes](), list[bytes](), iter((7, 8, 7))
-        for xid in order:
-            handle = b'handle %d' % xid
-            calls.append(call(xid, NFS, 3, LOOKUP, dirop(b'top', b'%d' % xid)))
-            replies.append(success(xid, ok(fh(handle), post_op_attr(fattr(1, next(ids))), post_op_attr())))
-        return calls, replies
-    place.put('a', run(1, 2, 3))
-    place.put('b', run(2, 1, 3))
+    """File ids are given out in the order of creation, and given again after a removal: no renaming
+    of them can be one to one."""
+    def run(*names: bytes) -> Conversation:
+        return conversation_of((LOOKUP, dirop(b'top', name),
+                                ok(fh(name), post_op_attr(fattr(1, fileid)),
+                            post_op_attr()))
+                        for name, fileid in zip(names, (7, 8, 7)))
+    place.put('a', run(b'1', b'2', b'3'))
+    place.put('b', run(b'2', b'1', b'3'))
     words = '3 calls; 1 reordered; 1 reply reordered; fsids and ids follow their objects'
-    place.wants('ids', 0, ['3 of 3 calls matched; 1 reordered; 1 reply reordered'], '--order', 'any')
+    place.wants('ids', 0, ['3 of 3 calls matched; 1 reordered; 1 reply reordered'], '--order',
+                'any')
     place.want('told', place.compare('a', 'b')[1][1], 'same in another order: ' + words)
     status, out, _ = place.compare('--mask=+ids=number', '--order', 'any', 'a', 'b')
-    place.want('compared', (status, out[1][:19], any('fileid' in line for line in out)), (1, 'differ in any order', True))
+    place.want('compared', (status, out[1][:19], any('fileid' in line for line in out)),
+               (1, 'differ in any order', True))
 
 
 def seen_in_the_middle(place: Comparisons) -> None:
-    """Sizes in replies to WRITE depend on which of several writes the server has done. Captures do not say which came first, so they
-    are compared, unless they are masked."""
+    """Sizes in replies to WRITE depend on which of several writes the server has done. Captures do
+    not say which came first, so they are compared, unless they are masked."""
     def run(*sizes: int) -> Conversation:
         data = [opaque(b'%d' % number) for number in range(4)]
         order = sorted(range(4), key=lambda number: sizes[number])
-        return ([call(at, NFS, 3, WRITE, fh(b'a') + hyper(8 * at) + word(1) + word(0) + data[at]) for at in order],
-                [success(at, ok(wcc(sizes[at] - 8, fattr(1, 5, sizes[at])), word(1), word(2), b'verifier')) for at in order])
+        return conversation_of((WRITE, fh(b'a') + hyper(8 * at) + word(1) + word(0) + data[at],
+                         ok(wcc(sizes[at] - 8, fattr(1, 5, sizes[at])), word(1), word(2),
+                            b'verifier')) for at in order)
     place.put('a', run(8, 16, 24, 32))
     place.put('b', run(16, 8, 24, 32))
     place.want('masked', place.compare('--mask=+wcc', 'a', 'b')[1][1],
                'same in another order: 4 calls; 1 reordered; 1 reply reordered')
     for words in ([], ['--mask=-wcc']):
         status, out, _ = place.compare(*words, '--order', 'any', 'a', 'b')
-        place.want(f'compared {words}', (status, out[1][:19], '  - obj after.size=8' in out), (1, 'differ in any order', True))
+        place.want(f'compared {words}', (status, out[1][:19], '  - obj after.size=8' in out),
+                   (1, 'differ in any order', True))
 
 
 def folders_that_others_change(place: Comparisons) -> None:
-    """GETATTR of a folder whose count of links grows meanwhile: those with the same count are matched. A count that one run alone has is a
-    difference."""
+    """GETATTR of a folder whose count of links grows meanwhile: those with the same count are
+    matched. A count that one run alone has is a difference."""
     def run(*links: int) -> Conversation:
-        return ([call(xid, NFS, 3, GETATTR, fh(b'folder')) for xid, _ in enumerate(links)],
-                [success(xid, ok(fattr(2, 5, nlink=nlink))) for xid, nlink in enumerate(links)])
+        return conversation_of((GETATTR, fh(b'folder'), ok(fattr(2, 5, nlink=nlink)))
+                               for nlink in links)
     place.put('a', run(2, 3, 4, 5))
     place.put('b', run(3, 2, 4, 5))
     place.want('links', place.compare('--order', 'any', 'a', 'b')[1][1],
@@ -519,48 +437,56 @@ def masks_of_any_order(place: Comparisons) -> None:
     """Classes that are named stay as they are, and so does a whole mask."""
     relaxed = ('ids', 'createverfs', 'cookies', 'wcc')
     masks = in_any_order(None)
-    place.want('default', masks, [default_mask(), {**default_mask(), **dict.fromkeys(relaxed, Way.ZERO)}])
-    place.want('with raw bodies', in_any_order(None, True), [masks[0], {**masks[1], 'raw': Way.ZERO}])
+    place.want('default', masks,
+               [default_mask(), {**default_mask(), **dict.fromkeys(relaxed, Way.ZERO)}])
+    place.want('with raw bodies', in_any_order(None, True),
+               [masks[0], {**masks[1], 'raw': Way.ZERO}])
     place.want('following', [following(None), following('-ids'), following('none')],
-               [{'ids', 'fsids', 'cookies', 'createverfs'}, {'fsids', 'cookies', 'createverfs'}, set()])
+               [{'ids', 'fsids', 'cookies', 'createverfs'}, {'fsids', 'cookies', 'createverfs'},
+                set()])
     place.want('raw bodies that are named', in_any_order('-raw', True)[-1].get('raw'), None)
     for word_of_mask in ('times', 'none', 'ids=number,times'):
         place.want(word_of_mask, in_any_order(word_of_mask), [mask_of(word_of_mask)])
-    place.want('named', all(mask['ids'] is Way.NUMBER for mask in in_any_order('+ids=number')), True)
+    place.want('named', all(mask['ids'] is Way.NUMBER for mask in in_any_order('+ids=number')),
+               True)
     place.want('without', any('ids' in mask for mask in in_any_order('-ids')), False)
 
 
 def verifiers_that_repeat(place: Comparisons) -> None:
-    """Two exclusive creates have one verifier by chance in one run alone: no renaming of verifiers is one to one, and nothing else differs.
-    So it is with cookies. Only the class that repeats follows its objects."""
-    def run(order: Sequence[int], verifiers: Sequence[bytes], cookies: Sequence[int]) -> Conversation:
-        calls, replies = list[bytes](), list[bytes]()
-        for xid in order:
-            calls.append(call(xid, NFS, 3, CREATE, dirop(b'top', b'f%d' % xid) + messages.how(2, verifiers[xid])))
-            replies.append(success(xid, ok(messages.made(None, None, wcc()))))
-        for xid in order:
-            calls.append(call(xid + 9, NFS, 3, 17, fh(b'folder %d' % xid) + bytes(16) + word(512) + word(4096)))
-            entries = messages.entries(fattr(2, 1), bytes(8), [messages.entryplus(1, b'x', cookies[xid])], is_end=True)
-            replies.append(success(xid + 9, ok(entries)))
-        return calls, replies
+    """Two exclusive creates have one verifier by chance in one run alone: no renaming of verifiers
+    is one to one, and nothing else differs. So it is with cookies. Only the class that repeats
+    follows its objects."""
+    def run(order: Sequence[int], verifiers: Sequence[bytes],
+            cookies: Sequence[int]) -> Conversation:
+        made = [(CREATE, dirop(b'top', b'f%d' % at) + messages.how(2, verifiers[at]),
+                 ok(messages.made(None, None, wcc()))) for at in order]
+        return conversation_of(made + [
+            (17, fh(b'folder %d' % at) + bytes(16) + word(512) + word(4096), ok(messages.entries(
+                fattr(2, 1), bytes(8), [messages.entryplus(1, b'x', cookies[at])], is_end=True)))
+            for at in order])
     one, other = (b'verify%02d', b'other-%02d')
     plain = [one % number for number in range(3)], [other % number for number in range(3)]
     for name, second, cookies, more in (
             ('createverfs', [other % 0, other % 1, other % 0], [7, 8, 9], 'createverfs'),
-            ('cookies', plain[1], [7, 8, 7], 'cookies'), ('both', [other % 0] * 3, [7, 7, 7], 'cookies and createverfs')):
+            ('cookies', plain[1], [7, 8, 7], 'cookies'),
+            ('both', [other % 0] * 3, [7, 7, 7], 'cookies and createverfs')):
         place.put('a', run((0, 1, 2), plain[0], [4, 5, 6]))
         place.put('b', run((1, 0, 2), second, cookies))
         status, out, error = place.compare('--order', 'any', 'a', 'b')
-        place.want(name, (status, out[1].rpartition('; ')[2], error), (0, f'{more} follow their objects', ''))
-        status, out, _ = place.compare('--mask=+createverfs=number,+cookies=number', '--order', 'any', 'a', 'b')
-        place.want(f'{name}: compared if they are named', (status, out[1][:19]), (1, 'differ in any order'))
+        place.want(name, (status, out[1].rpartition('; ')[2], error),
+                   (0, f'{more} follow their objects', ''))
+        status, out, _ = place.compare('--mask=+createverfs=number,+cookies=number', '--order',
+                                       'any', 'a', 'b')
+        place.want(f'{name}: compared if they are named', (status, out[1][:19]),
+                   (1, 'differ in any order'))
 
 
 def raw_bodies_in_any_order(place: Comparisons) -> None:
-    """Bodies of other programs, with handles and times of their own in each run, are compared in any order unless they are masked; their
-    lengths count."""
+    """Bodies of other programs, with handles and times of their own in each run, are compared in
+    any order unless they are masked; their lengths count."""
     def run(order: Sequence[int], body: bytes) -> Conversation:
-        return ([call(xid, messages.NFSACL, 3, 1, b'acl %d' % xid + body) if xid else call(xid, NFS, 3, 0) for xid in order],
+        return ([call(xid, messages.NFSACL, 3, 1, b'acl %d' % xid + body) if xid
+                 else call(xid, NFS, 3, 0) for xid in order],
                 [success(xid, b'answer %d' % xid + body if xid else b'') for xid in order])
     place.put('a', run((0, 1, 2), b'1234'))
     place.put('b', run((0, 2, 1), b'5678'))
@@ -570,14 +496,17 @@ def raw_bodies_in_any_order(place: Comparisons) -> None:
     place.want('kept', place.compare('--mask=-raw', '--order', 'any', 'a', 'b')[0], 1)
     place.put('b', run((0, 2, 1), b'12345678'))
     status, out, _ = place.compare('--mask', '+raw', '--order', 'any', 'a', 'b')
-    place.want('lengths', (status, any('only the lengths count' in line for line in out)), (1, True))
+    place.want('lengths', (status, any('only the lengths count' in line for line in out)),
+               (1, True))
 
 
 def values_that_stand_for_others(place: Comparisons) -> None:
-    """A value that is equal in both runs and stands for another elsewhere is one line that says so; several such findings are one line."""
+    """A value that is equal in both runs and stands for another elsewhere is one line that says so;
+    several such findings are one line."""
     def run(*verifiers: bytes) -> Conversation:
-        return ([call(xid, NFS, 3, CREATE, dirop(b'top', b'f%d' % xid) + messages.how(2, verifier)) for xid, verifier in enumerate(verifiers)],
-                [success(xid, ok(messages.made(None, None, wcc()))) for xid, _ in enumerate(verifiers)])
+        return conversation_of((CREATE, dirop(b'top', b'f%d' % at) + messages.how(2, verifier),
+                         ok(messages.made(None, None, wcc())))
+                        for at, verifier in enumerate(verifiers))
     a, b, c = (letter * 8 for letter in (b'a', b'b', b'c'))
     place.put('a', run(a, b, b))
     place.put('b', run(a, c, b))
@@ -585,17 +514,20 @@ def values_that_stand_for_others(place: Comparisons) -> None:
     status, out, _ = place.compare('a', 'b')
     place.want('one', (status, out[2:4]), (1, [
         f'NFSPROC3_CREATE ?/f2: {where % 3} | {where % 3}',
-        f'  = createverf={b.hex()}    # elsewhere {b.hex()} of the first run is {c.hex()} of the second']))
+        f'  = createverf={b.hex()}    # elsewhere {b.hex()} of the first run is {c.hex()} of the '
+        'second']))
     place.put('a', run(a, b, b, b))
     place.put('b', run(a, c, b, b))
     status, out, _ = place.compare('a', 'b')
-    line = ('2 messages have values that are equal in both runs, and that correspond to others elsewhere, first: '
+    line = ('2 messages have values that are equal in both runs, and that correspond to others '
+            'elsewhere, first: '
             f'{where % 3} | {where % 3}: createverf of NFSPROC3_CREATE 2')
     place.want('several', (status, out[2], len(out)), (1, line, 5))
     status, out, _ = place.compare('--all', 'a', 'b')
     place.want('all', (status, sum(line.startswith('  = ') for line in out)), (1, 2))
     for words in (['a', 'b'], ['--all', 'a', 'b'], ['--brief', 'a', 'b']):
-        values = [line.partition('=')[2] for line in place.compare(*words)[1] if line.startswith(('  - ', '  + '))]
+        values = [line.partition('=')[2] for line in place.compare(*words)[1]
+                  if line.startswith(('  - ', '  + '))]
         place.want('no two equal values', len(values), len(set(values)))
 
 
@@ -608,37 +540,44 @@ def orders_of_replies(place: Comparisons) -> None:
     line = '7 of 7 calls matched; 1 reply reordered'
     place.wants('by default', 1, [line])
     place.wants('any', 0, [line], '--order', 'any')
-    place.want('told', place.compare('a', 'b')[1][1], 'same in another order: 7 calls; 1 reply reordered')
-    place.wants('strictly', 1, ['connection 1', '  1 of 7 replies of the connection come in another order',
-                                line], '--order', 'strict')
+    place.want('told', place.compare('a', 'b')[1][1],
+               'same in another order: 7 calls; 1 reply reordered')
+    place.wants('strictly', 1,
+                ['connection 1', '  1 of 7 replies of the connection come in another order',
+                 line], '--order', 'strict')
 
 
 def connections_by_what_they_ask(place: Comparisons) -> None:
-    """Connections are matched by their calls, in any order; what differs in one is found in the right one."""
+    """Connections are matched by their calls, in any order; what differs in one is found in the
+    right one."""
     def connection(name: bytes, mode: int) -> Conversation:
-        return ([call(1, MOUNT, 3, 1, opaque(b'/')), call(2, NFS, 3, LOOKUP, dirop(b'top', name)), call(3, NFS, 3, GETATTR, fh(name))],
-                [success(1, ok(fh(b'top'), word(0))), success(2, ok(fh(name), post_op_attr(), post_op_attr())),
+        return ([call(1, MOUNT, 3, 1, opaque(b'/')), call(2, NFS, 3, LOOKUP, dirop(b'top', name)),
+                 call(3, NFS, 3, GETATTR, fh(name))],
+                [success(1, ok(fh(b'top'), word(0))),
+                 success(2, ok(fh(name), post_op_attr(), post_op_attr())),
                  success(3, ok(fattr(1, 5, mode=mode)))])
     names = [b'file %d' % number for number in range(20)]
     place.put('a', *(connection(name, 0o644) for name in names))
-    place.put('b', ([call(1, NFS, 3, 0)], [success(1)]), *(connection(name, 0o600 if name == names[3] else 0o644) for name in names[::-1]))
+    place.put('b', ([call(1, NFS, 3, 0)], [success(1)]),
+              *(connection(name, 0o600 if name == names[3] else 0o644) for name in names[::-1]))
     status, out, _ = place.compare('--order', 'strict', 'a', 'b')
     found = [line for line in out[2:] if line[0] != ' ']
     place.want('strict', (status, found[:2]), (1, [
-        'NFSPROC3_GETATTR reply /file 3: connection 4 server record 3 | connection 18 server record 3',
-        'only in the second run: connection 1']))
-    place.want('in words', found[-1], '60 of 61 calls matched; 19 connections reordered; 1 only in the second run; '
+        'NFSPROC3_GETATTR reply /file 3: connection 4 server record 3 | connection 18 server '
+        'record 3', 'only in the second run: connection 1']))
+    place.want('in words', found[-1],
+               '60 of 61 calls matched; 19 connections reordered; 1 only in the second run; '
                'obj.mode in 1 reply')
 
 
 def calls_between_neighbours(place: Comparisons) -> None:
-    """Calls of one procedure between the same neighbours are matched, also if they ask for something else."""
+    """Calls of one procedure between the same neighbours are matched, also if they ask for
+    something else."""
     def run(name: bytes) -> Conversation:
-        asked = [(GETATTR, fh(b'a'), ok(fattr(1, 1))),
-                 (CREATE, dirop(b'top', name) + word(0) + sattr(), ok(messages.made(None, None, wcc()))),
-                 (GETATTR, fh(b'b'), ok(fattr(1, 2)))]
-        return ([call(xid, NFS, 3, number, words) for xid, (number, words, _) in enumerate(asked)],
-                [success(xid, results) for xid, (_, _, results) in enumerate(asked)])
+        return conversation_of([(GETATTR, fh(b'a'), ok(fattr(1, 1))),
+                         (CREATE, dirop(b'top', name) + word(0) + sattr(),
+                          ok(messages.made(None, None, wcc()))),
+                         (GETATTR, fh(b'b'), ok(fattr(1, 2)))])
     place.put('a', run(b'x'))
     place.put('b', run(b'y'))
     line = 'NFSPROC3_CREATE ?/x: connection 1 client record 2 | connection 1 client record 2'
@@ -648,33 +587,34 @@ def calls_between_neighbours(place: Comparisons) -> None:
 
 
 def one_call_more_among_alike_ones(place: Comparisons) -> None:
-    """A client looks its folder up before each file, and makes a folder in it in the second run: what is looked up after that shows it,
-    and has no other turn."""
+    """A client looks its folder up before each file, and makes a folder in it in the second run:
+    what is looked up after that shows it, and has no other turn."""
     def run(is_made: bool) -> Conversation:
-        calls, replies = list[bytes](), list[bytes]()
-        def said(procedure: int, arguments: bytes, results: bytes) -> None:
-            calls.append(call(len(calls), NFS, 3, procedure, arguments))
-            replies.append(success(len(replies), ok(results)))
-        def looked_up(folder: bytes, name: bytes, kind: int, nlink: int) -> None:
-            said(LOOKUP, dirop(folder, name), fh(name) + post_op_attr(fattr(kind, 5, nlink=nlink)) + post_op_attr())
+        def found(folder: bytes, name: bytes, kind: int, nlink: int) -> Exchange:
+            return LOOKUP, dirop(folder, name), ok(
+                fh(name), post_op_attr(fattr(kind, 5, nlink=nlink)), post_op_attr())
+        steps = list[Exchange]()
         for number in range(9):
-            nlink = 3 if is_made and number > 3 else 2
-            if nlink == 3 and number == 4:
-                looked_up(b'top', b'folder', 2, 2)
-                said(MKDIR, dirop(b'folder', b'new') + sattr(), messages.made(b'new', None, wcc()))
-            looked_up(b'top', b'folder', 2, nlink)
-            looked_up(b'folder', b'file %d' % number, 1, 1)
-        return calls, replies
+            if is_made and number == 4:
+                steps += [found(b'top', b'folder', 2, 2),
+                          (MKDIR, dirop(b'folder', b'new') + sattr(),
+                           ok(messages.made(b'new', None, wcc())))]
+            steps += [found(b'top', b'folder', 2, 2 + (is_made and number > 3)),
+                      found(b'folder', b'file %d' % number, 1, 1)]
+        return conversation_of(steps)
     place.put('a', run(False))
     place.put('b', run(True))
     made = 'only in the second run: NFSPROC3_MKDIR ?/folder/new: connection 1 client record 10'
     status, out, _ = place.compare('--order', 'strict', 'a', 'b')
-    found = [line for line in place.compare('--order', 'any', 'a', 'b')[1][2:] if line.startswith('only in')]
+    found = [line for line in place.compare('--order', 'any', 'a', 'b')[1][2:]
+             if line.startswith('only in')]
     place.want('any', found, [made])
     place.want('strict', (status, [line for line in out[2:-2] if line[:2] != '  ']), (1, [
-        made, '4 replies of NFSPROC3_LOOKUP ?/folder, first: connection 1 server record 11 | connection 1 server record 13',
+        made, '4 replies of NFSPROC3_LOOKUP ?/folder, first: connection 1 server record 11 | '
+        'connection 1 server record 13',
         'only in the second run: NFSPROC3_LOOKUP ?/folder: connection 1 client record 11']))
-    place.want('in words', out[-1], '18 of 20 calls matched; 2 only in the second run; obj.nlink in 4 replies')
+    place.want('in words', out[-1],
+               '18 of 20 calls matched; 2 only in the second run; obj.nlink in 4 replies')
 
 
 def files_that_were_made_again(place: Comparisons) -> None:
@@ -682,23 +622,28 @@ def files_that_were_made_again(place: Comparisons) -> None:
     def run(order: Sequence[int], prefix: bytes) -> Conversation:
         def made(number: int) -> bytes:
             return ok(messages.made(prefix + b'%d' % number, None, wcc()))
-        steps = [(CREATE, dirop(b'top', b'x') + word(0) + sattr(), made(1)), (GETATTR, fh(prefix + b'1'), ok(fattr(1, 1, size=1))),
+        steps = [(CREATE, dirop(b'top', b'x') + word(0) + sattr(), made(1)),
+                 (GETATTR, fh(prefix + b'1'), ok(fattr(1, 1, size=1))),
                  (REMOVE, dirop(b'top', b'x'), ok(wcc())),
-                 (CREATE, dirop(b'top', b'x') + word(0) + sattr(), made(2)), (GETATTR, fh(prefix + b'2'), ok(fattr(1, 1, size=1))),
+                 (CREATE, dirop(b'top', b'x') + word(0) + sattr(), made(2)),
+                 (GETATTR, fh(prefix + b'2'), ok(fattr(1, 1, size=1))),
                  (GETATTR, fh(b'other'), ok(fattr(1, 9)))]
-        return ([call(at, NFS, 3, steps[at][0], steps[at][1]) for at in order], [success(at, steps[at][2]) for at in order])
+        return conversation_of(steps[at] for at in order)
     place.put('a', run((0, 1, 2, 3, 4, 5), b'a'))
     place.put('b', run((5, 0, 1, 2, 3, 4), b'b'))
     status, out, _ = place.compare('--order', 'any', 'a', 'b')
-    place.want('again', (status, out[2]), (0, '6 of 6 calls matched; 1 reordered; 1 reply reordered'))
+    place.want('again', (status, out[2]),
+               (0, '6 of 6 calls matched; 1 reordered; 1 reply reordered'))
 
 
 def one_name_for_many_files(place: Comparisons) -> None:
-    """A journal that is made, written and removed again and again, over any of three connections: frames say which came first. Before
-    it is removed it may be renamed, and then be looked up under its new name on another connection."""
+    """A journal that is made, written and removed again and again, over any of three connections:
+    frames say which came first. Before it is removed it may be renamed, and then be looked up under
+    its new name on another connection."""
     def run(seed: int) -> bytes:
         chance = random.Random(seed)
-        handles, talks, xids = [chance.randbytes(28) for _ in range(40)], [Talk(700 + number) for number in range(3)], iter(range(1, 999))
+        handles, talks, xids = [chance.randbytes(28) for _ in range(40)], [
+            Talk(700 + number) for number in range(3)], iter(range(1, 999))
         frames = [frame for talk in talks for frame in talk.opened()]
         def said(procedure: int, arguments: bytes, results: bytes) -> None:
             talk, xid = chance.choice(talks), next(xids)
@@ -706,11 +651,15 @@ def one_name_for_many_files(place: Comparisons) -> None:
             frames.append(talk.sent(1, messages.fragment(success(xid, ok(results)))))
         for number, handle in enumerate(handles):
             data = b'journal %d' % number
-            said(CREATE, dirop(b'top', b'journal') + word(0) + sattr(), messages.made(handle, None, wcc()))
-            said(WRITE, fh(handle) + hyper(0) + word(len(data)) + word(2) + opaque(data), wcc() + word(len(data)) + word(2) + b'verifier')
+            said(CREATE, dirop(b'top', b'journal') + word(0) + sattr(),
+                 messages.made(handle, None, wcc()))
+            said(WRITE, fh(handle) + hyper(0) + word(len(data)) + word(2) + opaque(data),
+                 wcc() + word(len(data)) + word(2) + b'verifier')
             if number % 3 == 0:
-                said(14, dirop(b'top', b'journal') + dirop(b'top', b'kept %d' % number), wcc() + wcc())
-                said(LOOKUP, dirop(b'top', b'kept %d' % number), fh(handle) + post_op_attr(fattr(1, number)) + post_op_attr())
+                said(14, dirop(b'top', b'journal') + dirop(b'top', b'kept %d' % number),
+                     wcc() + wcc())
+                said(LOOKUP, dirop(b'top', b'kept %d' % number),
+                     fh(handle) + post_op_attr(fattr(1, number)) + post_op_attr())
             else:
                 said(REMOVE, dirop(b'top', b'journal'), wcc())
         return pcap([*frames, *(frame for talk in talks for frame in talk.closed())])
@@ -718,33 +667,31 @@ def one_name_for_many_files(place: Comparisons) -> None:
         place.write('a', run(seed))
         place.write('b', run(seed + 100))
         status, out, error = place.compare('--order', 'any', 'a', 'b')
-        place.want(f'seed {seed}', (status, out[1].partition(':')[0], error), (0, 'same in another order', ''))
+        place.want(f'seed {seed}', (status, out[1].partition(':')[0], error),
+                   (0, 'same in another order', ''))
 
 
 def many_in_another_order(place: Comparisons) -> None:
-    """100,000 calls in another order: what that costs. The limits are three times what was measured."""
+    """30,000 calls in another order: what that costs. The limits are three times what was
+    measured."""
     def run(order: Sequence[int]) -> Conversation:
-        return ([call(at, NFS, 3, LOOKUP, dirop(b'top', b'file %d' % at)) for at in order],
-                [success(at, ok(fh(b'handle %d' % at), post_op_attr(fattr(1, at)), post_op_attr())) for at in order])
-    numbers = array('I', range(1, 100_001))
-    place.put('a', run(numbers))
-    place.put('b', run(sorted(numbers, key=lambda number: number ^ 5)))
-    status, lines, seconds, memory = measured(place, 'compare', '--program', place.program, '--order', 'any', 'a', 'b')
-    place.want('same', (status, lines[1][:37]), (0, 'same in another order: 100,000 calls;'))
-    place.want(f'{seconds} seconds', seconds < 60, True)
-    place.want(f'{memory} bytes', memory < 300e6, True)
+        return conversation_of((LOOKUP, dirop(b'top', b'file %d' % at), ok(
+            fh(b'handle %d' % at), post_op_attr(fattr(1, at)), post_op_attr())) for at in order)
+    place.put('a', run(range(30_000)))
+    place.put('b', run(sorted(range(30_000), key=lambda number: number ^ 5)))
+    status, lines, seconds, memory = measured(place, 'compare', '--program', place.program,
+                                              '--order', 'any', 'a', 'b')
+    place.want('same', (status, lines[1][:36]), (0, 'same in another order: 30,000 calls;'))
+    place.want(f'{seconds} seconds', seconds < 18, True)
+    place.want(f'{memory} bytes', memory < 120e6, True)
 
 
-TESTS: list[Callable[[Comparisons], None]] = [
-    runs_are_written_anew, records_of_several_fragments, orders_that_are_none, wrong_writers_are_caught, clients_at_once,
-    what_differs_is_found, calls_that_only_ask, runs_without_a_common_call, questions_that_are_changed,
-    in_which_others_worked, what_is_left_out_is_listed,
-    a_client_without_commit, ids_and_orders, seen_in_the_middle, folders_that_others_change,
-    masks_of_any_order, verifiers_that_repeat, raw_bodies_in_any_order, values_that_stand_for_others, orders_of_replies,
-    connections_by_what_they_ask,
-    calls_between_neighbours, one_call_more_among_alike_ones, files_that_were_made_again, one_name_for_many_files,
-    many_in_another_order]
-
-
-class OrdersTest(FolderTest, make=Comparisons, tests=TESTS):
+class OrdersTest(FolderTest, make=Comparisons, tests=[
+        clients_at_once, what_differs_is_found, calls_that_only_ask, runs_without_a_common_call,
+        questions_that_are_changed, in_which_others_worked, what_is_left_out_is_listed,
+        a_client_without_commit, ids_and_orders, seen_in_the_middle, folders_that_others_change,
+        masks_of_any_order, verifiers_that_repeat, raw_bodies_in_any_order,
+        values_that_stand_for_others, orders_of_replies, connections_by_what_they_ask,
+        calls_between_neighbours, one_call_more_among_alike_ones, files_that_were_made_again,
+        one_name_for_many_files, many_in_another_order]):
     """Each test has a folder of its own."""

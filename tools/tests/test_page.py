@@ -1,170 +1,89 @@
-"""Tests of the page that tools/compare --html writes: what it has, and how it shows in Chromium.
-
-What needs Chromium is skipped, with a word, if it is not installed.
-"""
-import json
-import os
+"""Tests of the page that tools/compare --html writes: each of its parts, and its use in
+Chromium."""
+import itertools
 import re
-import struct
 import sys
-import time
-import unittest
-from collections import Counter
-from collections.abc import Callable, Iterator, Sequence
-from html.parser import HTMLParser
+from collections.abc import Sequence
 
 from examples.messages import (
-    MOUNT, NFS, array, call, dirop, entries, entryplus, failed, fattr, fh, fragment, guard, hyper, ok,
-    opaque, post_op_attr, sattr, success, wcc, word)
+    ACCES, MOUNT, NFS, array, call, dirop, entries, entry, entryplus, failed, fattr, fh, fragment,
+    guard, hyper, ok, opaque, post_op_attr, sattr, success, wcc, word)
 from examples.packets import Talk, pcap
 from tests.shared.running import ended
 
-from ..nfs3tools.exchanges.listing import Message
-from ..nfs3tools.comparison.verdict.cover import Size
-from ..nfs3tools.comparison.verdict.differences import Difference
-from ..nfs3tools.comparison.verdict.findings import Compared, Finding, Run
-from ..nfs3tools.comparison.verdict.report import Report
-from ..nfs3tools.reporting import pages
-from ..nfs3tools.reporting.pages import Content, Recorded
-from .browser import Browser, chromium
+from .browser import Browser
 from .cases import FolderTest
-from .scripts import TOP, WITH_TOOLS
-from .test_compare import CHANGED, EXAMPLES, FIRST, SECOND, Comparisons, Conversation, many_calls
+from .pages import (
+    HERE, HOSTILE, SHOWN, VISIBLE, WIDTHS, Node, Pages, asked_of_others, broken_links, find,
+    in_chromium, light_of, table_of)
+from .scripts import WITH_TOOLS
+from .test_compare import (
+    CHANGED, EXAMPLES, FIRST, SECOND, Comparisons, Conversation, Exchange, conversation_of)
 
-GETATTR, SETATTR, LOOKUP, ACCESS, READLINK, READ, WRITE, MKDIR, READDIRPLUS = 1, 2, 3, 4, 5, 6, 7, 9, 17
-VOID = ('meta', 'input')
-WIDTHS = (480, 1300)
+GETATTR, SETATTR, LOOKUP, READLINK, READ, WRITE, MKDIR, READDIR, READDIRPLUS = (
+    1, 2, 3, 5, 6, 7, 9, 16, 17)
 CONCURRENT = tuple(str(EXAMPLES / f'concurrent_{name}.pcap') for name in ('a', 'b', 'changed'))
 
 
-# --- Pages as trees ---
-
-class Node:
-    """An element of a page: its attributes, and its texts and elements in their order."""
-
-    def __init__(self, tag: str, attributes: dict[str, str]) -> None:
-        self.tag, self.attributes = tag, attributes
-        self.parts: list['str | Node'] = []
-
-    def nodes(self) -> Iterator['Node']:
-        """All elements in this one."""
-        for part in self.parts:
-            if isinstance(part, Node):
-                yield part
-                yield from part.nodes()
-
-    def all(self, tag: str, name: str = '') -> list['Node']:
-        """The elements in this one of a tag, and of a class if one is named."""
-        return [node for node in self.nodes() if node.tag == tag and (not name or name in node.attributes.get('class', '').split())]
-
-    def text(self) -> str:
-        """The text in this element, with one space in place of several. Neither a style nor a script is text."""
-        parts = (part if isinstance(part, str) else '' if part.tag in ('style', 'script') else part.text() for part in self.parts)
-        return re.sub(r'\s+', ' ', ''.join(parts))
-
-
-class Tree(HTMLParser):
-    """Reads a page, each of whose elements has to be closed but for the void ones."""
-
-    def __init__(self) -> None:
-        super().__init__()
-        self.open = [Node('', {})]
-
-    def handle_starttag(self, tag: str, attrs: list[tuple[str, str | None]]) -> None:
-        node = Node(tag, {name: value or '' for name, value in attrs})
-        self.open[-1].parts.append(node)
-        if tag not in VOID:
-            self.open.append(node)
-
-    def handle_endtag(self, tag: str) -> None:
-        if self.open[-1].tag != tag:
-            raise ValueError(f'</{tag}> ends <{self.open[-1].tag}>')
-        self.open.pop()
-
-    def handle_data(self, data: str) -> None:
-        self.open[-1].parts.append(data)
-
-
-def tree_of(text: str) -> Node:
-    tree = Tree()
-    tree.feed(text)
-    tree.close()
-    if len(tree.open) != 1:
-        raise ValueError(f'<{tree.open[-1].tag}> is not closed')
-    return tree.open[0]
-
-
-class Pages(Comparisons):
+class Compared(Comparisons, Pages):
     """Runs of tools/compare that write a page."""
 
     def page(self, *words: str) -> Node:
         """The page of two runs: of `a` and `b` if none are named."""
         runs = () if words and not words[-1].startswith('-') else ('a', 'b')
         self.compare('--html', 'page.html', *words, *runs)
-        return tree_of((self.read('page.html') or b'').decode())
+        return self.written()
 
-    def browser(self) -> Browser:
-        os.makedirs(self.path('chromium'), exist_ok=True)
-        return Browser(self.path('chromium'))
+    def page_of(self, first: Conversation, second: Conversation, *words: str) -> Node:
+        """The page of two runs of one connection."""
+        self.put('a', first)
+        self.put('b', second)
+        return self.page(*words)
 
-
-def table_of(node: Node) -> list[list[str]]:
-    """The texts of a table's cells, row by row."""
-    return [[cell.text().strip() for cell in row.nodes() if cell.tag in ('td', 'th')] for row in node.all('tr')]
-
-
-def runs_of(page: Node) -> dict[str, list[str]]:
-    return {row[0]: row[1:] for row in table_of(page.all('table', 'runs')[0])}
-
-
-def rows_and_gaps(page: Node) -> list[str]:
-    """What the page has of calls: a sign and the records for each row, and the words of each gap."""
-    found = []
-    for node in page.all('section')[-1].nodes():
-        if 'row' in node.attributes.get('class', '').split():
-            text = node.all('summary')[0].text()
-            found.append(' '.join([text.split()[0], *re.findall(r'record (\d+)', text)]))
-        elif 'gap' in node.attributes.get('class', '').split():
-            found.append(node.text())
-    return found
-
-
-def broken_links(page: Node) -> list[str]:
-    """The links that lead nowhere."""
-    names = {'#' + node.attributes['id'] for node in page.nodes() if 'id' in node.attributes}
-    return [one.attributes['href'] for one in page.all('a') if one.attributes['href'] not in names]
+    def opened(self, browser: Browser, *words: str) -> Node:
+        """The page of two runs, which Chromium shows."""
+        page = self.page(*words)
+        browser.open(self.path('page.html'))
+        return page
 
 
 # --- Made runs ---
 
+def mounted(path: bytes, steps: Sequence[Exchange]) -> Conversation:
+    """A mount, whose folder has the handle `top`, and steps after it."""
+    calls, replies = conversation_of(steps, 2)
+    return ([call(1, MOUNT, 3, 1, opaque(path)), *calls],
+            [success(1, ok(fh(b'top'), array([]))), *replies])
+
+
+def looked_up(name: bytes, handle: bytes, fileid: int | None = None) -> Exchange:
+    attributes = None if fileid is None else fattr(1, fileid)
+    return LOOKUP, dirop(b'top', name), ok(fh(handle), post_op_attr(attributes), post_op_attr())
+
+
 def asked(modes: Sequence[int], name: bytes = b'f') -> Conversation:
-    """A mount of `/m`, LOOKUP and GETATTR of a file for each mode, with which GETATTR is answered. Their names have a number each."""
-    calls, replies = [call(1, MOUNT, 3, 1, opaque(b'/m'))], [success(1, ok(fh(b'top'), array([])))]
-    for number, mode in enumerate(modes):
-        xid, handle = 2 * number + 2, b'%d' % number
-        calls += [call(xid, NFS, 3, LOOKUP, dirop(b'top', name + handle)), call(xid + 1, NFS, 3, GETATTR, fh(handle))]
-        replies += [success(xid, ok(fh(handle), post_op_attr(), post_op_attr())), success(xid + 1, ok(fattr(1, number + 2, 0, mode)))]
-    return calls, replies
+    """LOOKUP of a file of `/m` for each mode, and GETATTR, which returns the mode."""
+    both = ((looked_up(name + b'%d' % at, b'%d' % at),
+             (GETATTR, fh(b'%d' % at), ok(fattr(1, at + 2, 0, mode))))
+            for at, mode in enumerate(modes))
+    return mounted(b'/m', [*itertools.chain.from_iterable(both)])
 
 
 def link(path: bytes, status: int = 0) -> Conversation:
     """READLINK of a link with this path, or one that fails."""
-    reply = failed(status, post_op_attr()) if status else ok(post_op_attr(), opaque(path))
-    return [call(1, NFS, 3, READLINK, fh(b'link'))], [success(1, reply)]
+    results = failed(status, post_op_attr()) if status else ok(post_op_attr(), opaque(path))
+    return conversation_of([(READLINK, fh(b'link'), results)])
 
 
-def gets(modes: Sequence[int], made_before: Sequence[int] = (), xid: int = 1) -> Conversation:
-    """GETATTR of one file, which has each mode in turn. Before some of them, by index, there is a MKDIR of another name each time."""
-    calls, replies = list[bytes](), list[bytes]()
+def gets(modes: Sequence[int], made_before: Sequence[int] = ()) -> Conversation:
+    """GETATTR of one file, which has each mode in turn. Before some of them, by index, there is a
+    MKDIR of another name each time."""
+    steps = list[Exchange]()
     for index, mode in enumerate(modes):
-        for number in range(made_before.count(index)):
-            calls.append(call(xid, NFS, 3, MKDIR, dirop(b'top', b'new%d %d' % (index, number)) + sattr()))
-            replies.append(success(xid, failed(13, wcc())))
-            xid += 1
-        calls.append(call(xid, NFS, 3, GETATTR, fh(b'file')))
-        replies.append(success(xid, ok(fattr(1, 5, index, mode))))
-        xid += 1
-    return calls, replies
+        steps += [(MKDIR, dirop(b'top', b'new%d %d' % (index, at)) + sattr(), failed(ACCES, wcc()))
+                  for at in range(made_before.count(index))]
+        steps.append((GETATTR, fh(b'file'), ok(fattr(1, 5, index, mode))))
+    return conversation_of(steps)
 
 
 def with_modes(number: int, *changed: int) -> list[int]:
@@ -172,138 +91,194 @@ def with_modes(number: int, *changed: int) -> list[int]:
     return [0o600 if at in changed else 0o640 for at in range(number)]
 
 
-# --- The top ---
-
-def frames_with_payload(path: str) -> list[tuple[int, str]]:
-    """The numbers and times of the frames of a recording (Ethernet, IPv4) that have TCP payload, by a way of our own."""
-    with open(path, 'rb') as file:
-        content = file.read()
-    at, number, found = 24, 0, []
-    while at < len(content):
-        seconds, micros, size, _ = struct.unpack('<IIII', content[at:at + 16])
-        packet, at, number = content[at + 30:at + 16 + size], at + 16 + size, number + 1
-        header = 4 * (packet[0] & 15)
-        if int.from_bytes(packet[2:4], 'big') > header + 4 * (packet[header + 12] >> 4):
-            found.append((number, time.strftime('%Y-%m-%d %H:%M:%S', time.gmtime(seconds)) + f'.{micros:06}000 UTC'))
-    return found
+SENTENCE = b'This is the same in every run, and it is long enough that nobody reads all of it.\n'
 
 
-def the_top(place: Pages) -> None:
-    """The verdict in words and as it is printed, both runs, and what is masked."""
+def worked(text: bytes, *made_at: int) -> Conversation:
+    """A file of `/hold` that is written and read twice among 40 GETATTRs, and SETATTRs of another
+    after some of these."""
+    steps = [looked_up(b'f1', b'f1', 7), looked_up(b'f2', b'f2', 8)]
+    count, at_0 = word(len(text)), fh(b'f2') + hyper(0)
+    for at in range(40):
+        steps.append((GETATTR, fh(b'f2'), ok(fattr(1, 8, at))))
+        if at == 10:
+            steps.append((WRITE, at_0 + count + word(2) + opaque(text),
+                          ok(wcc(), count, word(2), bytes(8))))
+        if at in (15, 20):
+            steps.append((READ, at_0 + word(4096),
+                          ok(post_op_attr(), count, word(1), opaque(text))))
+        steps += [(SETATTR, fh(b'f1') + sattr(mode=0o640) + guard(), ok(wcc()))] * made_at.count(at)
+    return mounted(b'/hold', steps)
+
+
+NULLS = [call(at, NFS, 3, 0) for at in range(5)], [success(at) for at in range(5)]
+
+
+# --- What a page says of both runs ---
+
+def runs_of(page: Node) -> dict[str, list[str]]:
+    return {row[0]: row[1:] for row in table_of(page.all('table', 'runs')[0])}
+
+
+def head_and_counts(place: Compared) -> None:
+    """The verdict in words and as it is printed, both runs, and what is masked. The frames are
+    those that tshark calls the first and the last with payload."""
     page = place.page(FIRST, CHANGED)
-    place.want('words', [one.text() for one in page.all('h1')], ['The runs differ'])
-    place.want('at a glance', glance_of(page), 'rtmax, rtpref, wtmax, .. of /mem (1 FSINFO reply)')
+    place.want('words', page.texts('h1'), ['The runs differ'])
     about, = page.all('details', 'about')
-    place.want('folded', (about.attributes.get('open'), about.all('summary')[0].text()), (None, 'About these runs'))
-    place.want('printed', about.all('code')[0].text(), 'differ at connection 2 server record 2')
-    words = '103 of 103 calls matched; rtmax in 1 reply; rtpref in 1 reply; wtmax in 1 reply; wtpref in 1 reply.'
-    place.want('in words', words in [one.text() for one in about.all('p')], True)
-    place.want('all of it', [[len(node.all(tag)) for tag in ('table', 'dl')] for node in (about, page.all('section')[0])], [[1, 1], [1, 0]])
-    runs, ends = runs_of(page), [frames_with_payload(path) for path in (FIRST, CHANGED)]
-    place.want('name', runs['name'], [FIRST, CHANGED])
-    place.want('file', runs['file'], [f'{os.path.getsize(path):,} bytes' for path in (FIRST, CHANGED)])
-    place.want('first', runs['first frame'], [f'{some[0][1]}, frame {some[0][0]}' for some in ends])
-    place.want('last', runs['last frame'], [f'{some[-1][1]}, frame {some[-1][0]}' for some in ends])
-    place.want('how much', (runs['calls'], runs['connections']), (['103'] * 2, ['3'] * 2))
-    place.want('no losses', [name for name in runs if name in ('missing', 'calls left out', 'only in this run')], [])
+    place.want('folded', ('open' in about.attributes, about.texts('summary')),
+               (False, ['About these runs']))
+    place.want('printed', about.texts('code')[0], 'differ at connection 2 server record 2')
+    place.want('in words', '103 of 103 calls matched; rtmax in 1 reply; rtpref in 1 reply; '
+               'wtmax in 1 reply; wtpref in 1 reply.' in about.texts('p'), True)
+    place.want('all of it', [len(page.all(tag)) - len(about.all(tag)) for tag in ('table', 'dl')],
+               [1, 0])
     place.want('masked', 'times=zero, stamps=zero' in page.all('dl')[0].text(), True)
-    place.put('a', gets([1]))
-    runs = runs_of(place.page('a', FIRST))
-    place.want('a capture has no times', (runs['first frame'][0], runs['first frame'][1][:4]), ('no frames', '2026'))
+    place.want('runs', table_of(about.all('table', 'runs')[0])[:7], [
+        ['', '- first run', '+ second run'], ['name', FIRST, CHANGED],
+        ['file', '63,396 bytes', '63,396 bytes'],
+        ['first frame', '2026-11-24 10:22:02.527555000 UTC, frame 4',
+         '2026-11-24 10:22:29.141916000 UTC, frame 4'],
+        ['last frame', '2026-11-24 10:22:02.534426000 UTC, frame 223',
+         '2026-11-24 10:22:29.156347000 UTC, frame 223'],
+        ['calls', '103', '103'], ['connections', '3', '3']])
+    place.want('no losses', runs_of(page).keys() & {'missing', 'calls left out',
+                                                    'only in this run'},
+               set())
 
 
-def null(xid: int) -> bytes:
-    return call(xid, NFS, 3, 0)
-
-
-def what_does_not_count(place: Pages) -> None:
-    """What is left out, ignored or missing stands at the top."""
+def what_does_not_count(place: Compared) -> None:
+    """What is left out, ignored or missing is in the table of both runs, or below it."""
     calls, replies = gets(with_modes(9, 3, 4))
-    again = call(99, NFS, 3, GETATTR, fh(b'file')), success(99, ok(fattr(1, 5, 8, 0o640)))
-    place.put('a', ([*calls, again[0]], [*replies, again[1]]))
-    place.put('b', gets(with_modes(9)))
-    page = place.page('--ignore=*.mode')
+    again = conversation_of([(GETATTR, fh(b'file'), ok(fattr(1, 5, 8, 0o640)))], 99)
+    page = place.page_of((calls + again[0], replies + again[1]), gets(with_modes(9)),
+                         '--ignore=*.mode')
     runs = runs_of(page)
-    place.want('left out', (runs['calls left out'], 'only in this run' in runs), (['1 GETATTR', 'nothing'], False))
-    place.want('ignored', '*.mode: obj.mode of NFSPROC3_GETATTR 2.' in page.all('dl')[0].text(), True)
+    place.want('left out', (runs['calls left out'], 'only in this run' in runs,
+                            'first frame' in runs),
+               (['1 GETATTR', 'nothing'], False, False))
+    place.want('ignored', '*.mode: obj.mode of NFSPROC3_GETATTR 2.' in page.all('dl')[0].text(),
+               True)
     place.want('all is ignored', 'All fields that differ are ignored.' in page.text(), True)
     place.want('marks', [one for one in rows_and_gaps(page) if one[0] == '≠'], ['≠ 4 4', '≠ 5 5'])
     talk = Talk()
-    bodies = [body for at in range(4) for body in (null(at), success(at))]
-    frames = [*talk.opened(), *(talk.sent(number % 2, fragment(body)) for number, body in enumerate(bodies))]
+    frames = [*talk.opened(), *(talk.sent(side, fragment(NULLS[side][at]))
+                                for at in range(4) for side in (0, 1))]
     place.write('lossy', pcap([*frames[:-1], *talk.closed()]))
     page = place.page('--allow-losses', 'lossy', 'lossy')
     place.want('missing', runs_of(page)['missing'], ['28 bytes', '28 bytes'])
-    place.want('in part', [one.text() for one in page.all('h1')], ['The runs are the same in part'])
+    place.want('in part', [(one.text(), one.classes) for one in page.all('h1')],
+               [('The runs are the same in part', ['part'])])
+    place.put('c', gets([1]))
+    place.want('a capture has no times',
+               runs_of(place.page('c', 'lossy'))['first frame'][0], 'no frames')
 
 
-def turned(*order: int) -> Conversation:
-    """Three LOOKUPs in an order. File ids are given in the order of time, and given again: no renaming of them is one to one."""
-    calls, replies, ids = list[bytes](), list[bytes](), iter((7, 8, 7))
-    for xid in order:
-        calls.append(call(xid, NFS, 3, LOOKUP, dirop(b'top', b'%d' % xid)))
-        replies.append(success(xid, ok(fh(b'handle %d' % xid), post_op_attr(fattr(1, next(ids))), post_op_attr())))
-    return calls, replies
-
-
-def other_verdicts(place: Pages) -> None:
-    """Pages of runs that are the same, in another order, and of empty connections. Of a run without calls there is none."""
-    def wants(what: str, page: Node, heading: str, remark: str, calls: str) -> None:
-        place.want(what, ([one.text() for one in page.all('h1')], remark in page.text(), page.all('section')[-1].text()),
-                   ([heading], True, 'Calls' + calls))
-    wants('same', place.page(FIRST, SECOND), 'The runs are the same', 'Nothing differs but what is masked.',
-          '103 equal calls in 3 connections')
-    wants('another order', place.page(*CONCURRENT[:2]), 'The runs are the same in another order', 'Nothing differs but the order.',
-          '100 equal calls in 12 connections')
-    place.put('a', ([null(1)], [success(1)]))
-    place.put('b', ([null(1)], [success(1)]), ([], []))
-    wants('empty connections', place.page(), 'The runs differ', 'Only which messages share a value, or empty connections, can.',
-          '1 equal call in 1 connection')
+def verdicts_in_words(place: Compared) -> None:
+    """Pages of runs that are the same, in another order, and of empty connections. Of a run without
+    calls there is none."""
+    def wants(heading: str, remark: str, calls: str, *words: str) -> None:
+        page = place.page(*words)
+        place.want(heading, (page.texts('h1'), remark in page.text(),
+                             page.all('section')[-1].text()),
+                   ([f'The runs {heading}'], True, 'Calls' + calls))
+    wants('are the same', 'Nothing differs but what is masked.', '103 equal calls in 3 connections',
+          FIRST, SECOND)
+    wants('are the same in another order', 'Nothing differs but the order.',
+          '100 equal calls in 12 connections', *CONCURRENT[:2])
+    place.put('a', NULLS)
+    place.put('b', NULLS, ([], []))
+    wants('differ', 'Only which messages share a value, or empty connections, can.',
+          '5 equal calls in 1 connection')
     place.put('b', ([], []))
-    place.want('no calls', (place.compare('--html', 'none', 'a', 'b')[0], 'none' in place.names()), (2, False))
-    place.put('a', turned(1, 2, 3))
-    place.put('b', turned(2, 1, 3))
-    page = place.page()
-    place.want('ids', (page.all('h1')[0].text(), 'fsids and ids follow their objects' in page.text()),
-               ('The runs are the same in another order', True))
+    place.want('no calls', (place.compare('--html', 'none', 'a', 'b')[0], place.read('none')),
+               (2, None))
+    # (ids are given in the order of time, and again: no renaming of them is one to one)
+    first, second = (conversation_of([looked_up(name, name, fileid)
+                               for name, fileid in zip(names, (7, 8, 7))])
+                     for names in ((b'1', b'2', b'3'), (b'2', b'1', b'3')))
+    page = place.page_of(first, second)
+    place.want('ids', (page.texts('h1'), 'fsids and ids follow their objects' in page.text()),
+               (['The runs are the same in another order'], True))
+
+
+def glance_of(page: Node) -> str:
+    return ''.join(page.texts('p', 'glance'))
+
+
+def at_a_glance(place: Compared) -> None:
+    """Under the title is what differs, with its paths. Of values only those are shown that are the
+    same in all messages, known in both runs, and whole."""
+    def wants(what: str, first: Conversation, second: Conversation, *words: str) -> Node:
+        page = place.page_of(first, second,
+                             *(['--order=strict'] if 'reordered' in words[0] else []))
+        place.want(what, glance_of(page).split(' · '), [*words])
+        return page
+    place.want('a recording', glance_of(place.page(FIRST, CHANGED)),
+               'rtmax, rtpref, wtmax, .. of /mem (1 FSINFO reply)')
+    text, more = worked(SENTENCE), '1 SETATTR only in the second run: /hold/f1 mode 0640'
+    calls = '(1 WRITE, 2 READs)'
+    page = wants('data', text, worked(SENTENCE.replace(b'same', b'sAme'), 30),
+                 f'1 byte of /hold/f2 {calls}', more)
+    place.want('paths', page.all('p', 'glance')[0].texts('code'), ['/hold/f2', '/hold/f1'])
+    order = [node.tag for node in page.nodes()
+             if node.tag in ('h1', 'section') or {'glance', 'about'} & set(node.classes)]
+    place.want('order', order, ['h1', 'p', 'details', 'section', 'section', 'section'])
+    wants('several', text, worked(SENTENCE[:20], 30, 31), f'bytes of /hold/f2 {calls}',
+          '2 SETATTRs only in the second run: /hold/f1', 'count of /hold/f2: 82 → 20 (1 WRITE)',
+          'count of /hold/f2: 82 → 20 (3 replies to WRITE, READ)')
+    wants('fields', asked([0o640] * 3), asked([0o640, 0o600, 0o600]),
+          'obj.mode of 2 paths, the first /m/f1: 0640 → 0600 (2 GETATTR replies)')
+    wants('other values', asked([0o640] * 3), asked([0o641, 0o600, 0o600]),
+          'obj.mode of 3 paths, the first /m/f0 (3 GETATTR replies)')
+    wants('a status', link(b'x'), link(b'y', ACCES),
+          'status: NFS3_OK → NFS3ERR_ACCES (1 READLINK reply)')
+    wants('a path', link(b'x'), link(b'y'), 'path: "x" → "y" (1 READLINK reply)')
+    wants('a path that is cut', link(b'x' * 62), link(b'y'), 'path (1 READLINK reply)')
+    def listed(*names: bytes) -> Conversation:
+        some = entries(None, bytes(8), [entry(1, name, 0) for name in names], is_end=True)
+        return conversation_of([(READDIR, fh(b'top') + bytes(20), ok(some))])
+    wants('of one run', listed(b'a'), listed(b'a', b'b'), 'entry.name (1 READDIR reply)')
+    (calls_of, replies), turned = asked([1, 2, 3]), (1, 2, 5, 6, 3, 4)
+    wants('order', (calls_of, replies), ([calls_of[0], *(calls_of[at] for at in turned)], replies),
+          '2 calls reordered')
+    place.put('a', asked([0o640]), gets([0o640]))
+    place.put('b', asked([0o600]), gets([0o600]))
+    place.want('a path is not known', glance_of(place.page()),
+               'obj.mode of /m/f0 and others: 0640 → 0600 (2 GETATTR replies)')
+    place.put('a', NULLS, gets([1, 2]))
+    place.put('b', NULLS)
+    place.want('a connection', glance_of(place.page()), '1 connection only in the first run')
 
 
 # --- What differs ---
 
-def counts_lead_to_findings(place: Pages) -> None:
+def kinds_of_differences(place: Compared) -> None:
     """Each field of each procedure has its count, which leads to the first finding that has it."""
     place.put('a', asked([0o640] * 3), gets([0o640, 0o600]), link(b'x'))
     place.put('b', asked([0o640, 0o600, 0o600]), gets([0o640, 0o604], [1]), link(b'y'))
     page = place.page()
     table = page.all('table')[1]
     place.want('counts', table_of(table)[1:], [
-        ['GETATTR', 'obj.mode', '2 paths', '3'], ['MKDIR', 'only in the second run', '/m/new1 0', '1'], ['READLINK', 'path', '', '1']])
-    articles = {one.attributes['id']: one.text() for one in page.all('article')}
-    links = [one.attributes['href'][1:] for one in table.all('a')]
-    place.want('links', links, ['f1', 'f3', 'f4'])
-    place.want('where they lead', [said in articles[name] for name, said in zip(links, ('obj.mode=0640 (416)', 'NFSPROC3_MKDIR', 'path='))],
-               [True] * 3)
+        ['GETATTR', 'obj.mode', '2 paths', '3'],
+        ['MKDIR', 'only in the second run', '/m/new1 0', '1'], ['READLINK', 'path', '', '1']])
+    place.want('how many', page.texts('h2')[1], '4 differences in 5 messages')
+    articles = {'#' + one.attributes['id']: one.text() for one in page.all('article')}
+    links = [one.attributes['href'] for one in table.all('a')]
+    place.want('links', links, ['#f1', '#f3', '#f4'])
+    place.want('where they lead', [said in articles[name] for name, said in zip(
+        links, ('obj.mode=0640 (416)', 'NFSPROC3_MKDIR', 'path='))], [True] * 3)
     place.want('broken links', broken_links(page), [])
 
 
-def findings_of_a_page(place: Pages) -> None:
-    """A finding has its path, both places, frames and filters, and the values with signs."""
-    article, = place.page(FIRST, CHANGED).all('article')
-    place.want('heading', article.all('h3')[0].text(), '1 NFSPROC3_FSINFO reply /mem')
-    place.want('places', [one.text().strip() for one in article.all('div', 'place')],
-               [f'{sign}connection 2 server record 2 (frame 21) frame.number == 21' for sign in '-+'])
-    place.want('to copy', ([one.text() for one in article.all('code', 'filter')], len(article.all('button', 'copy'))),
-               (['frame.number == 21'] * 2, 2))
-    values = [[f'- {name}=67108864', f'+ {name}=65536'] for name in ('rtmax', 'rtpref', 'wtmax', 'wtpref')]
-    place.want('values', [one.text() for one in article.all('div', 'change')[0].all('div')], sum(values, []))
-    place.put('a', gets([1]))
-    place.put('b', gets([2]))
-    place.want('a capture has no frames', [one.text() for one in place.page().all('div', 'place')],
-               [f'{sign}connection 1 server record 1' for sign in '-+'])
+def changes_of(node: Node) -> list[str]:
+    """The lines of what differs."""
+    return [one.text() for change in node.all('div', 'change') for one in change.all('div')]
 
 
-def parts_of_a_recording(place: Pages) -> None:
-    """A filter is for the part of a recording that has the frame, with the numbers of that part."""
+def differences(place: Compared) -> None:
+    """A finding has its path, both positions with frames and filters of the part of a recording
+    that has them, and its values."""
     with open(CHANGED, 'rb') as file:
         content = file.read()
     ends = [24]
@@ -312,405 +287,280 @@ def parts_of_a_recording(place: Pages) -> None:
     place.write('run.pcap1', content[:ends[15]])
     place.write('run.pcap2', content[:24] + content[ends[15]:])
     article, = place.page(FIRST, 'run.pcap*').all('article')
+    place.want('heading', article.texts('h3'), ['1 NFSPROC3_FSINFO reply /mem'])
     where = 'connection 2 server record 2 (frame 21)'
-    place.want('places', [one.text().strip() for one in article.all('div', 'place')],
+    place.want('positions', article.texts('div', 'place'),
                [f'-{where} frame.number == 21', f'+{where} run.pcap2: frame.number == 6'])
+    place.want('to copy', (article.texts('code', 'filter'), len(article.all('button', 'copy'))),
+               (['frame.number == 21', 'frame.number == 6'], 2))
+    place.want('values', changes_of(article), [
+        line for name in ('rtmax', 'rtpref', 'wtmax', 'wtpref')
+        for line in (f'- {name}=67108864', f'+ {name}=65536')])
 
 
-def findings_that_say_the_same(place: Pages) -> None:
-    """They are one, and the places of 300 others are listed."""
-    place.put('a', asked([0o640] * 400))
-    place.put('b', asked([0o600] * 352 + [0o640] * 48))
-    page = place.page()
+def differences_that_say_the_same(place: Compared) -> None:
+    """They are one, with 300 positions. What one run alone has is said with its arguments."""
+    page = place.page_of(asked([0o640] * 400), asked([0o600] * 352 + [0o640] * 48))
     article, = page.all('article')
-    place.want('heading', article.all('h3')[0].text(), '1 352 replies of NFSPROC3_GETATTR /m/f0, the first of 352 paths')
-    others = article.all('li')
-    place.want('others', (len(others), others[0].text(), others[-1].text()), (
-        300, '/m/f1: connection 1 server record 5 | connection 1 server record 5',
-        '/m/f300: connection 1 server record 603 | connection 1 server record 603'))
-    place.want('more', (article.all('summary')[0].text(), article.all('p')[-1].text()), ('351 positions more', '.. and 51 more'))
-    place.want('how many', page.all('h2')[1].text(), '1 difference in 352 messages')
+    place.want('many', article.texts('h3'),
+               ['1 352 replies of NFSPROC3_GETATTR /m/f0, the first of 352 paths'])
+    others, position = article.texts('li'), 'connection 1 server record %d'
+    place.want('others', (len(others), others[0], others[-1]), (
+        300, f'/m/f1: {position % 5} | {position % 5}',
+        f'/m/f300: {position % 603} | {position % 603}'))
+    place.want('more', (article.texts('summary'), article.texts('p')[-1]),
+               (['351 positions more'], '.. and 51 more'))
+    place.want('how many', page.texts('h2')[1], '1 difference in 352 messages')
+    article, = place.page_of(worked(SENTENCE), worked(SENTENCE, 30)).all('article')
+    place.want('a call of one run', (article.texts('h3'), changes_of(article)),
+               (['1 only in the second run: NFSPROC3_SETATTR call /hold/f1'],
+                ['+ set.mode=0640 (416)']))
+    calls, replies = asked([1])
+    more = conversation_of([(GETATTR, fh(b'0'), ok(fattr(1, 2, 0, 1)))], 9)
+    page = place.page_of((calls, replies), (calls + more[0], replies + more[1]), '--extra=none')
+    place.want('no arguments', page.texts('p', 'quiet')[:1], ['It has no arguments but its path.'])
+    place.put('a', gets([1] * 4))
+    place.put('b', gets([1] * 4), gets([5] * 6, range(6)))
+    article, = place.page('b', 'a').all('article')
+    place.want('a connection of one run', article.texts('h3') + article.texts('p'), [
+        '1 only in the first run: connection 2',
+        'a connection of 12 calls that the other run does not have', 'among the calls around it'])
 
 
-def long_messages(place: Pages) -> None:
-    """A finding has 200 fields at most, and a message in a row 6,000 characters of fields; then how many more."""
-    def listing(mode: int) -> Conversation:
-        listed = [entryplus(number, b'%03d' % number, number, fattr(1, number, mode=mode), b'%d' % number) for number in range(300)]
-        return [call(1, NFS, 3, READDIRPLUS, fh(b'top') + bytes(24))], [success(1, ok(entries(None, bytes(8), listed, is_end=True)))]
-    place.put('a', listing(0o640))
-    place.put('b', listing(0o600))
-    page = place.page()
-    values = [one.text() for one in page.all('div', 'change')[0].all('div')]
-    place.want('finding', (len(values), values[0], values[-2:]), (
-        401, '- entry "000".mode=0640 (416)', ['+ entry "199".mode=0600 (384)', '.. and 100 more fields']))
-    # (the head of RPC is by itself, and what the finding tells comes before both)
-    lines, every = fields_of(page)[2], 3 + 300 * 24 + 2 - 300
-    more = int(re.sub('[^0-9]', '', lines[-1]))
-    place.want('row', (5_000 < sum(map(len, lines)) < 6_100, lines[-1][:7], more + len(lines) - 1), (True, '.. and ', every))
-
-
-def places_of_many_findings(place: Pages) -> None:
-    """Of many findings that each say the same as many others, 20,000 places are listed."""
-    findings = list[Finding]()
-    for number in range(22_000):
-        message = Message(1, 'server', number + 1, 1, 'NFSPROC3_GETATTR')
-        difference = Difference('mode', str(number % 100), '1000', label='obj.mode', field='obj.mode')
-        findings.append(Finding('changed', message, message, None, (difference,)))
-    report = Report('differ', {}, ('a', 'b'), (Size(22_000, 1),) * 2)
-    runs, recorded = [Run(name, lambda: (), lambda message: ()) for name in 'ab'], [Recorded(None, None, ())] * 2
-    content = Content('differ', report, Compared(findings), [], Counter(), runs, recorded)
-    articles = tree_of(''.join(pages.page(content))).all('article')
-    place.want('places', [(len(one.all('li')), one.all('p')[-1].text()) for one in articles], [(200, '.. and 19 more')] * 100)
-
-
-def two_thousand_findings(place: Pages) -> None:
-    """There are at most so many, then how many more. No piece of a page is large."""
-    place.put('a', gets(list(range(2_500))))
-    place.put('b', gets(list(range(3_000, 5_500))))
-    page = place.page()
-    articles = page.all('article')
-    place.want('how many', (len(articles), articles[-1].text()[:5]), (2_000, '2000 '))
-    place.want('more', [one.text() for one in page.all('p') if one.attributes.get('id') == 'more'],
-               ['.. and 500 messages more. --json FILE writes all.'])
-    calls = rows_and_gaps(page)
-    place.want('calls', (calls[0], calls[1_999], calls[-1], len(calls)), ('≠ 1 1', '≠ 2000 2000', '497 calls that differ', 2_004))
-    place.want('broken links', broken_links(page), [])
-    _, _, error = ended([sys.executable, '-c', PIECES, '--program', place.program, '--html', 'page.html', 'a', 'b'], place.folder, env=WITH_TOOLS).text()
-    number, largest = map(int, error.split())
-    place.want(f'{number} pieces of up to {largest} characters', (number > 6_000, largest < 20_000), (True, True))
-
-
-def two_thousand_calls_of_the_second_run(place: Pages) -> None:
-    """Those that are not shown are counted."""
-    place.put('a', gets([1] * 9))
-    place.put('b', gets([1] * 9, [5] * 2_100))
-    calls = rows_and_gaps(place.page())
-    place.want('calls', (calls[:5], calls[5:2_003], calls[2_003:]), (
-        ['2 equal calls', '= 3 3', '= 4 4', '= 5 5', '+ 6'], [f'+ {record}' for record in range(7, 2_005)],
-        ['+ 2005', '4 equal calls', '100 calls more are only in the second run']))
-
-
-# Compares, and prints the number of pieces of the page and the size of the largest.
-PIECES = """import sys
-from nfs3tools.commands import compare
-def measured(path, pieces, inputs):
-    sizes = [len(piece) for piece in pieces]
-    print(len(sizes), max(sizes), file=sys.stderr)
-compare.write_file = measured
-compare.main(sys.argv[1:])
-"""
-
-
-def size_of_a_page(place: Pages) -> None:
-    """At most 2 MB for 100,000 calls of which 10 differ."""
-    changed = [7_001 + 9_000 * number for number in range(10)]
-    place.put('a', many_calls(1))
-    place.put('b', many_calls(7_000, *changed))
-    status, _, error = ended([str(TOP / 'tools/compare'), '--program', place.program, '--html', 'page.html', 'a', 'b'], place.folder,
-                             limit=None).text()
-    size = len(place.read('page.html') or b'')
-    place.want(f'{size} bytes', (status, error, size <= 2_000_000), (1, '', True))
-    page = tree_of((place.read('page.html') or b'').decode())
-    place.want('rows', len(page.all('details', 'row')), 70)
-    place.want('gaps', [one.text() for one in page.all('p', 'gap')],
-               ['6,998 equal calls', *['8,993 equal calls'] * 9, f'{100_000 - changed[-1] - 4:,} equal calls'])
+def marked_bytes(place: Compared) -> None:
+    """Beside the hexadecimal digits of a text is the text. The bytes that differ are marked in
+    both."""
+    def lines(first: Conversation, second: Conversation) -> list[Node]:
+        return place.page_of(first, second).all('article')[0].all('div', 'change')[0].all('div')[
+            -2:]
+    same = worked(SENTENCE), worked(SENTENCE.replace(b'same', b'sAme'))
+    for what, both, texts, marks in (
+            ('a letter', same, ['- data=..697320746865207361' '6d6520696e2065.. is the same in e',
+                                '+ data=..697320746865207341' '6d6520696e2065.. is the sAme in e'
+                                ' # 1 of 82 bytes differs, at offset 13 of the file (byte 13 of '
+                                'the data)'],
+             [['61', 'a'], ['41', 'A']]),
+            ('short', (worked(b'ab<c'), worked(b'xb<cd')),
+             ['- data=61623c63 ab<c', '+ data=78623c6364 xb<cd'],
+             [['61', 'a'], ['78', '64', 'x', 'd']]),
+            ('a name', (link(b'target 1'), link(b'target <')),
+             ['- path="target 1"', '+ path="target <"'], [['1'], ['<']])):
+        found = lines(*both)
+        place.want(what, ([one.text() for one in found], [one.texts('mark') for one in found]),
+                   (texts, marks))
+    found = lines(worked(bytes(range(128, 160))), worked(bytes(range(129, 161))))
+    place.want('no text', [(one.texts('span', 'text'), len(one.all('mark'))) for one in found],
+               [([], 1)] * 2)
 
 
 # --- Calls ---
-
-NULLS = [null(at) for at in range(5)], [success(at) for at in range(5)]
-
-
-def calls_around(place: Pages) -> None:
-    """Three equal calls stand before and after each finding, and between them how many are equal."""
-    def wants(what: str, first: Conversation, second: Conversation, *wanted: str) -> None:
-        place.put('a', first, NULLS)
-        place.put('b', second, NULLS)
-        place.want(what, rows_and_gaps(place.page()), [*wanted, '5 equal calls in 1 other connection'])
-    def equal(*records: int) -> list[str]:
-        return [f'= {record} {record}' for record in records]
-    wants('one', gets(with_modes(100)), gets(with_modes(100, 49)), '46 equal calls', *equal(47, 48, 49), '≠ 50 50', *equal(51, 52, 53),
-          '47 equal calls')
-    wants('near the ends', gets(with_modes(100)), gets(with_modes(100, 1, 99)), *equal(1), '≠ 2 2', *equal(3, 4, 5), '91 equal calls',
-          *equal(97, 98, 99), '≠ 100 100')
-    wants('near one another', gets(with_modes(20)), gets(with_modes(20, 5, 9, 16)), '2 equal calls', *equal(3, 4, 5), '≠ 6 6',
-          *equal(7, 8, 9), '≠ 10 10', *equal(11, 12, 13), *equal(14, 15, 16), '≠ 17 17', *equal(18, 19, 20))
-    wants('two of one run', gets(with_modes(100)), gets(with_modes(100), [20] * 30 + [70]),
-          '17 equal calls', *equal(18, 19, 20), *(f'+ {record}' for record in range(21, 51)), *(f'= {at} {at + 30}' for at in (21, 22, 23)),
-          '44 equal calls', *(f'= {at} {at + 30}' for at in (68, 69, 70)), '+ 101', *(f'= {at} {at + 31}' for at in (71, 72, 73)),
-          '27 equal calls')
-    wants('of the first run', gets(with_modes(9), [4]), gets(with_modes(9)), '1 equal call', *equal(2, 3, 4), '- 5',
-          *(f'= {at} {at - 1}' for at in (6, 7, 8)), '2 equal calls')
-    calls, replies = gets(with_modes(50, 40))
-    more = [call(900 + at, NFS, 3, ACCESS, fh(b'file') + word(1)) for at in range(6)]
-    granted = [success(900 + at, ok(post_op_attr(), word(1))) for at in range(6)]
-    wants('left out', ([*more, *calls], [*granted, *replies]), gets(with_modes(50)), '37 equal calls, 6 calls of the first run left out',
-          *(f'= {at + 6} {at}' for at in (38, 39, 40)), '≠ 47 41', *(f'= {at + 6} {at}' for at in (42, 43, 44)), '6 equal calls')
-
-
-def connections_of_one_run(place: Pages) -> None:
-    """A connection that one run alone has is told with its first call, and is not among the equal ones."""
-    place.put('a', gets([1] * 4))
-    place.put('b', gets([1] * 4), ([call(at, NFS, 3, MKDIR, dirop(b'top', b'%d' % at) + sattr()) for at in range(6)], []), NULLS)
-    page = place.page()
-    place.want('of the second run', (rows_and_gaps(page), page.all('div', 'connection')[0].all('h3')[0].text()), (
-        ['+ 1', '4 equal calls in 1 other connection'], 'connection 2 of the second run'))
-    page = place.page('b', 'a')
-    place.want('of the first run', rows_and_gaps(page), [
-        '- 1', '5 calls that differ', '4 equal calls, 5 calls of the first run left out in 2 other connections'])
-    place.want('finding', [one.text() for one in page.all('article')[0].nodes() if one.tag in ('h3', 'p')], [
-        '1 only in the first run: connection 2', 'a connection of 6 calls that the other run does not have', 'among the calls around it'])
-
 
 def fields_of(node: Node) -> list[list[str]]:
     """The lines of each message whose fields are in an element."""
     return [''.join(map(str, one.parts)).splitlines() for one in node.all('div', 'fields')]
 
 
-def fields_on_a_click(place: Pages) -> None:
-    """A row has the fields of its call and its replies, with both values if they differ."""
-    place.put('a', gets(with_modes(5)))
-    place.put('b', gets(with_modes(5, 2)))
-    rows = place.page().all('details', 'row')
-    place.want('rows', [row.all('summary')[0].text().split(' record')[0] for row in rows],
+def fields_of_calls(place: Compared) -> None:
+    """A row has the fields of its call and its replies on a click, with both values if they
+    differ."""
+    rows = place.page_of(gets(with_modes(5)), gets(with_modes(5, 2))).all('details', 'row')
+    place.want('rows', [row.texts('summary')[0].split(' record')[0] for row in rows],
                [f'{mark} NFSPROC3_GETATTR' for mark in '==≠=='])
-    place.want('open', [row.attributes.get('open') for row in rows], [None] * 5)
-    (asking, head), (reply, _) = [fields_of(rows[2])[at:at + 2] for at in (0, 2)]
-    place.want('call', (asking, head[0], head[-1]), (['fh=66696c65'], 'mtype=0 (CALL)', 'verf_body='))
-    place.want('head', [one.attributes.get('open') for one in rows[2].all('details', 'head')], [None] * 2)
-    place.want('reply', [line for line in reply if line.startswith(('obj.mode', 'obj.size'))], ['obj.size=2'])
+    place.want('folded', [one.attributes.get('open') for row in rows
+                          for one in (row, *row.all('details', 'head'))], [None] * 15)
+    arguments, head, reply, _ = fields_of(rows[2])
+    place.want('call', (arguments, head[0], head[-1]),
+               (['fh=66696c65'], 'mtype=0 (CALL)', 'verf_body='))
+    place.want('reply', [line for line in reply if line.startswith(('obj.mode', 'obj.size'))],
+               ['obj.size=2'])
     place.want('first', changes_of(rows[2]), ['- obj.mode=0640 (416)', '+ obj.mode=0600 (384)'])
-    parts = [node.attributes.get('class') for node in rows[2].nodes() if node.tag in ('div', 'details') and 'class' in node.attributes]
-    place.want('order', parts, ['fields', 'head', 'fields', 'change', 'minus', 'plus', 'fields', 'head', 'fields'])
+    parts = [node.attributes.get('class') for node in rows[2].nodes()
+             if node.tag in ('div', 'details') and node.classes]
+    place.want('order', parts, ['fields', 'head', 'fields', 'change', 'minus', 'plus', 'fields',
+                                'head', 'fields'])
     place.want('link', [one.attributes['href'] for one in rows[2].all('a')], ['#f1'])
-    place.put('a', link(b'x' * 1_200))
-    place.put('b', link(b'x' * 1_100 + b'y' + b'x' * 99))
-    place.want('values that are cut', changes_of(place.page().all('details', 'row')[0]),
-               [f'- path=.."{16 * "x"}"..', f'+ path=.."{8 * "x"}y{7 * "x"}".. # 1 of 1,200 bytes differs, at byte 1100'])
-    place.put('a', link(b'x'))
-    place.put('b', link(b'x', 13))
-    place.want('other layouts', changes_of(place.page().all('details', 'row')[0]),
-               ['- status=0 (NFS3_OK)', '+ status=13 (NFS3ERR_ACCES)'])
+    for what, second, wanted in (
+            ('values that are cut', link(b'x' * 1_100 + b'y' + b'x' * 99), [
+                f'- path=.."{16 * "x"}"..',
+                f'+ path=.."{8 * "x"}y{7 * "x"}".. # 1 of 1,200 bytes differs, at byte 1100']),
+            ('other layouts', link(b'x', ACCES), [
+                '- status=0 (NFS3_OK)', '+ status=13 (NFS3ERR_ACCES)'])):
+        row, = place.page_of(link(b'x' * 1_200), second).all('details', 'row')
+        place.want(what, changes_of(row), wanted)
+    row, = [one for one in place.page_of(worked(SENTENCE),
+                                         worked(SENTENCE, 30)).all('details', 'row')
+            if one.text().startswith('+')]
+    place.want('of one run',
+               (changes_of(row), [line for line in fields_of(row)[0] if 'mode' in line]),
+               (['+ set.mode=0640 (416)'], ['+\u00a0set_mode=1 (TRUE)']))
 
 
-def changes_of(node: Node) -> list[str]:
-    """The lines of what differs, with plain spaces."""
-    return [one.text() for change in node.all('div', 'change') for one in change.all('div')]
+def long_messages(place: Compared) -> None:
+    """A finding has 200 fields at most, and a message in a row 6,000 characters of fields."""
+    first, second = (conversation_of([(READDIRPLUS, fh(b'top') + bytes(24),
+                                       ok(entries(None, bytes(8), [
+                                           entryplus(at, b'%03d' % at, at, fattr(1, at, mode=mode),
+                                                     b'%d' % at) for at in range(300)],
+is_end=True)))]) for mode in (0o640, 0o600))
+    page = place.page_of(first, second)
+    values = changes_of(page.all('article')[0])
+    place.want('a long finding', (len(values), values[0], values[-2:]), (
+        401, '- entry "000".mode=0640 (416)',
+        ['+ entry "199".mode=0600 (384)', '.. and 100 more fields']))
+    # (the head of RPC is by itself, and so are the 300 modes)
+    lines, every = fields_of(page)[2], 3 + 300 * 24 + 2 - 300
+    more = int(re.sub('[^0-9]', '', lines[-1]))
+    place.want('a long message', (5_000 < sum(map(len, lines)) < 6_100, more + len(lines) - 1),
+               (True, every))
 
 
-def glance_of(page: Node) -> str:
-    return ''.join(one.text() for one in page.all('p', 'glance'))
+def rows_and_gaps(page: Node) -> list[str]:
+    """What the page has of calls: a sign and the records for each row, and the words of each
+    gap."""
+    found = []
+    for node in page.all('section')[-1].nodes():
+        if 'row' in node.classes:
+            text = node.all('summary')[0].text()
+            found.append(' '.join([text.split()[0], *re.findall(r'record (\d+)', text)]))
+        elif 'gap' in node.classes:
+            found.append(node.text())
+    return found
 
 
-SENTENCE = b'This is the same in every run, and it is long enough that nobody reads the whole of it.\n'
+def equal(*records: int, more: int = 0) -> list[str]:
+    """Rows of equal calls, which have other numbers in the second run."""
+    return [f'= {record} {record + more}' for record in records]
 
 
-def worked(text: bytes, *made_at: int) -> Conversation:
-    """A mount of `/hold`, a file there that is written and read twice among 40 GETATTRs, and SETATTRs of another after some of these."""
-    told = [(call(1, MOUNT, 3, 1, opaque(b'/hold')), success(1, ok(fh(b'\1top'), array([]))))]
+def calls_around(place: Compared) -> None:
+    """Three equal calls are before and after each finding, and between them how many are equal."""
+    def wants(what: str, first: Conversation, second: Conversation, *wanted: str) -> None:
+        place.put('a', first, NULLS)
+        place.put('b', second, NULLS)
+        place.want(what, rows_and_gaps(place.page()),
+                   [*wanted, '5 equal calls in 1 other connection'])
+    wants('near the ends', gets(with_modes(100)), gets(with_modes(100, 1, 99)), *equal(1), '≠ 2 2',
+          *equal(3, 4, 5), '91 equal calls', *equal(97, 98, 99), '≠ 100 100')
+    wants('near one another', gets(with_modes(20)), gets(with_modes(20, 5, 9, 16)), '2 equal calls',
+          *equal(3, 4, 5), '≠ 6 6', *equal(7, 8, 9), '≠ 10 10', *equal(11, 12, 13, 14, 15, 16),
+          '≠ 17 17', *equal(18, 19, 20))
+    wants('of the second run', gets(with_modes(100)), gets(with_modes(100), [20] * 30 + [70]),
+          '17 equal calls', *equal(18, 19, 20), *(f'+ {record}' for record in range(21, 51)),
+          *equal(21, 22, 23, more=30), '44 equal calls', *equal(68, 69, 70, more=30), '+ 101',
+          *equal(71, 72, 73, more=31), '27 equal calls')
+    wants('of the first run', gets(with_modes(9), [4]), gets(with_modes(9)), '1 equal call',
+          *equal(2, 3, 4), '- 5', *equal(6, 7, 8, more=-1), '2 equal calls')
+    calls, replies = gets(with_modes(50, 40))
+    more = conversation_of([(4, fh(b'file') + word(1), ok(post_op_attr(), word(1)))] * 6, 900)
+    wants('left out', (more[0] + calls, more[1] + replies), gets(with_modes(50)),
+          '37 equal calls, 6 calls of the first run left out', *equal(44, 45, 46, more=-6),
+          '≠ 47 41', *equal(48, 49, 50, more=-6), '6 equal calls')
 
-    def ask(procedure: int, arguments: bytes, results: bytes) -> None:
-        told.append((call(len(told) + 1, NFS, 3, procedure, arguments), success(len(told) + 1, results)))
-    for number, name in enumerate((b'f1', b'f2')):
-        ask(LOOKUP, dirop(b'\1top', name), ok(fh(name + b'\2'), post_op_attr(fattr(1, 7 + number)), post_op_attr()))
-    for at in range(40):
-        ask(GETATTR, fh(b'f2\2'), ok(fattr(1, 8, at)))
-        if at == 10:
-            ask(WRITE, fh(b'f2\2') + hyper(0) + word(len(text)) + word(2) + opaque(text), ok(wcc(), word(len(text)), word(2), bytes(8)))
-        if at in (15, 20):
-            ask(READ, fh(b'f2\2') + hyper(0) + word(4096), ok(post_op_attr(), word(len(text)), word(1), opaque(text)))
-        for _ in range(made_at.count(at)):
-            ask(SETATTR, fh(b'f1\2') + sattr(mode=0o640) + guard(), ok(wcc()))
-    return [asked for asked, _ in told], [reply for _, reply in told]
 
-
-def at_a_glance(place: Pages) -> None:
-    """Under the title stands what differs, with its paths. Both runs and the mask are folded below it."""
-    place.put('a', worked(SENTENCE))
-    place.put('b', worked(SENTENCE.replace(b'same', b'sAme'), 30))
+def calls_of_one_run(place: Compared) -> None:
+    """A connection that one run alone has shows its first call, and a call is where it was sent,
+    also if calls before it are reordered."""
+    place.put('a', gets([1] * 4))
+    place.put('b', gets([1] * 4), gets([5] * 3, range(3)), NULLS)
     page = place.page()
-    place.want('glance', glance_of(page),
-               '1 byte of /hold/f2 (1 WRITE, 2 READs) \u00b7 1 SETATTR only in the second run: /hold/f1 mode 0640')
-    place.want('paths', [one.text() for one in page.all('p', 'glance')[0].all('code')], ['/hold/f2', '/hold/f1'])
-    order = [node.tag for node in page.nodes() if node.tag in ('h1', 'section') or {'glance', 'about'} & set(
-        node.attributes.get('class', '').split())]
-    place.want('order', order, ['h1', 'p', 'details', 'section', 'section', 'section'])
-    place.want('heading', page.all('h2')[1].text(), '3 differences in 4 messages')
-    place.put('b', worked(SENTENCE[:20], 30, 31))
-    place.want('several', glance_of(place.page()), 'bytes of /hold/f2 (1 WRITE, 2 READs) \u00b7 2 SETATTRs only in the second run: /hold/f1'
-               ' \u00b7 count of /hold/f2: 88 \u2192 20 (1 WRITE) \u00b7 count of /hold/f2: 88 \u2192 20 (3 replies to WRITE, READ)')
-    place.put('a', asked([0o640] * 3), gets([1, 2]), link(b'x'))
-    place.put('b', asked([0o640, 0o600, 0o600]), gets([1, 2]), link(b'y', 13))
-    place.want('fields', glance_of(place.page()), 'obj.mode of 2 paths, the first /m/f1: 0640 \u2192 0600 (2 GETATTR replies)'
-               ' \u00b7 status: NFS3_OK \u2192 NFS3ERR_ACCES (1 READLINK reply)')
-    place.put('a', asked([0o640]), link(b'x'), gets([0o640]))
-    place.put('b', asked([0o600]), link(b'y'), gets([0o600]))
-    place.want('procedures', glance_of(place.page()), 'obj.mode of /m/f0 and others: 0640 \u2192 0600 (2 GETATTR replies) \u00b7 path: "x" \u2192 "y" (1 READLINK reply)')
-    place.put('a', asked([1, 2, 3]))
-    place.put('b', (lambda both: (both[0][:3] + both[0][5:] + both[0][3:5], both[1]))(asked([1, 2, 3])))
-    place.want('order', glance_of(place.page('--order=strict')), '2 calls reordered')
-    place.want('data and size', 'bytes of /hold/f2 (1 WRITE, 2 READs)' in glance_of(two_texts(place, SENTENCE, SENTENCE[:-1])), True)
-    place.want('of the first run', '1 connection only in the first run' in (place.put('b', gets([1, 2])) or glance_of(place.page())), True)
-
-
-def two_texts(place: Pages, first: bytes, second: bytes) -> Node:
-    """The page of two runs that write these texts."""
-    place.put('a', worked(first))
-    place.put('b', worked(second))
-    return place.page()
-
-
-def marked_bytes(place: Pages) -> None:
-    """Beside the hexadecimal digits of a text stands the text. The bytes that differ are marked in both."""
-    place.put('a', worked(SENTENCE))
-    place.put('b', worked(SENTENCE.replace(b'same', b'sAme')))
-    minus, plus = place.page().all('article')[0].all('div', 'change')[0].all('div')
-    place.want('marks', [[one.text() for one in line.all('mark')] for line in (minus, plus)], [['61', 'a'], ['41', 'A']])
-    place.want('texts', [one.text() for line in (minus, plus) for one in line.all('span', 'text')], ['is the same in e', 'is the sAme in e'])
-    place.want('digits', minus.text(), '- data=..697320746865207361' '6d6520696e2065.. is the same in e')
-    place.put('a', worked(b'ab<c'))
-    place.put('b', worked(b'xb<cd'))
-    minus, plus = place.page().all('article')[0].all('div', 'change')[0].all('div')[-2:]
-    place.want('short', (minus.text(), plus.text(), [one.text() for one in plus.all('mark')]),
-               ('- data=61623c63 ab<c', '+ data=78623c6364 xb<cd', ['78', '64', 'x', 'd']))
-    place.put('a', worked(bytes(range(128, 160))))
-    place.put('b', worked(bytes(range(129, 161))))
-    lines = place.page().all('article')[0].all('div', 'change')[0]
-    place.want('no text', (len(lines.all('span', 'text')), len(lines.all('mark'))), (0, 2))
-    place.put('a', link(b'target 1'))
-    place.put('b', link(b'target <'))
-    minus, plus = place.page().all('article')[0].all('div', 'change')[0].all('div')
-    place.want('name', (minus.text(), plus.text(), [one.text() for one in plus.all('mark')]), ('- path="target 1"', '+ path="target <"', ['<']))
-
-
-def calls_of_one_run(place: Pages) -> None:
-    """A call that one run alone has shows its arguments, and is where it was sent, also if calls before it are reordered."""
-    place.put('a', worked(SENTENCE))
-    place.put('b', worked(SENTENCE, 30))
-    page = place.page()
-    article, = page.all('article')
-    place.want('arguments', changes_of(article), ['+ set.mode=0640 (416)'])
-    row, = [one for one in page.all('details', 'row') if one.all('summary')[0].text().startswith('+')]
-    place.want('in its row', (changes_of(row), [line for line in fields_of(row)[0] if 'mode' in line]), (
-        ['+ set.mode=0640 (416)'], ['+\u00a0set_mode=1 (TRUE)']))
+    place.want('a connection', (rows_and_gaps(page), page.all('div', 'connection')[0].texts('h3')),
+               (
+                   ['+ 1', '4 equal calls in 1 other connection'],
+                   ['connection 2 of the second run']))
+    place.want('of the first run', rows_and_gaps(place.page('b', 'a')), [
+        '- 1', '5 calls that differ',
+        '4 equal calls, 5 calls of the first run left out in 2 other connections'])
     calls, replies = gets(range(60))
-    added = call(99, NFS, 3, SETATTR, fh(b'file') + sattr(mode=0o640) + guard())
+    added = conversation_of([(SETATTR, fh(b'file') + sattr(mode=0o640) + guard(), ok(wcc()))], 99)
     # One call changed its turn: it comes just before the added one.
-    turned = [*calls[:5], *calls[6:40], calls[5], added, *calls[40:]]
-    place.put('a', (calls, replies))
-    place.put('b', (turned, [*replies, success(99, ok(wcc()))]))
-    rows = rows_and_gaps(place.page('--order=strict'))
+    turned = [*calls[:5], *calls[6:40], calls[5], *added[0], *calls[40:]]
+    rows = rows_and_gaps(place.page_of((calls, replies), (turned, replies + added[1]),
+                                       '--order=strict'))
     at = rows.index('+ 41')
     place.want('turn', rows[at - 1:at + 2], ['= 40 39', '+ 41', '= 41 42'])
-    calls, replies = asked([1])
-    place.put('a', (calls, replies))
-    place.put('b', ([*calls, call(9, NFS, 3, GETATTR, fh(b'0'))], [*replies, success(9, ok(fattr(1, 2, 0, 1)))]))
-    place.want('no arguments', [one.text() for one in place.page('--extra=none').all('p', 'quiet')][:1],
-               ['It has no arguments but its path.'])
 
 
-# --- Names of others ---
+# Compares, and prints the number of pieces of the page and the size of the largest.
+PIECES = """import sys
+from nfs3tools.commands import compare
+write = compare.write_file
+def measured(path, pieces, inputs):
+    pieces = list(pieces)
+    print(len(pieces), max(map(len, pieces)), file=sys.stderr)
+    write(path, pieces, inputs)
+compare.write_file = measured
+compare.main(sys.argv[1:])
+"""
 
-HOSTILE = '<script>document.title=1</script>&"\'<img src=x onerror="document.title=2">'
+
+def how_much_is_shown(place: Compared) -> None:
+    """There are at most 2,000 findings, 20,000 positions of those that say the same, and 2,000
+    calls of the second run, then how many more. No piece is large, and equal calls cost nothing."""
+    place.put('a', gets([5_000] * 12 + list(range(2_490))))
+    place.put('b', gets([6_000] * 12 + list(range(3_000, 5_490))))
+    words = [sys.executable, '-c', PIECES, '--program', place.program, '--html', 'page.html', 'a',
+             'b']
+    number, largest = map(int, ended(words, place.folder, env=WITH_TOOLS).text()[2].split())
+    place.want(f'{number} pieces of {largest} characters', (number > 6_000, largest < 20_000),
+               (True, True))
+    page = place.written()
+    articles, calls = page.all('article'), rows_and_gaps(page)
+    place.want('findings', (len(articles), articles[-1].text()[:5]), (2_000, '2000 '))
+    place.want('positions', (len(articles[0].all('li')), articles[0].texts('p')[-1]),
+               (10, '.. and 1 more'))
+    place.want('more', [one.text() for one in page.all('p') if one.attributes.get('id') == 'more'],
+               ['.. and 491 messages more. --json FILE writes all.'])
+    place.want('calls', (calls[0], calls[1_999], calls[-1], len(calls)),
+               ('≠ 1 1', '≠ 2000 2000', '499 calls that differ', 2_004))
+    place.want('broken links', broken_links(page), [])
+    calls = rows_and_gaps(place.page_of(gets([1] * 9), gets([1] * 9, [5] * 2_100)))
+    place.want('of the second run', (calls[:5], calls[5:2_003], calls[2_003:]), (
+        ['2 equal calls', *equal(3, 4, 5), '+ 6'], [f'+ {record}' for record in range(7, 2_005)],
+        ['+ 2005', '4 equal calls', '100 calls more are only in the second run']))
+    page = place.page_of(gets(with_modes(20_000)),
+                         gets(with_modes(20_000, *range(500, 20_000, 2_000))))
+    size = len(place.read('page.html') or b'')
+    place.want(f'{size} bytes', (size < 200_000, len(page.all('details', 'row'))), (True, 70))
+    place.want('gaps', page.texts('p', 'gap'), [
+        '497 equal calls', *['1,993 equal calls'] * 9, '1,496 equal calls'])
 
 
-def hostile_runs(place: Pages) -> tuple[str, str]:
-    """Runs whose names, paths and values are HTML. Returns the names of their files."""
+def names_are_escaped(place: Compared) -> None:
+    """Names of files, paths and values are text, and a page asks for nothing else."""
     first, second = (f'{letter}<script>document.title=3<' for letter in 'ab')
-    for name, path in ((first, b'x'), (second, HOSTILE.encode())):
-        calls, replies = asked([0o640], HOSTILE.encode())
-        calls.append(call(9, NFS, 3, READLINK, fh(b'0')))
-        place.put(name, (calls, [*replies, success(9, ok(post_op_attr(), opaque(path)))]))
-    return first, second
-
-
-def names_are_escaped(place: Pages) -> None:
-    """Names of files, paths and values are text."""
-    names = hostile_runs(place)
-    page = place.page(*names)
-    place.want('elements', sorted({node.tag for node in page.nodes()} & {'script', 'img', 'b'}), ['b', 'script'])
-    place.want('scripts', len(page.all('script')), 1)
-    place.want('names', (runs_of(page)['name'], page.all('title')[0].text()), ([*names], 'differ: ' + ' and '.join(names)))
     path = '/m/' + HOSTILE.replace('"', '\\x22') + '0'
-    place.want('path', page.all('article')[0].all('code')[0].text(), path)
-    place.want('value', page.all('article')[0].all('div', 'plus')[0].text().startswith('+ path="<script>document'), True)
-    place.want('row', page.all('details', 'row')[-1].all('code')[0].text(), path)
-
-
-def pages_stand_alone(place: Pages) -> None:
-    """A page asks for nothing else, and its script has at most 130 lines."""
-    page = place.page(FIRST, CHANGED)
-    place.want('sources', [node.tag for node in page.nodes() if {'src', 'srcset', 'data', 'action'} & set(node.attributes)], [])
-    place.want('links', [one.attributes['href'] for one in page.all('a') if not one.attributes['href'].startswith('#')], [])
-    place.want('other elements', {node.tag for node in page.nodes()} & {'link', 'iframe', 'object', 'embed', 'base', 'form', 'svg'}, set())
-    text = ''.join(map(str, page.all('script')[0].parts))
-    style = ''.join(map(str, page.all('style')[0].parts))
-    place.want('script', (len(text.strip().splitlines()) <= 130, re.findall(r'fetch|XMLHttp|import|eval|innerHTML|http', text)), (True, []))
-    place.want('style', re.findall(r'url|@import|http', style), [])
+    for name, target in ((first, b'x'), (second, HOSTILE.encode())):
+        read = conversation_of([(READLINK, fh(b'0'), ok(post_op_attr(), opaque(target)))], 9)
+        place.put(name, tuple(map(list.__add__, asked([0o640], HOSTILE.encode()), read)))
+    page = place.page(first, second)
+    place.want('names', (runs_of(page)['name'], page.texts('title')),
+               ([first, second], [f'differ: {first} and {second}']))
+    place.want('path', page.all('article')[0].texts('code')[0], path)
+    place.want('value', page.all('article')[0].texts('div', 'plus')[0][:24],
+               '+ path="<script>document')
+    place.want('row', page.all('details', 'row')[-1].texts('code')[0], path)
+    script, style = (''.join(map(str, page.all(tag)[0].parts)) for tag in ('script', 'style'))
+    outside = re.findall(r'url|http|fetch|XMLHttp|import[ (]|eval|innerHTML', script + style)
+    place.want('asks for nothing', (asked_of_others(page), outside), ([], []))
     metas = {one.attributes.get('name'): one.attributes.get('content') for one in page.all('meta')}
-    place.want('head', (metas['viewport'], metas['color-scheme']), ('width=device-width, initial-scale=1', 'light dark'))
+    place.want('head', (metas['viewport'], metas['color-scheme']),
+               ('width=device-width, initial-scale=1', 'light dark'))
 
 
 # --- In Chromium ---
 
-VISIBLE = '[...document.querySelectorAll("%s")].filter(one => one.checkVisibility()).map(one => one.id)'
-WIDE = '[document.documentElement.scrollWidth <= document.documentElement.clientWidth, innerWidth]'
-
-
-def opened(place: Pages, browser: Browser, *words: str) -> Node:
-    """Opens the page of two runs."""
-    page = place.page(*words)
-    browser.open(place.path('page.html'))
-    return page
-
-
-def ten_findings(place: Pages) -> None:
-    place.put('a', asked([0o640] * 40))
-    place.put('b', asked([0o640 if number % 4 else 0o600 + number % 8 // 4 for number in range(40)]))
-
-
-def pages_load(place: Pages) -> None:
-    """Pages of all kinds load without an error, and nothing is wider than the window, even if all is open."""
-    hostile = hostile_runs(place)
-    long = 'x' * 200 + ' ' + '/'.join(['folder'] * 40)
-    place.put('long', asked([0o640] * 3, long.encode()))
-    place.put('other', asked([0o600] * 3, long.encode()))
-    place.put('null', ([call(1, NFS, 3, 0)], [success(1)]))
-    with place.browser() as browser:
-        for words in ((FIRST, CHANGED), (FIRST, SECOND), CONCURRENT[:2], CONCURRENT[::2], hostile, ('long', 'other'), ('null', 'null')):
-            name = ' and '.join(words)
-            page = place.page(*words)
-            for width in WIDTHS:
-                browser.open(place.path('page.html'), width)
-                place.want(f'{name}, {width}', browser.value(WIDE), [True, width])
-                browser.value('document.querySelectorAll("details").forEach(one => one.open = true)')
-                place.want(f'{name}, {width}, all open', browser.value(WIDE), [True, width])
-            place.want(f'{name}: errors', browser.errors, [])
-            place.want(f'{name}: title', browser.value('document.title'), ': '.join([page.all('title')[0].text().split(':')[0], name]))
-
-
-def colours(place: Pages) -> None:
-    """A page is light or dark as is asked for, and its text can be read: its luminance is far from that of its background."""
-    with place.browser() as browser:
-        opened(place, browser, FIRST, CHANGED)
-        found = []
-        for is_dark in (False, True):
-            browser.open(place.path('page.html'), is_dark=is_dark)
-            text, minus = (browser.value(f'getComputedStyle(document.querySelector("{one}")).color') for one in ('body', '.change .minus'))
-            found.append((light_of(text), light_of(minus)))
-        (text, minus), (dark_text, dark_minus) = found
-        place.want('colours', (text < 0.1, minus < 0.2, dark_text > 0.8, dark_minus > 0.4), (True,) * 4)
-
-
-def light_of(colour: str) -> float:
-    """The relative luminance of `rgb(1, 2, 3)`, from 0 to 1."""
-    red, green, blue = (float((int(value) / 255) ** 2.2) for value in re.findall(r'\d+', colour)[:3])
-    return 0.2126 * red + 0.7152 * green + 0.0722 * blue
-
-
+COLOURS = ('["body", ".change .minus"].map(one => '
+           'getComputedStyle(document.querySelector(one)).color)')
+# Whether each sign of a run is in one line with its position, and no filter is seen.
+SIGNS_ARE_BESIDE = """[...document.querySelectorAll(".place")].every(one => {
+  const [sign, words] = [...one.children].map(child => child.getBoundingClientRect());
+  return words.top < sign.bottom && words.left >= sign.right
+}) && [...document.querySelectorAll(".filter")].every(
+  one => one.getBoundingClientRect().width <= 1)"""
 # Whether a sign in the fields of a call is in the line of the handle after it.
-BESIDE = """(() => {
-  const text = document.querySelector('.row.told .fields').firstChild, at = text.data.search(/\\+.fh=/);
+SIGN_IS_BESIDE = r"""(() => {
+  const text = document.querySelector('.row.told .fields').firstChild;
+  const at = text.data.search(/\+.fh=/);
   const top = place => {
     const range = document.createRange();
     range.setStart(text, place);
@@ -721,177 +571,164 @@ BESIDE = """(() => {
 })()"""
 
 
-def signs(place: Pages) -> None:
-    """A sign is in one line with what it stands before, also before a long handle, and is found with a space after it."""
-    made = [call(1, NFS, 3, MKDIR, dirop(b'h' * 64, b'new') + sattr())], [success(1, failed(13, wcc()))]
+@in_chromium
+def pages_in_chromium(place: Compared) -> None:
+    """Pages load without an error, and nothing is wider than the window. Text can be read, light
+    and dark, and without scripts. Signs are beside what they are of, however narrow the window
+    is."""
+    place.put('long', asked([0o640] * 3, b'x' * 200 + b' ' + b'/'.join([b'folder'] * 40)))
+    place.put('hostile<script>document.title=3<', asked([0o600] * 3, HOSTILE.encode()))
     place.put('a', gets([1]))
-    place.put('b', gets([1]), made)
+    place.put('b', gets([1]),
+              conversation_of([(MKDIR, dirop(b'h' * 64, b'new') + sattr(), failed(ACCES, wcc()))]))
     with place.browser() as browser:
-        opened(place, browser)
+        for words in ((FIRST, CHANGED), (FIRST, SECOND),
+                      ('long', 'hostile<script>document.title=3<')):
+            page = place.page(*words)
+            place.loads(browser, f'{words}')
+            place.want(f'{words}: title', browser.value('document.title'), *page.texts('title'))
+        place.opened(browser, *CONCURRENT[::2])
+        lights = []
+        for is_dark in (False, True):
+            browser.open(place.path('page.html'), is_dark=is_dark)
+            lights += map(light_of, browser.value(COLOURS))
+        text, minus, dark_text, dark_minus = lights
+        place.want('colours', (text < 0.1, minus < 0.2, dark_text > 0.8, dark_minus > 0.4),
+                   (True,) * 4)
+        for width in (320, *WIDTHS):
+            browser.resize(width)
+            place.want(f'signs, {width}', browser.value(SIGNS_ARE_BESIDE), True)
+        browser.open(place.path('page.html'), has_scripts=False)
+        place.want('without scripts', [browser.is_shown(one) for one in (
+            'h1', '.about', 'article', '.filter', '.row', '.gap', '.bar', '.copy')],
+            [True] * 6 + [False] * 2)
+        place.opened(browser)
         browser.value('document.querySelectorAll("details").forEach(one => one.open = true)')
         for width in WIDTHS:
             browser.resize(width)
-            place.want(f'{width}', browser.value(BESIDE), True)
+            place.want(f'a sign, {width}', browser.value(SIGN_IS_BESIDE), True)
         for text, number in (('+ name="new"', 1), ('- name="new"', 0)):
-            browser.value(f'find.value = {json.dumps(text)}, find.dispatchEvent(new Event("input"))')
+            find(browser, text)
             place.want(text, len(browser.value(VISIBLE % '.row')), number)
         place.want('errors', browser.errors, [])
 
 
-def searching(place: Pages) -> None:
-    """The text field hides the findings and rows that do not have the text, and shows all again if it is empty."""
-    ten_findings(place)
-    with place.browser() as browser:
-        page = opened(place, browser)
-        findings = [one.attributes['id'] for one in page.all('article')]
-        rows = {row.attributes['id']: row.text().lower() for row in page.all('details', 'row')}
-        place.want('all', (browser.value(VISIBLE % 'article'), browser.value(VISIBLE % '.row')), (findings, [*rows]))
-        for text in ('/m/f12', 'SERVER record 27', '0601 (385)', 'nothing has this'):
-            browser.click('#find')
-            browser.value('find.select()')
-            browser.type(text)
-            wanted = ([one.attributes['id'] for one in page.all('article') if text.lower() in one.text().lower()],
-                      [name for name, said in rows.items() if text.lower() in said])
-            place.want(text, [browser.value(VISIBLE % one) for one in ('article', '.row', '.gap')], [*wanted, []])
-            place.want(text + ' is found', [bool(some) for some in wanted], [text != 'nothing has this'] * 2)
-            place.want(text + ' counted', browser.value('found.textContent').startswith(f'{len(wanted[0])} difference'), True)
-        browser.value('find.value = "", find.dispatchEvent(new Event("input"))')
-        place.want('all again', (browser.value(VISIBLE % 'article'), browser.value(VISIBLE % '.row')), (findings, [*rows]))
-        place.want('errors', browser.errors, [])
+# Whether an element is in sight, below the bar.
+IN_SIGHT = """(() => {
+  const box = document.querySelector("%s").getBoundingClientRect();
+  return box.top >= document.querySelector(".bar").getBoundingClientRect().bottom
+    && box.bottom <= innerHeight })()"""
+HEADS = SHOWN % 'h2, h3' + '.filter(one => !one.closest("article")).map(one => one.textContent)'
 
 
-def searches_without_a_hit(place: Pages) -> None:
-    """No heading is left without what it stands over, and the number of differences follows the search."""
-    ten_findings(place)
-    with place.browser() as browser:
-        opened(place, browser)
-        def shown(text: str) -> list[str]:
-            browser.value(f'find.value = {json.dumps(text)}, find.dispatchEvent(new Event("input"))')
-            return browser.value('[...document.querySelectorAll("h2, h3, .connection > h3")].filter(one => one.checkVisibility() '
-                                 '&& !one.closest("article")).map(one => one.textContent)')
-        whole = shown('')
-        place.want('all', whole[:2], ['What differs', '2 differences in 10 messages'])
-        place.want('none', shown('nothing has this'), [])
-        place.want('one', shown('/m/f28'), ['1 difference in 5 messages', 'Calls', 'connection 1 | connection 1'])
-        place.want('a field', shown('obj.mode')[:1], ['What differs'])
-        place.want('all again', shown(''), whole)
-        place.want('errors', browser.errors, [])
-
-
-def signs_are_beside_their_places(place: Pages) -> None:
-    """A sign of a run does not stand alone on a line, however narrow the window is. Frames stand once beside it."""
-    place.put('a', gets([1]))
-    with place.browser() as browser:
-        opened(place, browser, *CONCURRENT[::2])
-        for width in (320, *WIDTHS):
-            browser.resize(width)
-            place.want(f'{width}', browser.value(
-                '[...document.querySelectorAll(".place")].every(one => { const [sign, words] = [...one.children].map('
-                'child => child.getBoundingClientRect()); return words.top < sign.bottom && words.left >= sign.right })'), True)
-            place.want(f'{width}: filters', browser.value(
-                '[...document.querySelectorAll(".filter")].every(one => one.getBoundingClientRect().width <= 1)'), True)
-        place.want('errors', browser.errors, [])
-
-
-def keys(place: Pages) -> None:
-    """n and p go from finding to finding, and so do the buttons. In the text field they are letters."""
-    place.put('a', gets(list(range(40))))
-    place.put('b', gets(list(range(100, 140))))
-    def here() -> tuple[list[str], bool]:
-        return browser.value('[...document.querySelectorAll("article.here")].map(one => one.id)'), browser.value(
-            '(() => { const box = document.querySelector("article.here").getBoundingClientRect();'
-            'return box.top >= document.querySelector(".bar").getBoundingClientRect().bottom && box.bottom <= innerHeight })()')
-    with place.browser() as browser:
-        opened(place, browser)
-        for key, wanted in (('n', 'f1'), ('n', 'f2'), ('n', 'f3'), ('p', 'f2'), ('p', 'f1'), ('p', 'f1'), ('n', 'f2')):
-            browser.press(key)
-            place.want(f'{key} to {wanted}', here(), ([wanted], True))
-        for selector, wanted in (('#next', 'f3'), ('#next', 'f4'), ('#previous', 'f3')):
-            browser.click(selector)
-            place.want(f'{selector} to {wanted}', here(), ([wanted], True))
-        browser.click('#find')
-        browser.press('n')
-        place.want('a letter', (browser.value('find.value'), here()[0]), ('n', ['f3']))
-        browser.value('find.value = "0145 (101)", find.dispatchEvent(new Event("input")), find.blur()')
-        browser.press('n')
-        place.want('of those that are found', here()[0], browser.value(VISIBLE % 'article')[:1])
-        browser.value('location.hash = "#f20"')
-        browser.value('new Promise(done => setTimeout(done, 200))')
-        browser.press('n')
-        place.want('after a link, which shows all again', (here()[0], browser.value('find.value')), (['f21'], ''))
-        place.want('errors', browser.errors, [])
-
-
-def links(place: Pages) -> None:
-    """A link leads to its place, also one far down among many calls, and that is not behind the bar."""
+@in_chromium
+def keys_and_buttons(place: Compared) -> None:
+    """n, p and the buttons go from finding to finding, and a link to its place also far down. In
+    the text field they are letters."""
     place.put('a', gets(list(range(1_500))))
     place.put('b', gets([2_000 + at if at % 9 == 5 else at for at in range(1_500)]))
     with place.browser() as browser:
-        page = place.page()
+        page = place.opened(browser)
         rows = [row.attributes['id'] for row in page.all('details', 'row') if row.all('a')]
-        place.want('many calls', len(page.all('section', 'many')), 1)
-        for width in WIDTHS:
-            browser.open(place.path('page.html'), width)
-            for number, row in ((len(rows), rows[-1]), (20, rows[19]), (1, rows[0])):
-                browser.click(f'#f{number} p a')
-                browser.value('new Promise(done => setTimeout(done, 300))')
-                place.want(f'{width}, finding {number}', browser.value(
-                    '(() => { const box = document.querySelector(":target").getBoundingClientRect(), top = document.querySelector(".bar");'
-                    'return [location.hash, box.top >= top.getBoundingClientRect().bottom, box.bottom <= innerHeight] })()'),
-                    ['#' + row, True, True])
-                browser.click(f'#{row} summary a')
-                place.want(f'{width}, row of {number}', browser.value('location.hash'), f'#f{number}')
+        for act, key, wanted in (
+                (browser.press, 'n', 'f1'), (browser.press, 'n', 'f2'), (browser.press, 'p', 'f1'),
+                (browser.press, 'p', 'f1'), (browser.click, '#next', 'f2'),
+                (browser.click, '#next', 'f3'), (browser.click, '#previous', 'f2')):
+            act(key)
+            place.want(f'{key} to {wanted}',
+                       (browser.value(HERE), browser.value(IN_SIGHT % '.here')),
+                       ([wanted], True))
+        browser.click('#find')
+        browser.press('n')
+        place.want('a letter', (browser.value('find.value'), browser.value(HERE)), ('n', ['f2']))
+        find(browser, '0150 (104)')
+        browser.value('find.blur()')
+        browser.press('n')
+        place.want('of those that are found', browser.value(HERE), ['f12'])
+        browser.value('location.hash = "#f20", new Promise(done => setTimeout(done, 200))')
+        browser.press('n')
+        place.want('after a link, which shows all again',
+                   (browser.value(HERE), browser.value('find.value')), (['f21'], ''))
+        for width, number in itertools.product(WIDTHS, (len(rows), 20, 1)):
+            browser.resize(width)
+            browser.click(f'#f{number} p a')
+            browser.value('new Promise(done => setTimeout(done, 300))')
+            place.want(f'{width}, finding {number}', (browser.value('location.hash'), browser.value(
+                IN_SIGHT % ':target')), (f'#{rows[number - 1]}', True))
+            browser.click(f'#{rows[number - 1]} summary a')
+            place.want(f'{width}, row of {number}', browser.value('location.hash'), f'#f{number}')
         place.want('errors', browser.errors, [])
 
 
-def folding(place: Pages) -> None:
-    """The places of findings that say the same, and the fields of a call, open on a click."""
-    ten_findings(place)
+def put_two_findings(place: Compared) -> None:
+    """Writes two runs with two findings, in 30 of 80 messages."""
+    place.put('a', asked([0o640] * 40))
+    place.put('b', asked([(0o640, 0o600, 0o600, 0o601)[at % 4] for at in range(40)]))
+
+
+@in_chromium
+def searching(place: Compared) -> None:
+    """The text field hides what does not have its text, with its heading, and counts what has
+    it."""
+    put_two_findings(place)
     with place.browser() as browser:
-        opened(place, browser)
-        for selector, inner in (('#f1 details', 'li'), ('.row', '.fields'), ('.row.told', '.fields')):
-            shown = f'document.querySelector("{selector} {inner}").checkVisibility()'
-            states = [browser.value(shown)]
-            for _ in range(2):
-                browser.click(f'{selector} summary .mark' if inner == '.fields' else f'{selector} summary')
-                states.append(browser.value(shown))
+        page = place.opened(browser)
+        whole = [browser.value(VISIBLE % one) for one in ('article', '.row', '.gap')]
+        heads = browser.value(HEADS)
+        place.want('all', (whole[0], heads[:2]),
+                   (['f1', 'f2'], ['What differs', '2 differences in 30 messages']))
+        for text, found in (('/m/f13', 1), ('SERVER record 29', 1), ('0601 (385)', 1),
+                            ('nothing', 0)):
+            browser.click('#find')
+            browser.value('find.select()')
+            browser.type(text)
+            wanted = [[one.attributes['id'] for one in some if text.lower() in one.text().lower()]
+                      for some in (page.all('article'), page.all('details', 'row'))]
+            place.want(text, [browser.value(VISIBLE % one) for one in ('article', '.row', '.gap')],
+                       [*wanted, []])
+            place.want(f'{text}: counted',
+                       (len(wanted[0]), browser.value('found.textContent')[:12]),
+                       (found, f'{found} difference'))
+        place.want('none', browser.value(HEADS), [])
+        find(browser, '/m/f31')
+        place.want('one', browser.value(HEADS),
+                   ['1 difference in 10 messages', 'Calls', 'connection 1 | connection 1'])
+        find(browser, '')
+        place.want('all again',
+                   ([browser.value(VISIBLE % one) for one in ('article', '.row', '.gap')],
+                    browser.value(HEADS)), (whole, heads))
+        place.want('errors', browser.errors, [])
+
+
+@in_chromium
+def what_opens_and_is_copied(place: Compared) -> None:
+    """What is folded opens on a click, and a button copies its filter."""
+    put_two_findings(place)
+    with place.browser() as browser:
+        place.opened(browser)
+        for selector, inner in (('#f1 details', 'li'), ('.row', '.fields'),
+                                ('.row.told', '.fields')):
+            states = []
+            for _ in range(3):
+                states.append(browser.value(
+                    f'document.querySelector("{selector} {inner}").checkVisibility()'))
+                browser.click(f'{selector} summary' + ' .mark' * (inner == '.fields'))
             place.want(selector, states, [False, True, False])
-        browser.click('.row.told a')
-        place.want('a link in a row', browser.value('[location.hash, document.querySelector(".row.told").open]'), ['#f1', False])
-        place.want('errors', browser.errors, [])
-
-
-def copying(place: Pages) -> None:
-    """A button copies its filter, which is not seen beside it."""
-    with place.browser() as browser:
-        opened(place, browser, *CONCURRENT[::2])
-        wanted = browser.value('document.querySelector("#f2 .filter").textContent')
+        place.opened(browser, *CONCURRENT[::2])
+        wanted_filter = browser.value('document.querySelector("#f2 .filter").textContent')
         browser.click('#f2 .copy')
-        place.want('copied', browser.value('document.querySelector("#f2 .copy").matches(".copied")'), True)
+        place.want('copied', browser.value('document.querySelector("#f2 .copy.copied") !== null'),
+                   True)
         browser.click('#find')
         browser.ask('Input.dispatchKeyEvent', type='keyDown', key='v', commands=['paste'])
-        place.want('pasted', (browser.value('find.value'), wanted.startswith('frame.number == ')), (wanted, True))
-        browser.value('find.value = "", find.dispatchEvent(new Event("input"))')
+        place.want('pasted', (browser.value('find.value'), wanted_filter[:16]),
+                   (wanted_filter, 'frame.number == '))
         place.want('errors', browser.errors, [])
 
 
-def without_scripts(place: Pages) -> None:
-    """All can be read, and nothing is shown that does nothing."""
-    with place.browser() as browser:
-        place.page(*CONCURRENT[::2])
-        browser.open(place.path('page.html'), has_scripts=False)
-        place.want('shown', [browser.is_shown(one) for one in ('h1', '.about', 'article', '.filter', '.row', '.gap', '.bar', '.copy')],
-                   [True] * 6 + [False] * 2)
-
-
-TESTS: list[Callable[[Pages], None]] = [
-    the_top, what_does_not_count, other_verdicts, counts_lead_to_findings, findings_of_a_page, parts_of_a_recording,
-    findings_that_say_the_same, long_messages, places_of_many_findings, two_thousand_findings, two_thousand_calls_of_the_second_run,
-    size_of_a_page, calls_around, connections_of_one_run, fields_on_a_click, at_a_glance, marked_bytes,
-    calls_of_one_run, names_are_escaped, pages_stand_alone]
-IN_CHROMIUM: list[Callable[[Pages], None]] = [
-    pages_load, colours, signs, searching, searches_without_a_hit, signs_are_beside_their_places, keys, links, folding, copying, without_scripts]
-
-
-class PageTest(FolderTest, make=Pages, tests=[*TESTS, *map(unittest.skipUnless(chromium(), 'chromium is not there'), IN_CHROMIUM)]):
+class PageTest(FolderTest, make=Compared, tests=[
+        head_and_counts, what_does_not_count, verdicts_in_words, at_a_glance, kinds_of_differences,
+        differences, differences_that_say_the_same, marked_bytes, fields_of_calls, long_messages,
+        calls_around, calls_of_one_run, how_much_is_shown, names_are_escaped, pages_in_chromium,
+        keys_and_buttons, searching, what_opens_and_is_copied]):
     """Each test has a folder of its own."""

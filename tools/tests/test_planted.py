@@ -1,7 +1,7 @@
 """Tests of `tools/compare --order any` with changes of one field in real recordings.
 
 Two runs of a client are taken apart and recorded anew, without most bytes of files. In the second
-one fields are changed, each in one message. All of them have to be found, and nothing else.
+one a field is changed in one message. It has to be found, and nothing else.
 """
 import json
 import random
@@ -9,6 +9,7 @@ import struct
 from collections import defaultdict
 from collections.abc import Callable, Iterable, Iterator, Sequence
 from dataclasses import dataclass, replace
+from itertools import chain, islice
 from typing import NamedTuple
 
 from examples.messages import fragment
@@ -24,13 +25,15 @@ from .test_compare import Comparisons
 RECORDED = TOP / 'tools/tests/recorded'
 NUMBERS = {key: one.name for key, one in procedures()}
 DATA = 8  # bytes of files that are kept of a message
-PLANTED, AT_ONCE = 48, 6  # changes of a recording, and those of one run
+PLANTED = 48  # changes of a recording, each in a run of its own
 # Values that are masked by name, that say which layout follows, or that name an object of which
 # other messages depend.
 LEFT = frozenset(
     'xid mtype rpcvers prog vers proc cred_flavor cred_length cred_body verf_flavor verf_body '
-    'reply_stat accept_stat status stamp machinename gids tbytes fbytes abytes tfiles ffiles afiles '
-    'invarsec used cookie cookieverf createverf atime_sec atime_nsec mtime_sec mtime_nsec ctime_sec '
+    'reply_stat accept_stat status stamp machinename gids tbytes fbytes abytes tfiles ffiles '
+    'afiles '
+    'invarsec used cookie cookieverf createverf atime_sec atime_nsec mtime_sec mtime_nsec '
+    'ctime_sec '
     'ctime_nsec obj_attributes attr before after handle entry check set_mode set_uid set_gid '
     'set_size set_atime set_mtime fh name dirpath flavors spec1 spec2'.split())
 BOOLEANS = frozenset(
@@ -46,8 +49,8 @@ OK_REPLY = bytes.fromhex('00000001000000000000000000000000 00000000'.replace(' '
 
 @dataclass(frozen=True)
 class Said:
-    """A message of a run: its connection and its side, 0 for a call; of a reply the call's xid tells
-    which it answers."""
+    """A message of a run: its connection and its side, 0 for a call; of a reply the call's xid
+    tells which it answers."""
     connection: int
     side: int
     service: int
@@ -168,17 +171,13 @@ def planted_statuses(run: Run, chance: random.Random) -> Iterator[Plant]:
         yield Plant(f'{run[at].procedure} status {status}', at, body)
 
 
-def batches(run: Run, chance: random.Random) -> Iterator[list[Plant]]:
-    """Changes of different exchanges, as many as are tried at once."""
-    fields, left = planted_fields(run, chance), list(planted_statuses(run, chance))
-    for _ in range(PLANTED // AT_ONCE):
-        batch, taken = list[Plant](), set[tuple[int, bytes]]()
-        while len(batch) < AT_ONCE:
-            one = left.pop() if left and not batch else next(fields)
-            if run[one.at].xid not in taken:
-                taken.add(run[one.at].xid)
-                batch.append(one)
-        yield batch
+def plants(run: Run, chance: random.Random) -> Iterator[Plant]:
+    """Changes, each of another exchange: first of statuses, then of fields."""
+    taken = set[tuple[int, bytes]]()
+    for one in chain(planted_statuses(run, chance), planted_fields(run, chance)):
+        if run[one.at].xid not in taken:
+            taken.add(run[one.at].xid)
+            yield one
 
 
 # --- What is found ---
@@ -195,10 +194,10 @@ def positions(run: Run) -> dict[str, tuple[int, bytes]]:
 
 
 class Found(NamedTuple):
-    """What is found: the exchanges of the second run, and the procedures of what the first run has
-    alone."""
+    """What is found: the exchange of the second run of each finding, and the procedures of what the
+    first run has alone."""
     status: int
-    exchanges: set[tuple[int, bytes]]
+    exchanges: list[tuple[int, bytes]]
     alone: list[str]
 
 
@@ -207,30 +206,25 @@ def found_in(place: Comparisons, second: Run) -> Found:
     status, _, error = place.compare('--order', 'any', '--json', 'out.json', 'a.pcap', 'b.pcap')
     where, findings = positions(second), json.loads(place.read('out.json') or b'')['findings']
     place.want('error', error, '')
-    return Found(status, {where[one['second']['position']] for one in findings if one['second']},
+    return Found(status, [where[one['second']['position']] for one in findings if one['second']],
                  [one['procedure'] for one in findings if not one['second']])
 
 
 def plants_are_found(place: Comparisons, name: str) -> None:
-    """The runs are the same, and each change is found, and nothing else."""
+    """The runs are the same, and each change is found by itself: one finding, of its exchange. If a
+    call asks something else, no order explains its reply, which may be a second finding; or it may
+    be a call of the first run alone as well."""
     first, second = run_of(f'{name}-a'), run_of(f'{name}-b')
     place.write('a.pcap', recorded(first))
-    place.want(f'{name}: nothing', found_in(place, second)[:2], (0, set()))
-    number, chance = 0, random.Random(name)
-    for batch in batches(second, chance):
-        changed = list(second)
-        for plant in batch:
-            changed[plant.at] = replace(second[plant.at], body=plant.body)
-        found, wanted = found_in(place, changed), {second[one.at].xid: one for one in batch}
-        what = f'{name}: {[one.what for one in batch]}'
-        place.want(f'{what} status', found.status, 1)
-        place.want(f'{what} missing', [one.what for xid, one in wanted.items()
-                                       if xid not in found.exchanges], [])
-        place.want(f'{what} more', found.exchanges - wanted.keys(), set())
-        calls = [second[one.at].procedure for one in batch if ' call ' in one.what]
-        place.want(f'{what} alone', [one for one in found.alone if one not in calls], [])
-        number += len(batch)
-    place.want(f'{name}: changes', number >= 40, True)
+    place.want(f'{name}: nothing', found_in(place, second), (0, [], []))
+    for number, plant in enumerate(islice(plants(second, random.Random(name)), PLANTED)):
+        said = second[plant.at]
+        changed = [*second[:plant.at], replace(said, body=plant.body), *second[plant.at + 1:]]
+        found, what = found_in(place, changed), f'{name} {number}: {plant.what}'
+        most = 1 if said.side else 2
+        place.want(what, (found.status, found.exchanges[:1], len(found.exchanges) <= most,
+                          set(found.exchanges)), (1, [said.xid], True, {said.xid}))
+        place.want(f'{what} alone', found.alone in ([], [said.procedure] * (not said.side)), True)
 
 
 def calls_are_found(place: Comparisons, name: str) -> None:
@@ -244,12 +238,13 @@ def calls_are_found(place: Comparisons, name: str) -> None:
     at = chance.choice(calls)
     one = second[at]
     found = found_in(place, [said for said in second if said.xid != one.xid])
-    place.want('dropped', (found.status, found.exchanges, found.alone), (1, set(), [one.procedure]))
+    place.want('dropped', found, (1, [], [one.procedure]))
     found = found_in(place, twice(second, at, b'twin'))
-    place.want('twice', (found.status, found.exchanges <= {(one.connection, b'twin'), one.xid},
-                         len(found.exchanges)), (1, True, 1))
+    place.want('twice', (found.status, len(found.exchanges),
+                         {(one.connection, b'twin'), one.xid}.issuperset(found.exchanges)),
+               (1, 1, True))
     found = found_in(place, [*second[:at + 1], one, *second[at + 1:]])
-    place.want('sent again', found[:2], (0, set()))
+    place.want('sent again', found[:2], (0, []))
     left_out = json.loads(place.read('out.json') or b'')['left_out']
     place.want('listed', [other['kind'] for other in left_out].count('sent again'), 1)
     replies = by_answers(second)
@@ -260,13 +255,14 @@ def calls_are_found(place: Comparisons, name: str) -> None:
             body = second[to].body[:4] + second[of].body[4:]
             turned[to] = replace(second[to], body=body)
         found = found_in(place, turned)
-        place.want('moved', (found.status, found.exchanges),
-                   (1, {second[one_at].xid, second[other_at].xid}))
+        place.want('moved', (found.status, sorted(found.exchanges)),
+                   (1, sorted((second[one_at].xid, second[other_at].xid))))
 
 
 def twice(run: Run, at: int, xid: bytes) -> Run:
     """A run with an exchange a second time, right after it."""
-    answer = next(number for number, said in enumerate(run) if said.side and said.xid == run[at].xid)
+    answer = next(number for number, said in enumerate(run) if said.side and said.xid
+                  == run[at].xid)
     more = [replace(run[number], body=xid + run[number].body[4:]) for number in (at, answer)]
     return [*run[:answer + 1], *more, *run[answer + 1:]]
 
@@ -291,8 +287,6 @@ def on(name: str, test: Callable[[Comparisons, str], None]) -> Callable[[Compari
 
 
 NAMES: Sequence[str] = ('knfsd-plain', 'knfsd-writes', 'natural-folder', 'natural-parallel')
-TESTS = [on(name, test) for name in NAMES for test in (plants_are_found, calls_are_found)]
-
-
-class PlantedTest(FolderTest, make=Comparisons, tests=TESTS):
+class PlantedTest(FolderTest, make=Comparisons, tests=[
+        on(name, test) for name in NAMES for test in (plants_are_found, calls_are_found)]):
     """Each test has a folder of its own."""

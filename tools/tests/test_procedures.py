@@ -18,7 +18,8 @@ from tests.shared.running import ended
 
 from .cases import FolderTest
 from .recordings import interface, section, simple
-from .scripts import TOP, Tools, in_fragments, measured, stream, sums as sum_line, whole, write_faulty
+from .scripts import (
+    TOP, Tools, in_fragments, measured, stream, sums as sum_line, whole, write_faulty)
 
 GETATTR, LOOKUP, MNT = 1, 3, 1  # by their numbers
 HEADS = ['procedure', 'calls', 'again', 'replies', 'no reply', 'call bytes',
@@ -28,7 +29,8 @@ ENDS = 'client 192.0.2.7:700, server 192.0.2.1:2049'
 ATTRIBUTES = ok(fattr(1, 5))
 MANY, MOST_MEMORY = 100_000, 64 << 20
 # With segments in their order, and calls to ports that TLS might have.
-TSHARK = ['tshark', '-n', '-o', 'tcp.reassemble_out_of_order:TRUE', '--disable-protocol', 'tls', '-r']
+TSHARK = ['tshark', '-n', '-o', 'tcp.reassemble_out_of_order:TRUE', '--disable-protocol', 'tls',
+          '-r']
 
 
 class Row(NamedTuple):
@@ -54,11 +56,14 @@ class Row(NamedTuple):
         return [*cells[:LONGEST], *cells[LONGEST + 1:]]
 
 
-def procedures(tools: Tools, *words: str, stdin: bytes | None = None) -> tuple[int, dict[str, list[list[str]]], str]:
-    """The status of a run, the rows of each table by its title, and what is told on standard error."""
+def procedures(tools: Tools, *words: str,
+               stdin: bytes | None = None) -> tuple[int, dict[str, list[list[str]]], str]:
+    """The status of a run, the rows of each table by its title, and what is told on standard
+    error."""
     status, out, error = tools.tool('procedures', '--program', tools.program, *words, stdin=stdin)
     blocks = [block.splitlines() for block in out.strip('\n').split('\n\n') if block]
-    return status, {block[0]: [re.split('  +', line.strip()) for line in block[1:]] for block in blocks}, error
+    return status, {block[0]: [re.split('  +', line.strip()) for line in block[1:]]
+                    for block in blocks}, error
 
 
 def tables_of(tools: Tools, *words: str) -> list[dict[str, Any]]:
@@ -79,17 +84,24 @@ def size(*bodies: bytes) -> int:
 
 
 def one_of_each(talk: Talk) -> tuple[list[bytes], list[Row]]:
-    """A connection with one message a frame, from frame 4 on, a frame each microsecond; and what its procedures should have."""
-    calls = {1: call(1, NFS, 3, GETATTR, fh(b'a')), 2: call(2, NFS, 3, LOOKUP, dirop(b'd', b'name')), 3: call(3, NFS, 3, GETATTR, fh(b'b')),
-             4: call(4, NFS, 3, 0), 5: call(5, 100000, 2, 3, bytes(16)), 6: call(6, MOUNT, 3, MNT, opaque(b'/x')),
+    """A connection with one message a frame, from frame 4 on, a frame each microsecond; and what
+    its procedures should have."""
+    calls = {1: call(1, NFS, 3, GETATTR, fh(b'a')),
+             2: call(2, NFS, 3, LOOKUP, dirop(b'd', b'name')),
+             3: call(3, NFS, 3, GETATTR, fh(b'b')),
+             4: call(4, NFS, 3, 0), 5: call(5, 100000, 2, 3, bytes(16)),
+             6: call(6, MOUNT, 3, MNT, opaque(b'/x')),
              7: call(7, NFS, 3, GETATTR, fh(b'c')), 8: call(8, 100000, 2, 4, b'')}
-    replies = {1: success(1, ATTRIBUTES), 2: success(2, failed(2, post_op_attr())), 3: success(3, failed(70)),
-               5: b''.join((word(5), word(1), word(0), AUTH_NONE, word(3))), 6: success(6, word(13)), 7: rejected(7, 1, 1),
+    replies = {1: success(1, ATTRIBUTES), 2: success(2, failed(2, post_op_attr())),
+               3: success(3, failed(70)),
+               5: b''.join((word(5), word(1), word(0), AUTH_NONE, word(3))),
+               6: success(6, word(13)), 7: rejected(7, 1, 1),
                8: rejected(8, 0, 2, 2)}
     # Both sides in the order of the frames: 3 is sent again, and answered twice; 4 is not answered.
-    order = [(0, 1), (0, 2), (1, 1), (1, 2), (0, 3), (0, 3), (1, 3), (1, 3), (0, 4), (0, 5), (1, 5), (0, 6), (1, 6), (0, 7), (1, 7),
-             (0, 8), (1, 8)]
-    frames = talk.opened() + [talk.sent(side, fragment((calls, replies)[side][number])) for side, number in order]
+    order = [(0, 1), (0, 2), (1, 1), (1, 2), (0, 3), (0, 3), (1, 3), (1, 3), (0, 4), (0, 5), (1, 5),
+             (0, 6), (1, 6), (0, 7), (1, 7), (0, 8), (1, 8)]
+    frames = talk.opened() + [talk.sent(side, fragment((calls, replies)[side][number]))
+                              for side, number in order]
     # GETATTR took 2 (frames 4 to 6), 2 (frames 8 to 10) and 1 (frames 17 to 18): 5, and 1.67 on the
     # average.
     rows = [Row('NFSPROC3_NULL', (1, 0, 0, 1), (size(calls[4]), 0)),
@@ -113,13 +125,15 @@ def counts_by_hand(tools: Tools) -> None:
     frames, rows = one_of_each(Talk())
     tools.write('a.pcap', pcap(frames + whole(port=701)))
     status, tables, error = procedures(tools, 'a.pcap')
-    titles = [f'a.pcap: connection 1: {ENDS}: ok', f'a.pcap: connection 2: {ENDS.replace("700", "701")}: ok',
+    titles = [f'a.pcap: connection 1: {ENDS}: ok',
+              f'a.pcap: connection 2: {ENDS.replace("700", "701")}: ok',
               'a.pcap in all: ' + sum_line(2, raw='1 PORTMAP DUMP, 1 PORTMAP GETPORT', silent=1)]
     tools.want('titles', (status, list(tables), error), (0, titles, ''))
     tools.want('heads', [table[0] for table in tables.values()], [HEADS] * 3)
     tools.want('the first', tables[titles[0]][1:-1], [row.cells() for row in rows])
     calls, replies = (sum(row.bytes[side] for row in rows) for side in range(2))
-    errors = {'NFS3ERR_STALE': 2, 'AUTH_BADCRED': 1, 'MNT3ERR_ACCES': 1, 'NFS3ERR_NOENT': 1, 'PROC_UNAVAIL': 1, 'RPC_MISMATCH': 1}
+    errors = {'NFS3ERR_STALE': 2, 'AUTH_BADCRED': 1, 'MNT3ERR_ACCES': 1, 'NFS3ERR_NOENT': 1,
+              'PROC_UNAVAIL': 1, 'RPC_MISMATCH': 1}
     # The latencies of all are 2, 2, 1, 2, 1, 1 and 1: their sum is 10, and 1.43 is the average.
     tools.want('its sum', tables[titles[0]][-1],
                Row('in all', (9, 1, 8, 1), (calls, replies), (1, 2, 2, 1, 10), '1:1 frame 4',
@@ -127,77 +141,102 @@ def counts_by_hand(tools: Tools) -> None:
     # The 39 NULL calls are in the frames 24 to 28, and their replies in the frames 29 to 33.
     # (the first has the xid and the bytes of a call of the first connection)
     numbers = ['39', '1', '39', '0']
-    tools.want('the second', [cells[:5] for cells in tables[titles[1]][1:]], [['NFSPROC3_NULL', *numbers], ['in all', *numbers]])
+    tools.want('the second', [cells[:5] for cells in tables[titles[1]][1:]],
+               [['NFSPROC3_NULL', *numbers], ['in all', *numbers]])
     sums = [cells[:5] for cells in tables[titles[2]][1:]]
     tools.want('in all', (sums[0], sums[1:-1], sums[-1]),
-               (['NFSPROC3_NULL', '40', '1', '39', '1'], [row.cells()[:5] for row in rows[1:]], ['in all', '48', '2', '47', '1']))
+               (['NFSPROC3_NULL', '40', '1', '39', '1'], [row.cells()[:5] for row in rows[1:]],
+                ['in all', '48', '2', '47', '1']))
     status, tables, _ = procedures(tools, '--total', 'a.pcap')
     tools.want('--total', (status, list(tables)), (0, titles[2:]))
     status, tables, _ = procedures(tools, '--total', 'a.pcap', '-', stdin=pcap(whole()))
     last = tables[list(tables)[-1]]
     tools.want('two recordings', (list(tables)[-1], [cells[1] for cells in last][-1],
                                   [cells[LONGEST] for cells in last[1:3]]),
-               ('all recordings: ' + sum_line(3, raw='1 PORTMAP DUMP, 1 PORTMAP GETPORT', silent=1), '87',
-                ['a.pcap 2:1 frame 24', 'a.pcap 1:1 frame 4']))
+               ('all recordings: ' + sum_line(3, raw='1 PORTMAP DUMP, 1 PORTMAP GETPORT', silent=1),
+                '87', ['a.pcap 2:1 frame 24', 'a.pcap 1:1 frame 4']))
 
 
 def times_of_records(tools: Tools) -> None:
-    """A record is complete by the last frame that brought its bytes, be they in its middle. A segment that comes again brings none."""
-    talk, asked, answer = Talk(), call(1, NFS, 3, GETATTR, fh(b'a')), fragment(success(1, ATTRIBUTES))
-    frames = talk.opened() + [talk.sent(0, fragment(asked)[:9]), talk.sent(0, fragment(asked)[9:])]  # 4 and 5
-    frames += [talk.frame(1, ACK, answer[at:end], ahead=at) for at, end in ((0, 20), (60, 999), (20, 60))]  # 6 to 8
+    """A record is complete by the last frame that brought its bytes, be they in its middle. A
+    segment that comes again brings none."""
+    talk, asked, answer = Talk(), call(1, NFS, 3, GETATTR,
+                                       fh(b'a')), fragment(success(1, ATTRIBUTES))
+    # 4 and 5
+    frames = talk.opened() + [talk.sent(0, fragment(asked)[:9]), talk.sent(0, fragment(asked)[9:])]
+    # 6 to 8
+    frames += [talk.frame(1, ACK, answer[at:end], ahead=at)
+               for at, end in ((0, 20), (60, 999), (20, 60))]
     frames += [talk.sent(1, answer)]  # 9, all of it again
-    # Two calls in frame 10 with the first bytes of a third, its rest in frame 11 with a fourth; their replies in the frames 12 to 14.
+    # Two calls in frame 10 with the first bytes of a third, its rest in frame 11 with a fourth;
+    # their replies in the frames 12 to 14.
     calls = stream([call(number, NFS, 3, 0) for number in range(2, 6)])
     replies = stream([success(number) for number in range(2, 6)])
     frames += [talk.sent(0, calls[:98]), talk.sent(0, calls[98:])]
     frames += [talk.sent(1, replies[at:end]) for at, end in ((0, 30), (30, 57), (57, 999))]
     tools.write('a.pcap', pcap(frames))
     found = {row['procedure']: row for row in tables_of(tools, 'a.pcap')[0]['procedures']}
-    ranks = {name: (row['latencies'], row['median_ns'], row['p99_ns'], row['most_ns']) for name, row in found.items()}
-    # Replies of 28 bytes: the first is complete in frame 12, the second in 13, the others in 14. Latencies 2, 3, 3 and 3.
-    tools.want('latencies', ranks, {'NFSPROC3_GETATTR': (1, 3_000, 3_000, 3_000), 'NFSPROC3_NULL': (4, 3_000, 3_000, 3_000),
+    ranks = {name: (row['latencies'], row['median_ns'], row['p99_ns'], row['most_ns'])
+             for name, row in found.items()}
+    # Replies of 28 bytes: the first is complete in frame 12, the second in 13, the others in 14.
+    # Latencies 2, 3, 3 and 3.
+    tools.want('latencies', ranks, {'NFSPROC3_GETATTR': (1, 3_000, 3_000, 3_000),
+                                    'NFSPROC3_NULL': (4, 3_000, 3_000, 3_000),
                                     'in all': (5, 3_000, 3_000, 3_000)})
     whole_record, cut = stream([call(6, NFS, 3, 0)]), in_fragments(success(6), 5)
     other = Talk(701)
-    frames = [*other.opened(), other.sent(0, whole_record), *(other.sent(1, cut[at:at + 7]) for at in range(0, len(cut), 7))]
+    frames = [*other.opened(), other.sent(0, whole_record),
+              *(other.sent(1, cut[at:at + 7]) for at in range(0, len(cut), 7))]
     tools.write('b.pcap', pcap(frames))
     # Five fragments of at most 5 bytes are 44 bytes: seven frames.
     tools.want('fragments', tables_of(tools, 'b.pcap')[0]['procedures'][0]['most_ns'], 7_000)
     tools.write('c.pcap', section() + interface() + b''.join(map(simple, whole())))
-    tools.want('frames without times', [row['latencies'] for row in tables_of(tools, 'c.pcap')[0]['procedures']], [0, 0])
+    tools.want('frames without times',
+               [row['latencies'] for row in tables_of(tools, 'c.pcap')[0]['procedures']], [0, 0])
 
 
 def ranks_of_latencies(tools: Tools) -> None:
-    """The median is the lower of two in the middle; of 100 latencies the 99th is the last but one, and of 99 it is the last."""
-    for number, median, p99 in ((1, 1, 1), (2, 1, 2), (3, 2, 3), (99, 50, 99), (100, 50, 99), (101, 51, 100)):
-        # All calls in one frame, and then each reply in a frame of its own, a microsecond after another.
+    """The median is the lower of two in the middle; of 100 latencies the 99th is the last but one,
+    and of 99 it is the last."""
+    for number, median, p99 in ((1, 1, 1), (2, 1, 2), (3, 2, 3), (99, 50, 99), (100, 50, 99),
+                                (101, 51, 100)):
+        # All calls in one frame, and then each reply in a frame of its own, a microsecond after
+        # another.
         talk = Talk()
-        frames = [*talk.opened(), talk.sent(0, stream(call(xid, NFS, 3, 0) for xid in range(number)))]
+        frames = [*talk.opened(),
+                  talk.sent(0, stream(call(xid, NFS, 3, 0) for xid in range(number)))]
         frames += [talk.sent(1, fragment(success(xid))) for xid in reversed(range(number))]
         tools.write('a.pcap', pcap(frames))
         row = tables_of(tools, 'a.pcap')[0]['procedures'][0]
-        tools.want(f'{number} latencies', [row[name] for name in ('latencies', 'median_ns', 'p99_ns', 'most_ns')],
+        tools.want(f'{number} latencies',
+                   [row[name] for name in ('latencies', 'median_ns', 'p99_ns', 'most_ns')],
                    [number, 1_000 * median, 1_000 * p99, 1_000 * number])
 
 
 def xids_that_come_again(tools: Tools) -> None:
-    """A call with another handle is no retransmission, and one that comes after it as the first was is one. Their replies belong to them in
-    their order."""
+    """A call with another handle is no retransmission, and one that comes after it as the first was
+    is one. Their replies belong to them in their order."""
     first, second = (call(9, NFS, 3, GETATTR, fh(name)) for name in (b'a', b'b'))
     reply = success(9, ATTRIBUTES)
     for bodies, wanted in (([(0, first), (1, reply), (0, second), (1, reply)], (2, 0, 2, 0, 1_000)),
-                           ([(0, first), (0, second), (0, first), (0, second), (1, reply)], (4, 2, 1, 1, 4_000)),
-                           ([(0, first), (0, first), (0, second), (1, reply), (1, reply), (1, reply)], (3, 1, 3, 0, 3_000)),
+                           ([(0, first), (0, second), (0, first), (0, second), (1, reply)],
+                            (4, 2, 1, 1, 4_000)),
+                           ([(0, first), (0, first), (0, second), (1, reply), (1, reply),
+                             (1, reply)], (3, 1, 3, 0, 3_000)),
                            ([(0, first), (0, first), (0, first)], (3, 2, 0, 1, None))):
         talk = Talk()
-        tools.write('a.pcap', pcap(talk.opened() + [talk.sent(side, fragment(body)) for side, body in bodies]))
+        tools.write('a.pcap',
+                    pcap(talk.opened() + [talk.sent(side, fragment(body))
+                                          for side, body in bodies]))
         row = tables_of(tools, 'a.pcap')[0]['procedures'][0]
-        tools.want(str(wanted), tuple(row[name] for name in ('calls', 'again', 'replies', 'unanswered', 'most_ns')), wanted)
+        tools.want(str(wanted),
+                   tuple(row[name] for name in ('calls', 'again', 'replies', 'unanswered',
+                                                'most_ns')), wanted)
 
 
 def judged_in_part(tools: Tools) -> None:
-    """What is missing or wrong is said above the table, as tools/verdicts says it, and the status is the same."""
+    """What is missing or wrong is said above the table, as tools/verdicts says it, and the status
+    is the same."""
     faulty = write_faulty(tools)
     tools.write('first.pcap', pcap(whole()[:3] + whole()[4:]))
     for name in (*faulty, 'first.pcap', 'absent'):
@@ -207,19 +246,25 @@ def judged_in_part(tools: Tools) -> None:
             verdicts = [line.split('  ')[-1] for line in out.splitlines()[1:-1]]
             titles = list(tables)
             tools.want(f'{name}: what is told', (status, error), (judged, told))
-            tools.want(f'{name}: verdicts', [verdict in title for verdict, title in zip(verdicts, titles)], [True] * len(verdicts))
+            tools.want(f'{name}: verdicts',
+                       [verdict in title for verdict, title in zip(verdicts, titles)],
+                       [True] * len(verdicts))
             tools.want(f'{name}: sums', titles[-1], f'{name} in all: {out.splitlines()[-1]}')
     _, tables, _ = procedures(tools, 'bad.pcap')
     title = next(title for title in tables if 'connection 2' in title)
     numbers = ['1', '0', '1', '0']
-    tools.want('up to the fault', (title.rpartition('2049: ')[2], [cells[:5] for cells in tables[title][1:]]),
-               ('server record 2 byte 0: NoCall, frame 13; counted up to there', [['NFSPROC3_NULL', *numbers], ['in all', *numbers]]))
+    tools.want('up to the fault',
+               (title.rpartition('2049: ')[2], [cells[:5] for cells in tables[title][1:]]),
+               ('server record 2 byte 0: NoCall, frame 13; counted up to there',
+                [['NFSPROC3_NULL', *numbers], ['in all', *numbers]]))
     _, tables, _ = procedures(tools, 'worse.pcap')
-    tools.want('no call before the fault', [table for title, table in tables.items() if 'counted up to there' in title], [[]])
+    tools.want('no call before the fault',
+               [table for title, table in tables.items() if 'counted up to there' in title], [[]])
 
 
 def captures_have_no_times(tools: Tools) -> None:
-    """The table of a capture is that of its recording without latencies, in both versions and with records of fragments."""
+    """The table of a capture is that of its recording without latencies, in both versions and with
+    records of fragments."""
     for name in ('ganesha_a', 'concurrent_a'):
         recording = str(TOP / f'examples/{name}.pcap')
         tools.want('from_pcap', tools.tool('from_pcap', recording, 'a.nfs3cap')[0], 0)
@@ -285,21 +330,26 @@ def clock_that_goes_back(tools: Tools) -> None:
 
 
 def side_by_side(tools: Tools) -> None:
-    """A number that differs has both values; so has an error, and a procedure that one recording alone has."""
+    """A number that differs has both values; so has an error, and a procedure that one recording
+    alone has."""
     frames, rows = one_of_each(Talk())
     tools.write('a.pcap', pcap(frames))
-    tools.write('b.pcap', pcap([*frames[:-2], *whole(port=701)]))  # without the last raw call, and with 39 NULL calls
-    status, out, error = tools.tool('procedures', '--program', tools.program, '--beside', 'a.pcap', 'b.pcap')
+    # without the last raw call, and with 39 NULL calls
+    tools.write('b.pcap', pcap([*frames[:-2], *whole(port=701)]))
+    status, out, error = tools.tool('procedures', '--program', tools.program, '--beside', 'a.pcap',
+                                    'b.pcap')
     lines = out.splitlines()
     sums = ['A: a.pcap: ' + sum_line(1, raw='1 PORTMAP DUMP, 1 PORTMAP GETPORT', silent=1),
             'B: b.pcap: ' + sum_line(2, raw='1 PORTMAP GETPORT', silent=1)]
     tools.want('heads', (status, lines[:2], error), (0, sums, ''))
     cells = [re.split('  +', line.strip()) for line in lines[2:]]
-    tools.want('rows', [row[0] for row in cells], ['procedure', *(row.procedure for row in rows), 'in all'])
+    tools.want('rows', [row[0] for row in cells], ['procedure', *(row.procedure for row in rows),
+                                                   'in all'])
     null, *others, last, same, _ = cells[1:]
     nulls = 39 * size(call(1, NFS, 3, 0))
     grown = f'{rows[0].bytes[0]} -> {rows[0].bytes[0] + nulls} (+3900 %)'
-    tools.want('what grew', null[:7], ['NFSPROC3_NULL', '1 -> 40', '0 -> 1', '0 -> 39', '1', grown, f'0 -> {39 * size(success(1))}'])
+    tools.want('what grew', null[:7], ['NFSPROC3_NULL', '1 -> 40', '0 -> 1', '0 -> 39', '1', grown,
+                                       f'0 -> {39 * size(success(1))}'])
     tools.want('what is new', null[7].startswith('- -> 0.00'), True)
     tools.want('what is the same', [*others, same],
                [row.cells_beside() for row in [*rows[1:-2], rows[-1]]])
@@ -308,8 +358,10 @@ def side_by_side(tools: Tools) -> None:
     tools.want('what is gone', last, [gone.procedure, '1 -> 0', '0', '1 -> 0', '0', *fewer,
                                       *['0.001 -> -'] * 5, 'RPC_MISMATCH 1 -> 0'])
     tools.write('c.pcap', pcap(whole()[:4] + whole()[5:]))
-    status, out, _ = tools.tool('procedures', '--program', tools.program, '--beside', 'a.pcap', 'c.pcap')
-    tools.want('in part', (status, out.splitlines()[1]), (1, 'c.pcap: connection 1: ok in part: 30 calls, 344 bytes missing'))
+    status, out, _ = tools.tool('procedures', '--program', tools.program, '--beside', 'a.pcap',
+                                'c.pcap')
+    tools.want('in part', (status, out.splitlines()[1]),
+               (1, 'c.pcap: connection 1: ok in part: 30 calls, 344 bytes missing'))
     for words in (('a.pcap',), ('a.pcap', 'b.pcap', 'c.pcap')):
         tools.want('not two', tools.tool('procedures', '--beside', *words)[0], 2)
 
@@ -319,12 +371,15 @@ def files_for_others(tools: Tools) -> None:
     name = 'a,"b"\n.pcap'
     frames, rows = one_of_each(Talk())
     tools.write(name, pcap(frames))
-    status, _, error = tools.tool('procedures', '--program', tools.program, '--csv', 'x.csv', '--json', 'x.json', name)
+    status, _, error = tools.tool('procedures', '--program', tools.program, '--csv', 'x.csv',
+                                  '--json', 'x.json', name)
     tools.want('status', (status, error), (0, ''))
     found = list(csv.DictReader(io.StringIO((tools.read('x.csv') or b'').decode())))
-    tools.want('whose', [(row['recording'], row['connection'], row['client'], row['procedure']) for row in found], [
-        ('a,"b"\\x0a.pcap', connection, client, row.procedure)
-        for connection, client in (('1', '192.0.2.7:700'), ('', '')) for row in rows])
+    tools.want('whose', [(row['recording'], row['connection'], row['client'], row['procedure'])
+                         for row in found], [
+                             ('a,"b"\\x0a.pcap', connection, client, row.procedure)
+                             for connection, client in (('1', '192.0.2.7:700'), ('', ''))
+                             for row in rows])
     tools.want('a row',
                {key: value for key, value in found[1].items()
                 if key not in ('recording', 'connection', 'client', 'procedure')},
@@ -339,7 +394,8 @@ def files_for_others(tools: Tools) -> None:
     written = json.loads(tools.read('x.json') or b'{}')
     tools.want('JSON', [verdict['state'] for verdict in written['verdicts']], ['ok'])
     tools.want('its tables', [table['connection'] for table in written['tables']], [1, None])
-    tools.want('its errors', written['tables'][0]['procedures'][1]['errors'], {'NFS3ERR_STALE': 2, 'AUTH_BADCRED': 1})
+    tools.want('its errors', written['tables'][0]['procedures'][1]['errors'],
+               {'NFS3ERR_STALE': 2, 'AUTH_BADCRED': 1})
     for option in ('--csv', '--json'):
         tools.write('a.pcap', pcap(frames))
         refused = (2, '', 'procedures: a.pcap is an input, and is not replaced\n')
@@ -347,39 +403,52 @@ def files_for_others(tools: Tools) -> None:
 
 
 def of_tshark(tools: Tools, recording: str, program: int) -> dict[str, tuple[int, int]]:
-    """The calls of each procedure of version 3 of a program, as tshark counts them by replies, and the longest time in microseconds."""
+    """The calls of each procedure of version 3 of a program, as tshark counts them by replies, and
+    the longest time in microseconds."""
     words = [*TSHARK, recording, '-q', '-z', f'rpc,srt,{program},3']
-    rows = re.findall(r'^ +\d+ +(\w+) +(\d+) +[\d.]+ +([\d.]+) ', ended(words, tools.folder).out.decode(), re.M)
+    rows = re.findall(r'^ +\d+ +(\w+) +(\d+) +[\d.]+ +([\d.]+) ',
+                      ended(words, tools.folder).out.decode(), re.M)
     prefix = 'NFSPROC3_' if program == NFS else 'MOUNTPROC3_'
-    return {prefix + name: (int(calls), round(float(most) * 1_000_000)) for name, calls, most in rows}
+    return {prefix + name: (int(calls), round(float(most) * 1_000_000))
+            for name, calls, most in rows}
 
 
 def fields_of_tshark(tools: Tools, recording: str, *fields: str) -> list[list[str]]:
     """These fields of each message of RPC."""
-    done = ended([*TSHARK, recording, '-Y', 'rpc', '-T', 'fields', *(word for field in fields for word in ('-e', field))], tools.folder)
+    done = ended([*TSHARK, recording, '-Y', 'rpc', '-T', 'fields',
+                  *(word for field in fields for word in ('-e', field))], tools.folder)
     return [line.split('\t') for line in done.out.decode().splitlines()]
 
 
 @unittest.skipUnless(shutil.which('tshark'), 'tshark is not there')
 def as_tshark_counts(tools: Tools) -> None:
-    """The numbers and the longest times of calls, the errors, the bytes, the calls that came again, and the median of all latencies. Of a
-    second reply tshark takes the time as well, so it has others of the recording that is made."""
+    """The numbers and the longest times of calls, the errors, the bytes, the calls that came again,
+    and the median of all latencies. Of a second reply tshark takes the time as well, so it has
+    others of the recording that is made."""
     talk = Talk()
     made = [*one_of_each(talk)[0], *talk.closed()]
     tools.write('made.pcap', pcap(made))
-    examples = [str(TOP / f'examples/{name}.pcap') for name in ('ganesha_a', 'ganesha_changed', 'concurrent_a', 'concurrent_b')]
+    examples = [str(TOP / f'examples/{name}.pcap')
+                for name in ('ganesha_a', 'ganesha_changed', 'concurrent_a', 'concurrent_b')]
     for recording in ('made.pcap', *examples):
         rows = {row['procedure']: row for row in tables_of(tools, recording)[-1]['procedures']}
-        timed = {name: (row['latencies'], round(row['most_ns'] / 1_000)) for name, row in rows.items()
+        timed = {name: (row['latencies'], round(row['most_ns'] / 1_000))
+                 for name, row in rows.items()
                  if name[0] in 'NM' and row['latencies']}
         if recording != 'made.pcap':
-            tools.want(recording, timed, of_tshark(tools, recording, NFS) | of_tshark(tools, recording, MOUNT))
-        fields = fields_of_tshark(tools, recording, 'rpc.msgtyp', 'nfs.status3', 'rpc.fraglen', 'rpc.time', 'rpc.call.dup')
-        kinds, states, sizes, times, repeated = ([value for row in fields for value in row[at].split(',') if value] for at in range(5))
-        tools.want('calls and replies', [rows['in all'][name] for name in ('calls', 'replies')], [kinds.count('0'), kinds.count('1')])
-        errors = sum(number for name, number in rows['in all']['errors'].items() if name.startswith('NFS3'))
+            tools.want(recording, timed, of_tshark(tools, recording, NFS)
+                       | of_tshark(tools, recording, MOUNT))
+        fields = fields_of_tshark(tools, recording, 'rpc.msgtyp', 'nfs.status3', 'rpc.fraglen',
+                                  'rpc.time', 'rpc.call.dup')
+        kinds, states, sizes, times, repeated = (
+            [value for row in fields for value in row[at].split(',') if value] for at in range(5))
+        tools.want('calls and replies', [rows['in all'][name] for name in ('calls', 'replies')],
+                   [kinds.count('0'), kinds.count('1')])
+        errors = sum(number for name, number in rows['in all']['errors'].items()
+                     if name.startswith('NFS3'))
         tools.want('errors', errors, sum(state != '0' for state in states))
-        tools.want('bytes', rows['in all']['call_bytes'] + rows['in all']['reply_bytes'], sum(int(piece) + 4 for piece in sizes))
+        tools.want('bytes', rows['in all']['call_bytes'] + rows['in all']['reply_bytes'],
+                   sum(int(piece) + 4 for piece in sizes))
         tools.want('again', rows['in all']['again'], len(repeated))
         if recording != 'made.pcap':
             ordered = sorted(round(float(time) * 1_000_000_000) for time in times)
@@ -387,7 +456,8 @@ def as_tshark_counts(tools: Tools) -> None:
 
 
 def many_calls(tools: Tools) -> None:
-    """100,000 calls take less than 64 MB, and at most 4 times the processor time that tools/verdicts takes."""
+    """100,000 calls take less than 64 MB, and at most 4 times the processor time that
+    tools/verdicts takes."""
     talk = Talk()
     frames = talk.opened()
     for xid in range(MANY):
@@ -396,16 +466,15 @@ def many_calls(tools: Tools) -> None:
     tools.write('a.pcap', pcap(frames))
     spent = dict[str, float]()
     for name in ('verdicts', 'procedures'):
-        status, lines, spent[name], memory = measured(tools, name, '--program', tools.program, 'a.pcap')
+        status, lines, spent[name], memory = measured(tools, name, '--program', tools.program,
+                                                      'a.pcap')
         tools.want(name, (status, memory <= MOST_MEMORY or memory), (0, True))
     tools.want('what it printed', lines[-1].split()[2:6], ['100000', '0', '100000', '0'])
     tools.want('processor time', spent['procedures'] <= 4 * spent['verdicts'] or spent, True)
 
 
-TESTS = [counts_by_hand, times_of_records, ranks_of_latencies, xids_that_come_again,
-         judged_in_part, captures_have_no_times, sorted_rows, clock_that_goes_back,
-         side_by_side, files_for_others, as_tshark_counts, many_calls]
-
-
-class ProceduresTest(FolderTest, make=Tools, tests=TESTS):
+class ProceduresTest(FolderTest, make=Tools, tests=[
+        counts_by_hand, times_of_records, ranks_of_latencies, xids_that_come_again, judged_in_part,
+        captures_have_no_times, sorted_rows, clock_that_goes_back, side_by_side, files_for_others,
+        as_tshark_counts, many_calls]):
     """Each test has a folder of its own."""

@@ -14,16 +14,21 @@ from .scripts import TOP, Tools
 
 # Words that tell what is said of each reason from what is said of any other.
 WORDS_OF_REASONS = {
-    'BadMagic': 'begins with NFS3CAP1', 'CaptureCut': 'the file ends before', 'BadMark': 'a connection word is 0 or 1',
-    'AfterEnd': 'nothing follows', 'TooManyConnections': '65,535', 'TooManyBytes': '1,073,741,824', 'RecordCut': 'stream ends in this',
-    'RecordTooLong': '16,777,216', 'Short': 'body ends before', 'Trailing': 'message ends before', 'BadBool': 'a bool is',
-    'BadEnum': 'is not listed', 'TooLong': 'over its maximum', 'RpcVersion': 'RPC version is 2', 'Flavor': 'RPCSEC_GSS',
-    'AuthLength': 'of the parameters', 'WrongSide': 'replies the server', 'NoCall': 'no call of the connection has',
+    'BadMagic': 'begins with NFS3CAP1', 'CaptureCut': 'the file ends before',
+    'BadMark': 'a connection word is 0 or 1',
+    'AfterEnd': 'nothing follows', 'TooManyConnections': '65,535', 'TooManyBytes': '1,073,741,824',
+    'RecordCut': 'stream ends in this',
+    'RecordTooLong': '16,777,216', 'Short': 'body ends before', 'Trailing': 'message ends before',
+    'BadBool': 'a bool is',
+    'BadEnum': 'is not listed', 'TooLong': 'over its maximum', 'RpcVersion': 'RPC version is 2',
+    'Flavor': 'RPCSEC_GSS', 'AuthLength': 'of the parameters', 'WrongSide': 'replies the server',
+    'NoCall': 'no call of the connection has',
     'XidConflict': 'another procedure'}
 
 
 class Listed(NamedTuple):
-    """A message as `show` lists it: the name of its procedure, and the names and values of its items after the xid."""
+    """A message as `show` lists it: the name of its procedure, and the names and values of its
+    items after the xid."""
     procedure: str
     items: list[tuple[str, str]]
 
@@ -43,8 +48,10 @@ def explained(tools: Tools) -> None:
         said = re.search('^%s: (.*)$' % reason, out, re.M)
         told = [name for name, words in WORDS_OF_REASONS.items() if said and words in said[1]]
         tools.want('explain ' + line, (status, told, error), (0, [reason], ''))
-        if ' byte ' in line and reason not in ('Trailing', 'AuthLength', 'RecordCut', 'RecordTooLong'):
-            tools.want('the item of ' + line, 'after the last item' in out or 'allowed: ' not in out, False)
+        if ' byte ' in line and reason not in ('Trailing', 'AuthLength', 'RecordCut',
+                                               'RecordTooLong'):
+            tools.want('the item of ' + line,
+                       'after the last item' in out or 'allowed: ' not in out, False)
 
 
 def explained_as_documented(tools: Tools) -> None:
@@ -52,23 +59,27 @@ def explained_as_documented(tools: Tools) -> None:
     tools.write('a', (TOP / 'examples/bad_status.nfs3cap').read_bytes())
     status, out, _ = tools.tool('explain', 'a', 'connection 1 server record 1 byte 24')
     tools.want('bad_status', (status, out.splitlines()[:3]), (0, [
-        'connection 1 server record 1: reply NFSPROC3_GETATTR of program 100003, version 3, procedure 1',
-        'xid 7, a body of 28 bytes, to call record 1', 'byte 24: status = 3']))
+        'connection 1 server record 1: reply NFSPROC3_GETATTR of program 100003, version 3, '
+        'procedure 1', 'xid 7, a body of 28 bytes, to call record 1', 'byte 24: status = 3']))
     tools.write('a', (TOP / 'examples/interleaved.nfs3cap').read_bytes())
-    for place, told in (('file 12', 'file byte 12: the side word before a chunk of connection 1 client, from byte 12'),
+    for place, told in (('file 12', 'file byte 12: the side word before a chunk of connection 1 '
+                         'client, from byte 12'),
                         ('connection 2 server record 1 byte 4', 'byte 4: mtype = 1 (REPLY)')):
         tools.want(place, told in tools.tool('explain', 'a', place)[1].splitlines(), True)
     tools.write('a', (TOP / 'examples/bad_status.nfs3cap').read_bytes())
-    for place, status in (('connection 1 server record 2 byte 0', 1), ('file 9999', 1), ('nothing', 2)):
+    for place, status in (('connection 1 server record 2 byte 0', 1), ('file 9999', 1),
+                          ('nothing', 2)):
         tools.want(place, tools.tool('explain', 'a', place)[0], status)
-    tools.want('a file that is absent', tools.tool('explain', 'absent', 'file 0'), (3, '', 'explain: absent: No such file or directory\n'))
+    tools.want('a file that is absent', tools.tool('explain', 'absent', 'file 0'),
+               (3, '', 'explain: absent: No such file or directory\n'))
     for name in ('ganesha_a.pcap', 'bad_bool.pcap'):
         status, out, error = tools.tool('explain', str(TOP / 'examples' / name), 'file 0: BadMagic')
         tools.want('a recording', (status, out, 'tools/from_pcap' in error), (2, '', True))
 
 
 def layouts_agree_with_the_listing(tools: Tools) -> None:
-    """The items that nfs3tools/shared/layouts.py reads are those that `show` lists, on random captures."""
+    """The items that nfs3tools/shared/layouts.py reads are those that `show` lists, on random
+    captures."""
     chance = random.Random(3)
     for seed in range(60):
         connections = Traffic(seed, Names.drawn(chance)).connections
@@ -86,24 +97,25 @@ def listed_in(line: str) -> Listed:
 
 def items_of(calls: Sequence[bytes], replies: Sequence[bytes]) -> Iterator[Listed]:
     """Each message of a connection, as the listing should have it."""
-    procedures = {body[:4]: procedure_of(*(int.from_bytes(body[at:at + 4], 'big') for at in (12, 16, 20))) for body in calls}
+    procedures = {body[:4]: procedure_of(*(int.from_bytes(body[at:at + 4], 'big')
+                                           for at in (12, 16, 20))) for body in calls}
     for body, is_call in [(body, True) for body in calls] + [(body, False) for body in replies]:
         message = Message(body)
         message.read(is_call, procedures[body[:4]])
         items = [item for item in message.items[1:] if not item.name.endswith(')')]
-        yield Listed(procedures[body[:4]].name, [(item.name, listed(body[item.begin:item.end], item)) for item in items])
+        yield Listed(procedures[body[:4]].name,
+                     [(item.name, listed(body[item.begin:item.end], item)) for item in items])
 
 
 def listed(piece: bytes, item: Item) -> str:
     """The value of an item as the listing has it."""
     if item.name in STRINGS:
-        return ''.join(chr(byte) if 32 <= byte < 127 and byte not in b'"\\' else '\\x%02x' % byte for byte in piece)
+        return ''.join(chr(byte) if 32 <= byte < 127 and byte not in b'"\\' else '\\x%02x' % byte
+                       for byte in piece)
     return item.value
 
 
 STRINGS = ('name', 'path', 'machinename', 'dirpath', 'hostname', 'directory')
-TESTS = [explained, explained_as_documented, layouts_agree_with_the_listing]
-
-
-class ReasonsTest(FolderTest, make=Tools, tests=TESTS):
+class ReasonsTest(FolderTest, make=Tools, tests=[
+        explained, explained_as_documented, layouts_agree_with_the_listing]):
     """Each test has a folder of its own."""

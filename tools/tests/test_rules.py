@@ -1,7 +1,7 @@
 """Tests of what `tools/compare` calls the same: each rule of any order, sent again, fields behind
 optional parts, and the words of the headline."""
 import json
-from collections.abc import Callable, Iterable, Sequence
+from collections.abc import Iterable, Sequence
 from typing import Any, NamedTuple
 
 from examples import messages
@@ -112,8 +112,11 @@ def a_lookup_of_something_else(place: Comparisons) -> None:
     other = looked(b'f', b'handle g', 8)
     said = any_order(place, [*made_both, F, G], [*made_both, other, G])
     place.want('handle', (said.status, set(said.found)), (1, {'changed LOOKUP'}))
-    said = any_order(place, [*BOTH, F, removed(b'h')], [*BOTH, G, removed(b'h')])
-    place.want('name', (said.status, {one.split()[1] for one in said.found}), (1, {'LOOKUP'}))
+    for what, first, second in (('name', [*made_both, F], [*made_both, G]),
+                                ('name, before a change', [*BOTH, F, removed(b'h')],
+                                 [*BOTH, G, removed(b'h')])):
+        said = any_order(place, first, second)
+        place.want(what, (said.status, {one.split()[1] for one in said.found}), (1, {'LOOKUP'}))
     said = any_order(place, [*BOTH, F], [*BOTH, F._replace(user=1)])
     place.want('user', said.status, 1)
     gone = [*made_both, removed(b'f')]
@@ -199,10 +202,16 @@ def access(bits: int, user: int = 1000) -> Step:
     return Step(ACCESS, fh(b'handle f') + word(63), ok(post_op_attr(), word(bits)), user=user)
 
 
-def changed_users_and_ids(place: Comparisons) -> None:
-    """A wrong file id or file system in one reply, and another user of one call."""
+def changed_users(place: Comparisons) -> None:
+    """Another user of one call, in its place or in another one."""
+    said = any_order(place, [*BOTH, access(1), F, G], [*BOTH, F, G, access(1, user=0)])
+    place.want('elsewhere', (said.status, said.found), (1, ['only ACCESS'] * 2))
     said = any_order(place, [*BOTH, access(1), access(1)], [*BOTH, access(1), access(1, user=0)])
-    place.want('user', (said.status, said.found), (1, ['changed ACCESS']))
+    place.want('there', (said.status, said.found), (1, ['changed ACCESS']))
+
+
+def changed_ids(place: Comparisons) -> None:
+    """A wrong file id or file system in one reply."""
     for what, wrong in (('fileid', got(b'handle f', 77)), ('fsid', got(b'handle f', 7, fsid=1))):
         said = any_order(place, [*BOTH, BOTH[3], F], [*BOTH, wrong, F])
         place.want(what, (said.status, said.found), (1, ['changed GETATTR']))
@@ -273,7 +282,8 @@ def other_replies_to_a_call_sent_again(place: Comparisons) -> None:
     place.write('a', run(False))
     place.write('b', run(True))
     status, lines, _ = place.compare('--order', 'any', 'a', 'b')
-    place.want('replies', (status, '  1 reply in the first run, 2 in the second' in lines), (1, True))
+    place.want('replies', (status, '  1 reply in the first run, 2 in the second' in lines),
+               (1, True))
 
 
 # --- Fields and words ---
@@ -339,14 +349,11 @@ def parts_by_the_same_rules(place: Comparisons) -> None:
         place.want(f'{what}: explained', '1 answer explained by order' in lines[1], True)
 
 
-TESTS: list[Callable[[Comparisons], None]] = [
-    parts_by_the_same_rules,
-    a_lookup_that_fails, a_lookup_of_something_else, what_an_order_explains,
-    entries_that_an_order_explains, calls_that_fail_alone, calls_that_are_many,
-    calls_alone_that_tell_something_else, changed_users_and_ids, ids_that_follow_their_objects,
-    sizes_that_an_order_explains, calls_that_were_sent_again, other_replies_to_a_call_sent_again,
-    fields_behind_an_optional_part, where_the_headline_is, silly_names]
-
-
-class RulesTest(FolderTest, make=Comparisons, tests=TESTS):
+class RulesTest(FolderTest, make=Comparisons, tests=[
+        parts_by_the_same_rules, a_lookup_that_fails, a_lookup_of_something_else,
+        what_an_order_explains, entries_that_an_order_explains, calls_that_fail_alone,
+        calls_that_are_many, calls_alone_that_tell_something_else, changed_users, changed_ids,
+        ids_that_follow_their_objects, sizes_that_an_order_explains, calls_that_were_sent_again,
+        other_replies_to_a_call_sent_again, fields_behind_an_optional_part, where_the_headline_is,
+        silly_names]):
     """Each test has a folder of its own."""

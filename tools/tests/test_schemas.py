@@ -1,4 +1,5 @@
-"""Tests of docs/schemas against what the tools write and print, and of the validator that they use."""
+"""Tests of docs/schemas against what the tools write and print, and of the validator that they
+use."""
 import json
 import pathlib
 from typing import Any
@@ -21,38 +22,48 @@ CASES: list[tuple[Any, list[Any], list[Any]]] = [
     ({'const': 1}, [1], [True, 1.0, 2, '1']),
     ({'enum': ['a', None]}, ['a', None], ['b', 0]),
     ({'type': 'array', 'items': {'type': 'integer'}}, [[], [1, 2]], [{}, [1, 'x']]),
-    ({'type': 'object', 'properties': {'a': {'type': 'integer'}}, 'required': ['a'], 'additionalProperties': False},
+    ({'type': 'object', 'properties': {'a': {'type': 'integer'}}, 'required': ['a'],
+      'additionalProperties': False},
      [{'a': 1}], [{}, {'a': 'x'}, {'a': 1, 'b': 1}, []]),
     ({'type': 'object', 'additionalProperties': {'type': 'integer'}}, [{}, {'x': 1}], [{'x': 'y'}]),
     ({'anyOf': [{'type': 'null'}, {'type': 'integer'}]}, [None, 1], ['x']),
-    ({'$ref': '#/$defs/a', '$defs': {'a': {'items': {'$ref': '#/$defs/b'}}, 'b': {'const': 3}}}, [[], [3, 3]], [[3, 4]]),
+    ({'$ref': '#/$defs/a', '$defs': {'a': {'items': {'$ref': '#/$defs/b'}}, 'b': {'const': 3}}},
+     [[], [3, 3]], [[3, 4]]),
     ({'$ref': 'other.json#/$defs/a'}, ['a'], [1])]
 
 
 def validator_knows_its_keywords(tools: Tools) -> None:
     """Values that fit pieces of schemas have no fault, and those that do not have one."""
-    tools.write('other.json', json.dumps({'$defs': {'a': {'$ref': '#/$defs/b'}, 'b': {'type': 'string'}}}).encode())
+    tools.write('other.json',
+                json.dumps({'$defs': {'a': {'$ref': '#/$defs/b'},
+                                      'b': {'type': 'string'}}}).encode())
     for schema, fitting, others in CASES:
         tools.write('s.json', json.dumps(schema).encode())
-        found = [not Schema('s.json', pathlib.Path(tools.folder)).faults(value) for value in (*fitting, *others)]
+        found = [not Schema('s.json', pathlib.Path(tools.folder)).faults(value)
+                 for value in (*fitting, *others)]
         tools.want(json.dumps(schema), found, [True] * len(fitting) + [False] * len(others))
 
 
 def schemas_use_what_is_known(tools: Tools) -> None:
-    """Each schema of the folder is named on its page, says its draft, and has known keywords alone."""
+    """Each schema of the folder is named on its page, says its draft, and has known keywords
+    alone."""
     page = (FOLDER / 'README.md').read_text()
     for path in sorted(FOLDER.glob('*.json')):
         schema = json.loads(path.read_text())
-        tools.want(path.name, (f'[{path.name}]({path.name})' in page, schema['$id'], schema['$schema']),
+        tools.want(path.name, (f'[{path.name}]({path.name})' in page, schema['$id'],
+                               schema['$schema']),
                    (True, path.name, 'https://json-schema.org/draft/2020-12/schema'))
-        tools.want('keywords of ' + path.name, sorted(keywords_of(schema) - KEYWORDS.keys() - NOTES), [])
+        tools.want('keywords of ' + path.name,
+                   sorted(keywords_of(schema) - KEYWORDS.keys() - NOTES), [])
 
 
 def keywords_of(schema: Any) -> set[str]:
     """The keywords of a schema and of its parts."""
     found = set(schema)
-    parts = [*schema.get('properties', {}).values(), *schema.get('$defs', {}).values(), *schema.get('anyOf', ())]
-    parts += [part for part in (schema.get('items'), schema.get('additionalProperties')) if isinstance(part, dict)]
+    parts = [*schema.get('properties', {}).values(), *schema.get('$defs', {}).values(),
+             *schema.get('anyOf', ())]
+    parts += [part for part in (schema.get('items'), schema.get('additionalProperties'))
+              if isinstance(part, dict)]
     return found.union(*map(keywords_of, parts))
 
 
@@ -65,11 +76,13 @@ def fits(tools: Tools, name: str, text: str) -> Any:
 
 def written(tools: Tools, tool: str, *words: str) -> str:
     """What a tool writes as JSON to standard output."""
-    return tools.tool(tool, '--program', tools.program, *(['--json'] if tool in ('calls', 'meaning') else ['--json', '-']), *words)[1]
+    return tools.tool(tool, '--program', tools.program,
+                      *(['--json'] if tool in ('calls', 'meaning') else ['--json', '-']), *words)[1]
 
 
 def verdicts_fit(tools: Tools) -> None:
-    """What verdicts, procedures and calls write of good and bad recordings fits, and has the version 2."""
+    """What verdicts, procedures and calls write of good and bad recordings fits, and has the
+    version 2."""
     faulty = write_faulty(tools)
     names = [*faulty, *RUNS, str(EXAMPLES / 'two_connections.nfs3cap')]
     for tool in ('verdicts', 'procedures', 'calls'):
@@ -83,20 +96,25 @@ def verdicts_fit(tools: Tools) -> None:
 
 def lines_of_follow_fit(tools: Tools) -> None:
     """Each line of --follow fits: the rows, and then the counts and the status."""
-    for recording in (pcap(whole()), pcap(whole()[:4] + whole()[5:]), (EXAMPLES / 'bad_server_record.pcap').read_bytes()):
-        status, out, _ = tools.tool('verdicts', '--program', tools.program, '--follow', '--json', '-', '-', stdin=recording)
+    for recording in (pcap(whole()), pcap(whole()[:4] + whole()[5:]),
+                      (EXAMPLES / 'bad_server_record.pcap').read_bytes()):
+        status, out, _ = tools.tool('verdicts', '--program', tools.program, '--follow', '--json',
+                                    '-', '-', stdin=recording)
         values = [fits(tools, 'follow.json', line) for line in out.splitlines()]
-        tools.want('the end', ['row' in value for value in values], [True] * (len(values) - 1) + [False])
+        tools.want('the end', ['row' in value for value in values],
+                   [True] * (len(values) - 1) + [False])
         tools.want('status', values[-1]['status'], status)
 
 
 def comparisons_fit(tools: Tools) -> None:
-    """What compare writes fits, of runs that are the same, that differ, in another order, in part, and of parts."""
+    """What compare writes fits, of runs that are the same, that differ, in another order, in part,
+    and of parts."""
     place = Comparisons(tools.program, tools.folder)
     accepts(place, NLINK)
     place.put('a', run(1, 1, 1))
-    for nlinks, names, words in (((1, 1, 1), (), ()), ((1, 2, 3), (), ('--accept', 'known')), ((1, 2, 1), (), ('--accept', 'known')),
-                                 ((1, 1, 1), (2, 1, 0), ()), ((1, 2, 1), (2, 1, 0), ('--order', 'strict'))):
+    for nlinks, names, words in (((1, 1, 1), (), ()), ((1, 2, 3), (), ('--accept', 'known')),
+                                 ((1, 2, 1), (), ('--accept', 'known')), ((1, 1, 1), (2, 1, 0), ()),
+                                 ((1, 2, 1), (2, 1, 0), ('--order', 'strict'))):
         place.put('b', run(*nlinks, names=names, more=nlinks[1] - 1))
         value = fits(tools, 'compare.json', written(tools, 'compare', *words, 'a', 'b'))
         tools.want('version', value['version'], 1)
@@ -115,11 +133,11 @@ def accepted_files_fit(tools: Tools) -> None:
     place.put('a', run(1, 1, 1))
     place.put('b', run(1, 2, 3, more=1))
     place.compare('--accept-new', 'new', 'a', 'b')
-    tools.want('entries', len(fits(tools, 'accepted.json', place.read('new').decode())['accepted']), 3)
+    tools.want('entries', len(fits(tools, 'accepted.json', place.read('new').decode())['accepted']),
+               3)
 
 
-TESTS = [validator_knows_its_keywords, schemas_use_what_is_known, verdicts_fit, lines_of_follow_fit, comparisons_fit, accepted_files_fit]
-
-
-class TestSchemas(FolderTest, make=Tools, tests=TESTS):
+class TestSchemas(FolderTest, make=Tools, tests=[
+        validator_knows_its_keywords, schemas_use_what_is_known, verdicts_fit, lines_of_follow_fit,
+        comparisons_fit, accepted_files_fit]):
     """The schemas of JSON."""

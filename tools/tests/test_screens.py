@@ -20,7 +20,7 @@ import typing
 from collections.abc import Sequence
 
 from examples.messages import NFS, call, dirop, failed, fattr, fh, ok, post_op_attr, success
-from examples.packets import Talk, pcap
+from examples.packets import pcap
 from tests.shared.running import ended
 
 from ..nfs3tools.recordings.frames import Recording, Source, opened
@@ -28,12 +28,13 @@ from ..nfs3tools.recordings.taken import share_of, size_of
 from ..nfs3tools.shared.progress import Progress
 from ..nfs3tools.shared.screens import Colour, Screen, Styled, lines_of, panels
 from .cases import FolderTest
-from .scripts import TOP, Tools, exchange, sums, whole
+from .scripts import TOP, Tools, connection_of, sums, whole
 from .test_accepted import run
 from .test_compare import Comparisons
 
 RED, GREEN, YELLOW, END = '\x1b[31m', '\x1b[32m', '\x1b[33m', '\x1b[m'
-PLAIN = {name: value for name, value in os.environ.items() if name not in ('NO_COLOR', 'COLUMNS', 'LINES')} | {'TERM': 'xterm'}
+PLAIN = {name: value for name, value in os.environ.items()
+         if name not in ('NO_COLOR', 'COLUMNS', 'LINES')} | {'TERM': 'xterm'}
 
 
 def on_terminal(tools: Tools, width: int, *words: str, **variables: str) -> tuple[int, list[str]]:
@@ -42,14 +43,18 @@ def on_terminal(tools: Tools, width: int, *words: str, **variables: str) -> tupl
     return status, text.replace('\r\n', '\n').splitlines()
 
 
-def written_to(tools: Tools, width: int, stream: str, *words: str, given: typing.IO[bytes] | None = None,
+def written_to(tools: Tools, width: int, stream: str, *words: str,
+               given: typing.IO[bytes] | None = None,
                **variables: str) -> tuple[int, str]:
-    """The status of a tool of which one stream is a terminal, and what is written there. It may be given its standard input."""
+    """The status of a tool of which one stream is a terminal, and what is written there. It may be
+    given its standard input."""
     master, slave = pty.openpty()
     fcntl.ioctl(slave, termios.TIOCSWINSZ, struct.pack('4H', 24, width, 0, 0))
     command = [str(TOP / 'tools' / words[0]), '--program', tools.program, *words[1:]]
-    streams = {'stdin': given or subprocess.DEVNULL, 'stdout': subprocess.DEVNULL, 'stderr': subprocess.DEVNULL, stream: slave}
-    with subprocess.Popen(command, cwd=tools.folder, env={**PLAIN, **variables}, **typing.cast(dict[str, typing.Any], streams)) as process:
+    streams = {'stdin': given or subprocess.DEVNULL, 'stdout': subprocess.DEVNULL,
+               'stderr': subprocess.DEVNULL, stream: slave}
+    with subprocess.Popen(command, cwd=tools.folder, env={**PLAIN, **variables},
+                          **typing.cast(dict[str, typing.Any], streams)) as process:
         os.close(slave)
         content = b''.join(iter(lambda: piece_of(master), b''))
     os.close(master)
@@ -71,34 +76,43 @@ def bare(lines: Sequence[str]) -> list[str]:
 
 def recording(status: int = 0) -> bytes:
     """LOOKUP of two files in one folder, the second of which is not there, on a connection."""
-    talk = Talk()
     calls = [call(1, NFS, 3, 3, dirop(b'top', b'x')), call(2, NFS, 3, 3, dirop(b'top', b'y' * 60))]
-    replies = [success(1, ok(fh(b'x'), post_op_attr(fattr(1, 1)), post_op_attr())), success(2, failed(2, post_op_attr()))]
-    return pcap([*talk.opened(), *exchange(talk, 1, calls, replies), *talk.closed()])
+    replies = [success(1, ok(fh(b'x'), post_op_attr(fattr(1, 1)), post_op_attr())),
+               success(2, failed(2, post_op_attr()))]
+    return pcap(connection_of(calls, replies))
 
 
 # --- Layout ---
 
 def lines_that_fit_are_as_elsewhere(tools: Tools) -> None:
-    """A table that fits has its columns; one that does not has its last cells wrapped, or below if there is little room."""
-    rows = [Styled(['name', 'n', 'what']), Styled(['abc', '12', 'one two three four five six seven']), Styled(['abcdefgh', '3', '-'], Colour.RED)]
-    fitting = ['name      n   what', 'abc       12  one two three four five six seven', 'abcdefgh  3   -']
+    """A table that fits has its columns; one that does not has its last cells wrapped, or below if
+    there is little room."""
+    rows = [Styled(['name', 'n', 'what']),
+            Styled(['abc', '12', 'one two three four five six seven']),
+            Styled(['abcdefgh', '3', '-'], Colour.RED)]
+    fitting = ['name      n   what', 'abc       12  one two three four five six seven',
+               'abcdefgh  3   -']
     for width in (None, 47):
         tools.want(f'{width} columns', list(lines_of(rows, Screen(width))), fitting)
     tools.want('wrapped', list(lines_of(rows, Screen(38))),
-               ['name      n   what', 'abc       12  one two three four five', ' ' * 14 + 'six seven', 'abcdefgh  3   -'])
+               ['name      n   what', 'abc       12  one two three four five',
+                ' ' * 14 + 'six seven', 'abcdefgh  3   -'])
     tools.want('below', list(lines_of(rows, Screen(37))),
-               ['name      n', '    what', 'abc       12', '    one two three four five six seven', 'abcdefgh  3', '    -'])
-    tools.want('colour', list(lines_of(rows, Screen(None, True))), [*fitting[:2], f'abcdefgh  3   {RED}-{END}'])
+               ['name      n', '    what', 'abc       12', '    one two three four five six seven',
+                'abcdefgh  3', '    -'])
+    tools.want('colour', list(lines_of(rows, Screen(None, True))),
+               [*fitting[:2], f'abcdefgh  3   {RED}-{END}'])
     tools.want('to the right', list(lines_of(rows, Screen(), [1]))[2], 'abcdefgh   3  -')
 
 
 def panels_repeat_the_first_column(tools: Tools) -> None:
     """A table that is too wide has its columns below each other, each part with the first one."""
     rows = [Styled(['name', 'one', 'two', 'three', 'text']), Styled(['a', '1', '22', '333', 'x'])]
-    tools.want('as it is', list(panels(rows, Screen(), range(1, 4))), ['name  one  two  three  text', 'a       1   22    333  x'])
+    tools.want('as it is', list(panels(rows, Screen(), range(1, 4))),
+               ['name  one  two  three  text', 'a       1   22    333  x'])
     tools.want('two', list(panels(rows, Screen(16), range(1, 4))),
-               ['name  one  two', 'a       1   22', 'name  three  text', 'a       333  x'][:2] + ['name  three', 'a       333', 'name  text', 'a     x'])
+               ['name  one  two', 'a       1   22', 'name  three  text', 'a       333  x'][:2]
+               + ['name  three', 'a       333', 'name  text', 'a     x'])
 
 
 def a_long_word_is_broken(tools: Tools) -> None:
@@ -117,22 +131,29 @@ def verdicts_have_colours(tools: Tools) -> None:
     bad = str(TOP / 'examples/bad_status.pcap')
     status, lines = on_terminal(tools, 200, 'verdicts', 'a.pcap', 'lost.pcap', bad, 'absent')
     words = [re.findall('\x1b\\[(\\d+)m(\\w+ ?\\w*)', line) for line in lines]
-    tools.want('words', [found[0] for found in words if found], [('32', 'ok'), ('33', 'ok in'), ('31', 'server record'), ('31', 'absent')])
+    tools.want('words', [found[0] for found in words if found],
+               [('32', 'ok'), ('33', 'ok in'), ('31', 'server record'), ('31', 'absent')])
     tools.want('heads and sums', (words[0], words[-1], status), ([], [], 1))
 
 
 def no_colours_elsewhere(tools: Tools) -> None:
-    """There is no escape in a pipe or a file, with NO_COLOR, on a dumb terminal or with --color never; with --color always there is."""
+    """There is no escape in a pipe or a file, with NO_COLOR, on a dumb terminal or with --color
+    never; with --color always there is."""
     tools.write('a.pcap', recording())
     for tool in ('verdicts', 'calls', 'procedures'):
         plain = tools.tool(tool, '--program', tools.program, 'a.pcap')[1].splitlines()
         tools.want(f'{tool} in a pipe', '\x1b' in ''.join(plain), False)
-        tools.want(f'{tool} on a terminal', '\x1b' in ''.join(on_terminal(tools, 300, tool, 'a.pcap')[1]), True)
-        for words, variables in (((), {'NO_COLOR': '1'}), ((), {'TERM': 'dumb'}), (('--color', 'never'), {})):
-            tools.want(f'{tool} {words} {variables}', on_terminal(tools, 300, tool, *words, 'a.pcap', **variables)[1],
+        tools.want(f'{tool} on a terminal',
+                   '\x1b' in ''.join(on_terminal(tools, 300, tool, 'a.pcap')[1]), True)
+        for words, variables in (((), {'NO_COLOR': '1'}), ((), {'TERM': 'dumb'}),
+                                 (('--color', 'never'), {})):
+            tools.want(f'{tool} {words} {variables}',
+                       on_terminal(tools, 300, tool, *words, 'a.pcap', **variables)[1],
                        bare(on_terminal(tools, 300, tool, 'a.pcap')[1]))
-        tools.want(f'{tool} with an empty NO_COLOR', '\x1b' in ''.join(on_terminal(tools, 300, tool, 'a.pcap', NO_COLOR='')[1]), True)
-        always = tools.tool(tool, '--program', tools.program, '--color', 'always', 'a.pcap')[1].splitlines()
+        tools.want(f'{tool} with an empty NO_COLOR',
+                   '\x1b' in ''.join(on_terminal(tools, 300, tool, 'a.pcap', NO_COLOR='')[1]), True)
+        always = tools.tool(tool, '--program', tools.program, '--color', 'always',
+                            'a.pcap')[1].splitlines()
         tools.want(f'{tool} always', ('\x1b' in ''.join(always), bare(always)), (True, plain))
     out = tools.tool('verdicts', '--program', tools.program, '--json', '-', 'a.pcap')[1]
     tools.want('JSON', '\x1b' in out, False)
@@ -147,24 +168,30 @@ def names_stay_escaped(tools: Tools) -> None:
 
 
 def comparisons_have_colours_as_diff(tools: Tools) -> None:
-    """Lines of the first run are red, those of the second green; the verdict is green only with the status 0."""
+    """Lines of the first run are red, those of the second green; the verdict is green only with the
+    status 0."""
     place = Comparisons(tools.program, tools.folder)
     place.put('a', run(1, 1, 1))
     place.put('b', run(1, 2, 1))
     status, lines = on_terminal(tools, 300, 'compare', 'a', 'b')
-    tools.want('values', [line for line in lines if 'nlink=' in line], [f'{RED}  - obj.nlink=1{END}', f'{GREEN}  + obj.nlink=2{END}'])
-    tools.want('verdict', (status, lines[1].startswith(RED + 'differ'), lines[1].endswith(END)), (1, True, True))
+    tools.want('values', [line for line in lines if 'nlink=' in line],
+               [f'{RED}  - obj.nlink=1{END}', f'{GREEN}  + obj.nlink=2{END}'])
+    tools.want('verdict', (status, lines[1].startswith(RED + 'differ'), lines[1].endswith(END)),
+               (1, True, True))
     place.put('b', run(1, 1, 1))
-    tools.want('same', on_terminal(tools, 300, 'compare', 'a', 'b')[1][1], f'{GREEN}same: 6 calls in 1 connection{END}')
+    tools.want('same', on_terminal(tools, 300, 'compare', 'a', 'b')[1][1],
+               f'{GREEN}same: 6 calls in 1 connection{END}')
     place.put('b', run(1, 1, 1, names=(2, 1, 0)))
     for words, colour in (((), YELLOW), (('--order', 'any'), GREEN)):
-        tools.want(f'turned {words}', on_terminal(tools, 300, 'compare', *words, 'a', 'b')[1][1][:5], colour)
+        tools.want(f'turned {words}', on_terminal(tools, 300, 'compare', *words, 'a',
+                                                  'b')[1][1][:5], colour)
 
 
 # --- Tables that fit ---
 
 def verdicts_fit(tools: Tools) -> None:
-    """In 60 columns the recording is above its rows, and a long verdict below them; nothing is lost."""
+    """In 60 columns the recording is above its rows, and a long verdict below them; nothing is
+    lost."""
     tools.write('a.pcap', pcap(whole()))
     lines = bare(on_terminal(tools, 60, 'verdicts', 'a.pcap')[1])
     tools.want('lines', lines, [
@@ -173,74 +200,90 @@ def verdicts_fit(tools: Tools) -> None:
         '1 judged (1 ok, 0 refused), 0 in part, 0 left out, 0 not', 'checked, 0 errors'])
     tools.want('quiet', bare(on_terminal(tools, 60, 'verdicts', '-q', 'a.pcap')[1]), lines[5:])
     wide = bare(on_terminal(tools, 200, 'verdicts', 'a.pcap')[1])
-    tools.want('wide', wide, tools.tool('verdicts', '--program', tools.program, 'a.pcap')[1].splitlines())
+    tools.want('wide', wide, tools.tool('verdicts', '--program', tools.program,
+                                        'a.pcap')[1].splitlines())
 
 
 def lines_of_follow_fit(tools: Tools) -> None:
-    """With --follow the lines have columns on a wide terminal, and none on a narrow one; the verdict is coloured."""
+    """With --follow the lines have columns on a wide terminal, and none on a narrow one; the
+    verdict is coloured."""
     tools.write('a.pcap', pcap(whole()))
     row = ['-', '1', '192.0.2.7:700', '192.0.2.1:2049', '39', '39', f'{GREEN}ok{END}']
-    for width, wanted in ((80, '  '.join(row)), (150, '-          1           192.0.2.7:700          192.0.2.1:2049         39         39         '
-                                                 + row[-1])):
+    for width, wanted in ((80, '  '.join(row)),
+                          (150, '-          1           192.0.2.7:700          192.0.2.1:2049      '
+                           '   39         39         '
+                           + row[-1])):
         with open(tools.path('a.pcap'), 'rb') as file:
             text = written_to(tools, width, 'stdout', 'verdicts', '--follow', '-', given=file)[1]
         tools.want(f'{width} columns', text.replace('\r\n', '\n').splitlines()[1], wanted)
 
 
 def calls_fit(tools: Tools) -> None:
-    """In 70 columns a long call is wrapped below its beginning, and an answer that does not fit is below the call."""
+    """In 70 columns a long call is wrapped below its beginning, and an answer that does not fit is
+    below the call."""
     tools.write('a.pcap', recording())
     lines = bare(on_terminal(tools, 70, 'calls', 'a.pcap')[1])
     tools.want('wide', [line for line in lines if len(line) > 70 and 'judged' not in line], [])
     indent = len('0.000003  0.001      4   1:1  ')
     tools.want('short', lines[1][indent:], 'LOOKUP  ?/x' + ' ' * 15 + 'OK')
-    tools.want('long', [line[indent:] for line in lines[2:5]], ['LOOKUP  ?/' + 'y' * 30, 'y' * 30, '  NFS3ERR_NOENT'])
+    tools.want('long', [line[indent:] for line in lines[2:5]],
+               ['LOOKUP  ?/' + 'y' * 30, 'y' * 30, '  NFS3ERR_NOENT'])
     coloured = on_terminal(tools, 70, 'calls', 'a.pcap')[1]
-    tools.want('red', [line[indent:] for line in coloured if '\x1b' in line], [f'  {RED}NFS3ERR_NOENT{END}'])
+    tools.want('red', [line[indent:] for line in coloured if '\x1b' in line],
+               [f'  {RED}NFS3ERR_NOENT{END}'])
 
 
 def procedures_fit(tools: Tools) -> None:
-    """In 80 columns a table has panels, and --beside a block for each procedure; --width does the same in a pipe."""
+    """In 80 columns a table has panels, and --beside a block for each procedure; --width does the
+    same in a pipe."""
     tools.write('a.pcap', recording())
     lines = bare(on_terminal(tools, 80, 'procedures', '--total', 'a.pcap')[1])
     tools.want('wide', [line for line in lines if len(line) > 80], [])
     heads = [line for line in lines if line.startswith('procedure ')]
     tools.want('heads', [line.split('  ')[0] for line in heads], ['procedure'] * len(heads))
     words = re.split('  +', ' '.join(line.removeprefix('procedure') for line in heads).strip())
-    tools.want('columns', words, ['calls', 'again', 'replies', 'no reply', 'errors', 'call bytes', 'reply bytes', 'median ms', '99 % ms',
+    tools.want('columns', words, ['calls', 'again', 'replies', 'no reply', 'errors', 'call bytes',
+                                  'reply bytes', 'median ms', '99 % ms',
                                   'most ms', 'mean ms', 'sum ms', 'longest'])
     tools.want('errors beside calls', len(heads[0].split('  ')) > 5 and 'errors' in heads[0], True)
-    block = ['NFSPROC3_LOOKUP', '  calls        2', '  replies      2', '  call bytes   176', '  reply bytes  168']
+    block = ['NFSPROC3_LOOKUP', '  calls        2', '  replies      2', '  call bytes   176',
+             '  reply bytes  168']
     for found in (bare(on_terminal(tools, 80, 'procedures', '--beside', 'a.pcap', 'a.pcap')[1]),
-                  tools.tool('procedures', '--program', tools.program, '--beside', '--width', '80', 'a.pcap', 'a.pcap')[1].splitlines()):
+                  tools.tool('procedures', '--program', tools.program, '--beside', '--width', '80',
+                             'a.pcap', 'a.pcap')[1].splitlines()):
         at = found.index('NFSPROC3_LOOKUP')
-        tools.want('block', (found[at:at + 5], found[at + 10]), (block, '  errors       NFS3ERR_NOENT 1'))
-    plain = tools.tool('procedures', '--program', tools.program, '--beside', 'a.pcap', 'a.pcap')[1].splitlines()
+        tools.want('block', (found[at:at + 5], found[at + 10]),
+                   (block, '  errors       NFS3ERR_NOENT 1'))
+    plain = tools.tool('procedures', '--program', tools.program, '--beside', 'a.pcap',
+                       'a.pcap')[1].splitlines()
     tools.want('a pipe', (len(plain), len(plain[2]) > 120), (5, True))
 
 
 def help_fits(tools: Tools) -> None:
-    """No line of a help is wider than 80 columns, if that is all there is; and calls has --width. A value
-    that looks like an option is refused in one line."""
-    for tool in ('from_pcap', 'where', 'verdicts', 'calls', 'procedures', 'compare', 'explain', 'cut', 'install', 'release'):
+    """No line of a help is wider than 80 columns, if that is all there is; and calls has --width. A
+    value that looks like an option is refused in one line."""
+    for tool in ('from_pcap', 'where', 'verdicts', 'calls', 'procedures', 'compare', 'explain',
+                 'cut', 'install', 'release'):
         status, out, _ = tools.tool(tool, '--help')
         tools.want(tool, (status, [line for line in out.splitlines() if len(line) > 80]), (0, []))
     tools.write('a.pcap', recording())
     out = tools.tool('calls', '--program', tools.program, '--width', '60', 'a.pcap')[1]
     tools.want('--width', [line for line in out.splitlines()[:-2] if len(line) > 60], [])
     tools.want('--mask', tools.tool('compare', '--mask', '-times', 'a', 'b'), (
-        2, '', 'compare: error: argument --mask: expected one argument, and -times is none, since it begins with `-`\n'))
+        2, '', 'compare: error: argument --mask: expected one argument, and -times is none, since '
+        'it begins with `-`\n'))
 
 
 def numbers_have_separators_on_a_terminal_alone(tools: Tools) -> None:
     """1,200 calls are `1,200` on a terminal, and `1200` in a pipe."""
-    talk = Talk()
-    calls, replies = [call(xid, NFS, 3, 0) for xid in range(1_200)], [success(xid) for xid in range(1_200)]
-    tools.write('a.pcap', pcap([*talk.opened(), *exchange(talk, 90, calls, replies), *talk.closed()]))
+    tools.write('a.pcap', pcap(connection_of([call(xid, NFS, 3, 0) for xid in range(1_200)],
+                                             [success(xid) for xid in range(1_200)], 90)))
     row = ['192.0.2.7:700', '192.0.2.1:2049', '%s', '%s', 'ok']
     for lines, number in ((bare(on_terminal(tools, 100, 'verdicts', 'a.pcap')[1]), '1,200'),
-                          (tools.tool('verdicts', '--program', tools.program, 'a.pcap')[1].splitlines(), '1200')):
-        tools.want(number, (re.split('  +', lines[1])[2:], lines[-1]), ([one.replace('%s', number) for one in row], sums(1)))
+                          (tools.tool('verdicts', '--program', tools.program,
+                                      'a.pcap')[1].splitlines(), '1200')):
+        tools.want(number, (re.split('  +', lines[1])[2:], lines[-1]),
+                   ([one.replace('%s', number) for one in row], sums(1)))
 
 
 # --- Progress ---
@@ -253,11 +296,12 @@ class Terminal(io.StringIO):
 
 
 def shares_are_those_of_the_file(tools: Tools) -> None:
-    """The share of a recording that was read grows from frame to frame, and is 1 in the end: also of parts, and of compressed files by
-    their own bytes."""
+    """The share of a recording that was read grows from frame to frame, and is 1 in the end: also
+    of parts, and of compressed files by their own bytes."""
     chance = random.Random(1)
     content = pcap([chance.randbytes(60_000) for _ in range(100)])
-    files = {'a': content, 'a.gz': gzip.compress(content), 'a.xz': lzma.compress(content), 'a.bz2': bz2.compress(content)}
+    files = {'a': content, 'a.gz': gzip.compress(content), 'a.xz': lzma.compress(content),
+             'a.bz2': bz2.compress(content)}
     for name, packed in files.items():
         tools.write(name, packed)
     if shutil.which('zstd'):
@@ -269,15 +313,18 @@ def shares_are_those_of_the_file(tools: Tools) -> None:
                 source = Source(file)
                 share = share_of(source, before, size)
                 shares = [share() for _ in Recording(source).frames() if share]
-            tools.want(f'{name} after {before}', (len(shares), shares == sorted(shares), shares[-1]), (100, True, 1.0))
+            tools.want(f'{name} after {before}',
+                       (len(shares), shares == sorted(shares), shares[-1]), (100, True, 1.0))
             # (zstd reads some megabytes ahead)
-            tools.want(f'{name} in the middle', name == 'a.zst' or abs(shares[50] - (before + len(packed) / 2) / size) < 0.3, True)
+            tools.want(f'{name} in the middle', name == 'a.zst'
+                       or abs(shares[50] - (before + len(packed) / 2) / size) < 0.3, True)
     with opened(tools.path('a')) as file:
         tools.want('no size', share_of(Source(file), 0, size_of(['-'])), None)
 
 
 def progress_is_said_at_times(tools: Tools) -> None:
-    """What begins is said at once, how far it is at most five times a second and never over 100 %, and in the end the line is empty."""
+    """What begins is said at once, how far it is at most five times a second and never over 100 %,
+    and in the end the line is empty."""
     with contextlib.redirect_stderr(Terminal()) as stream:
         progress = Progress()
         progress.begin('one')
@@ -289,7 +336,8 @@ def progress_is_said_at_times(tools: Tools) -> None:
         lines = list(progress.lines('five', ['a', 'b'], lambda: 2))
         progress.end()
     tools.want('lines', lines, ['a', 'b'])
-    tools.want('said', stream.getvalue().split('\r\x1b[K'), ['', 'one', 'three, 41 %', 'four, 100 %', 'five', ''])
+    tools.want('said', stream.getvalue().split('\r\x1b[K'),
+               ['', 'one', 'three, 41 %', 'four, 100 %', 'five', ''])
     with contextlib.redirect_stderr(io.StringIO()) as other:
         progress = Progress()
         progress.begin('one')
@@ -300,12 +348,15 @@ def progress_is_said_at_times(tools: Tools) -> None:
 
 
 def comparisons_say_how_far_they_are(tools: Tools) -> None:
-    """On a terminal each step of a comparison is said, and the line is gone in the end, also after an error; a pipe gets nothing."""
+    """On a terminal each step of a comparison is said, and the line is gone in the end, also after
+    an error; a pipe gets nothing."""
     place = Comparisons(tools.program, tools.folder)
     place.put('a', run(1, 1, 1))
     place.put('b', run(1, 1, 2, names=(2, 1, 0)))
-    said = written_to(tools, 80, 'stderr', 'compare', '--order', 'any', 'a', 'b')[1].split('\r\x1b[K')
-    steps = ['checking both runs', 'masking values', 'comparing both runs', 'bringing 12 calls together', 'writing both runs in one order']
+    said = written_to(tools, 80, 'stderr', 'compare', '--order', 'any', 'a',
+                      'b')[1].split('\r\x1b[K')
+    steps = ['checking both runs', 'masking values', 'comparing both runs',
+             'bringing 12 calls together', 'writing both runs in one order']
     tools.want('steps', ([step for step in steps if step not in said], said[-1]), ([], ''))
     tools.want('a pipe', place.compare('--order', 'any', 'a', 'b')[2], '')
     place.put('a', run(*[1] * 3_000))
@@ -314,14 +365,14 @@ def comparisons_say_how_far_they_are(tools: Tools) -> None:
     tools.want('many calls', 'reading the calls' in said, True)
     place.put('b', ([], []))
     text = written_to(tools, 80, 'stderr', 'compare', '--order', 'any', 'a', 'b')[1]
-    tools.want('an error', text.split('\r\x1b[K')[-1], 'compare: nothing to compare: no call of b is taken\r\n')
+    tools.want('an error', text.split('\r\x1b[K')[-1],
+               'compare: nothing to compare: no call of b is taken\r\n')
 
 
-TESTS = [lines_that_fit_are_as_elsewhere, panels_repeat_the_first_column, a_long_word_is_broken, verdicts_have_colours, no_colours_elsewhere,
-         names_stay_escaped, comparisons_have_colours_as_diff, verdicts_fit, lines_of_follow_fit, calls_fit, procedures_fit, help_fits,
-         numbers_have_separators_on_a_terminal_alone, shares_are_those_of_the_file, progress_is_said_at_times,
-         comparisons_say_how_far_they_are]
-
-
-class TestScreens(FolderTest, make=Tools, tests=TESTS):
+class TestScreens(FolderTest, make=Tools, tests=[
+        lines_that_fit_are_as_elsewhere, panels_repeat_the_first_column, a_long_word_is_broken,
+        verdicts_have_colours, no_colours_elsewhere, names_stay_escaped,
+        comparisons_have_colours_as_diff, verdicts_fit, lines_of_follow_fit, calls_fit,
+        procedures_fit, help_fits, numbers_have_separators_on_a_terminal_alone,
+        shares_are_those_of_the_file, progress_is_said_at_times, comparisons_say_how_far_they_are]):
     """What is printed on a terminal."""

@@ -9,30 +9,21 @@ sent. It knows nothing of the tools. If it has all bytes, both ways are to say `
 these bytes; if some are missing, or bytes were recorded that belong to nothing, neither may.
 """
 import collections
-import concurrent.futures
-import contextlib
 import dataclasses
-import functools
-import io
 import random
 import re
 import struct
-import tempfile
 import typing
-import unittest
 
 from examples.messages import NFS, call, success
 from examples.packets import ACK, CLIENT, FIN, RST, SERVER, SYN, datagram, ethernet, segment
 
-from ..nfs3tools.commands.verdicts import Judge
-from ..nfs3tools.judgement import following
 from ..nfs3tools.judgement.verdict import Verdict, is_row, status_of
 from ..nfs3tools.recordings.coverage import Allowed
-from ..nfs3tools.recordings.selection import Options
 from ..nfs3tools.shared.places import SIDES
-from .cases import PROGRAM, in_steps, seeds
+from .cases import SeedsTest
 from .recordings import fragments
-from .scripts import stream, taken_of
+from .scripts import both_ways, stream, taken_of
 
 FAR = 1 << 30
 CALL, REPLY = 44, 28  # bytes of a record of each
@@ -43,11 +34,12 @@ LATER = ' it was judged'
 
 @dataclasses.dataclass
 class Sent:
-    """A segment of a connection: which end sends which bytes of its stream, and what it says that it received.
+    """A segment of a connection: which end sends which bytes of its stream, and what it says that
+    it received.
 
-    extra: whether it belongs to nothing: its bytes are not those of the stream, or its numbers are wrong
-    lacks: how many of its last bytes are not recorded
-    """
+    extra: whether it belongs to nothing: its bytes are not those of the stream, or its numbers are
+    wrong lacks: how many of its last bytes are not recorded
+"""
     side: int
     flags: int
     begin: int
@@ -73,7 +65,8 @@ class Connection:
         """A datagram of a segment. The position -1 of a stream is that of SYN."""
         ports = (self.port, 2049) if sent.side == 0 else (2049, self.port)
         own, other = self.first[sent.side] + 1, self.first[1 - sent.side] + 1
-        content = segment(ports, own + sent.begin, other + sent.acknowledged if sent.flags & ACK else 0, sent.flags, sent.content)
+        content = segment(ports, own + sent.begin, other + sent.acknowledged if sent.flags & ACK
+                          else 0, sent.flags, sent.content)
         return datagram(*((CLIENT, SERVER) if sent.side == 0 else (SERVER, CLIENT)), content)
 
 
@@ -86,7 +79,8 @@ def exchanged(chance: random.Random, made: Connection) -> None:
     ends = [len(content) for content in made.streams]
     while sent != ends:
         answered = sent[0] // CALL * REPLY  # the replies of all calls that were sent
-        side = chance.randrange(2) if sent[1] < answered and sent[0] < ends[0] else int(sent[1] < answered)
+        side = chance.randrange(2) if sent[1] < answered and sent[0] < ends[0] else int(
+            sent[1] < answered)
         size = chance.choice((1, 7, 28, 44, 60, 200))
         content = made.streams[side][sent[side]:min(sent[side] + size, (ends[0], answered)[side])]
         add(Sent(side, ACK, sent[side], content, sent[1 - side]))
@@ -101,7 +95,9 @@ def exchanged(chance: random.Random, made: Connection) -> None:
 def sent_again(chance: random.Random, made: Connection, side: int, sent: list[int]) -> Sent:
     """Bytes that were sent before, with other boundaries."""
     begin = chance.randrange(max(0, sent[side] - 300), sent[side])
-    return Sent(side, ACK, begin, made.streams[side][begin:min(sent[side], begin + chance.randrange(1, 300))], sent[1 - side])
+    return Sent(side, ACK, begin,
+                made.streams[side][begin:min(sent[side], begin + chance.randrange(1, 300))],
+                sent[1 - side])
 
 
 def add_end(chance: random.Random, made: Connection, sent: list[int]) -> None:
@@ -115,13 +111,15 @@ def add_end(chance: random.Random, made: Connection, sent: list[int]) -> None:
         add(Sent(1 - first, FIN | ACK, sent[1 - first], b'', sent[first] + 1))
         add(Sent(first, ACK, sent[first] + 1, b'', sent[1 - first] + 1))
     if how == 'rst':
-        add(Sent(first, RST | ACK, sent[first], chance.choice((b'', b'a reason in words')), sent[1 - first]))
+        add(Sent(first, RST | ACK, sent[first], chance.choice((b'', b'a reason in words')),
+                 sent[1 - first]))
 
 
 # --- What is recorded ---
 
 class Recorded(typing.NamedTuple):
-    """A frame: its bytes on the wire, how many of them are kept, and of which segment it is which fragment of how many."""
+    """A frame: its bytes on the wire, how many of them are kept, and of which segment it is which
+    fragment of how many."""
     frame: bytes
     kept: int
     connection: Connection
@@ -137,7 +135,8 @@ class Make:
         self.chance = random.Random(seed)
         chance = self.chance
         self.lost, self.late, self.twice, self.cut, self.split, self.odd = (
-            chance.choice(rates) for rates in ((0, 0, 0, 0.01, 0.05), (0, 0, 0.02, 0.2), (0, 0, 0.1), (0, 0, 0, 0.01), (0, 0, 0.1),
+            chance.choice(rates) for rates in ((0, 0, 0, 0.01, 0.05), (0, 0, 0.02, 0.2),
+                                               (0, 0, 0.1), (0, 0, 0, 0.01), (0, 0, 0.1),
                                                (0, 0, 0.005, 0.02)))
         self.connections: list[Connection] = []
 
@@ -150,7 +149,8 @@ class Make:
         """A connection with what belongs to nothing among its segments."""
         chance = self.chance
         first = self.numbers()
-        while any(abs(first[0] - other.first[0]) < FAR // 2 for other in self.connections if other.port == port):
+        while any(abs(first[0] - other.first[0]) < FAR // 2 for other in self.connections
+                  if other.port == port):
             first = self.numbers()
         made = Connection(port, first, self.streams(1_000 * len(self.connections) + 1))
         self.connections.append(made)
@@ -162,29 +162,37 @@ class Make:
 
     def numbers(self) -> tuple[int, int]:
         near_the_end = (1 << 32) - self.chance.randrange(400)
-        return self.chance.choice((self.chance.randrange(1 << 32), near_the_end)), self.chance.randrange(1 << 32)
+        return self.chance.choice((self.chance.randrange(1 << 32),
+                                   near_the_end)), self.chance.randrange(1 << 32)
 
     def odd_one(self, made: Connection, last: Sent) -> Sent:
         """A segment that belongs to nothing, after another."""
         chance, side = self.chance, self.chance.randrange(2)
-        end, other = (max((one.end for one in made.segments[:made.segments.index(last)] if one.side == at and one.content and not one.extra),
+        end, other = (max((one.end for one in made.segments[:made.segments.index(last)]
+                           if one.side == at and one.content and not one.extra),
                           default=0) for at in (side, 1 - side))
         match chance.choice(('syn', 'syn-ack', 'rst', 'fin', 'ack', 'far', 'other', 'before')):
             case 'syn':
                 return Sent(side, SYN, end + chance.choice((FAR, -FAR, 50_000)), b'', 0, True)
             case 'syn-ack':
-                return Sent(side, SYN | ACK, end + chance.choice((FAR, -FAR, 50_000)), b'', other, True)
+                return Sent(side, SYN | ACK, end + chance.choice((FAR, -FAR, 50_000)), b'', other,
+                            True)
             case 'rst':
                 return Sent(side, RST, end + chance.choice((FAR, -FAR)), b'', 0, True)
             case 'fin':
-                return Sent(side, FIN | ACK, max(0, end - chance.choice((0, 0, 30))), b'', other, True)
+                return Sent(side, FIN | ACK, max(0, end - chance.choice((0, 0, 30))), b'', other,
+                            True)
             case 'ack':
                 return Sent(side, ACK, end, b'', other + FAR, True)
             case 'far':
-                return Sent(side, ACK, end + chance.randrange(1 << 32), b'belongs to nothing', other, True)
+                return Sent(side, ACK, end + chance.randrange(1 << 32), b'belongs to nothing',
+                            other, True)
             case 'other':
                 begin = max(0, end - 20)  # one byte alone may be that of a keep-alive
-                return Sent(side, ACK, begin, bytes(255 - byte for byte in made.streams[side][begin:max(end, begin + 2)]), other, True)
+                return Sent(side, ACK, begin,
+                            bytes(255 - byte
+                                  for byte in made.streams[side][begin:max(end, begin + 2)]), other,
+                            True)
             case _:
                 return Sent(side, ACK, -30, b'before the first', other, True)
 
@@ -207,7 +215,8 @@ class Make:
         return frames[:chance.randrange(1, len(frames) + 1)] if chance.random() < 0.1 else frames
 
     def frames_of(self, made: Connection) -> list[Recorded]:
-        """The frames of a connection. Some segments are in fragments, and some frames are not kept as wholes."""
+        """The frames of a connection. Some segments are in fragments, and some frames are not kept
+        as wholes."""
         chance, frames = self.chance, list[Recorded]()
         for number, sent in enumerate(made.segments):
             content = made.datagram(sent)
@@ -215,7 +224,8 @@ class Make:
             if chance.random() < self.split and len(content) > 40:
                 pieces = fragments(content, chance.choice((24, 32, 64)), chance.randrange(1 << 16))
             for at, piece in enumerate(pieces):
-                frame, is_cut = ethernet(piece), chance.random() < self.cut and len(sent.content) > 4 and len(pieces) == 1
+                frame, is_cut = ethernet(piece), chance.random() < self.cut and len(
+                    sent.content) > 4 and len(pieces) == 1
                 sent.lacks = 4 if is_cut else 0
                 frames.append(Recorded(frame, len(frame) - 4 * is_cut, made, sent, at, len(pieces)))
         return frames
@@ -225,22 +235,25 @@ class Make:
         chance, left = self.chance, list[tuple[float, Recorded]]()
         for number, frame in enumerate(frames):
             if chance.random() >= self.lost:
-                left.append((number + (chance.choice((1.5, 2.5, 5.5, 30.5)) if chance.random() < self.late else 0), frame))
-                left += [(number + chance.choice((0.5, 1.5, 5.5)), frame)] if chance.random() < self.twice else []
+                left.append((number + (chance.choice((1.5, 2.5, 5.5, 30.5)) if chance.random()
+                                       < self.late else 0), frame))
+                left += [(number + chance.choice((0.5, 1.5, 5.5)),
+                          frame)] if chance.random() < self.twice else []
         return [frame for _, frame in sorted(left, key=lambda one: one[0])]
 
 
 def pcap_of(frames: list[Recorded]) -> bytes:
     header = struct.pack('<IHHiIII', 0xa1b2c3d4, 2, 4, 0, 0, 65_535, 1)
-    return header + b''.join(struct.pack('<4I', 1, number, one.kept, len(one.frame)) + one.frame[:one.kept]
+    return header + b''.join(struct.pack('<4I', 1, number, one.kept, len(one.frame))
+                             + one.frame[:one.kept]
                              for number, one in enumerate(frames))
 
 
 # --- The model ---
 
 class Whole(typing.NamedTuple):
-    """What the model says of the connections of one pair of ends: whether all bytes are there, `None` if that cannot be told from the
-    frames alone; and how many connections have bytes."""
+    """What the model says of the connections of one pair of ends: whether all bytes are there,
+    `None` if that cannot be told from the frames alone; and how many connections have bytes."""
     is_whole: bool | None
     with_bytes: int
 
@@ -279,7 +292,8 @@ class Model:
         if len(parts) < one.parts:
             return
         if sent.extra:
-            is_far, is_known = sent.acknowledged >= FAR, bool(self.seen or self.sides[1 - sent.side].shown)
+            is_far, is_known = sent.acknowledged >= FAR, bool(
+                self.seen or self.sides[1 - sent.side].shown)
             self.is_odd |= bool(sent.content) or is_far and is_known
             self.is_unsure |= bool(sent.flags & FIN) or is_far
             return
@@ -288,15 +302,18 @@ class Model:
         if sent.flags & SYN:
             self.seen.add('syn-ack' if sent.flags & ACK else 'syn')
         if sent.content and not sent.flags & RST:
-            self.is_unsure |= not self.seen and sent.begin > 0 and not any(own.there)  # SYN and the first bytes may come late
+            # SYN and the first bytes may come late
+            self.is_unsure |= not self.seen and sent.begin > 0 and not any(own.there)
             own.add(sent.begin, len(sent.content) - sent.lacks)
-        own.shown = max(own.shown, min(sent.end if not sent.flags & RST else sent.begin, len(own.there)))
+        own.shown = max(own.shown, min(sent.end if not sent.flags & RST else sent.begin,
+                                       len(own.there)))
         if sent.flags & ACK:
             other.shown = max(other.shown, min(sent.acknowledged, len(other.there)))
         self.closed[sent.side] |= bool(sent.flags & (FIN | RST))
 
     def whole(self) -> bool | None:
-        """Whether all bytes are there. A record that is not whole at the end of a recording is missing, too."""
+        """Whether all bytes are there. A record that is not whole at the end of a recording is
+        missing, too."""
         if not any(side.shown for side in self.sides):
             return None if self.is_odd else True
         if self.is_odd or not all(side.is_whole for side in self.sides):
@@ -321,56 +338,50 @@ def modelled(connections: list[Connection], frames: list[Recorded]) -> dict[int,
         said = [model.whole() for model in several]
         said += [None] * any(model.begins_inside for model in several[1:])
         is_whole = False if False in said else None if None in said else True
-        found[port] = Whole(is_whole, sum(any(side.shown for side in model.sides) for model in several))
+        found[port] = Whole(is_whole,
+                            sum(any(side.shown for side in model.sides) for model in several))
     return found
 
 
 # --- What the tools say ---
 
-def followed(program: str, recording: bytes) -> list[Verdict]:
-    said = list[Verdict]()
-    one = following.Following('-', program, Options(), said.append)
-    with contextlib.closing(one.connections.spool):
-        following.take_all(one, typing.cast(following.Growing, io.BytesIO(recording)))
-    return said
-
-
-def plain(program: str, recording: bytes) -> list[Verdict]:
-    with tempfile.NamedTemporaryFile(prefix='nfs3canon') as file:
-        file.write(recording)
-        file.flush()
-        return Judge(program, Options(), 1, False).verdicts(file.name)
-
-
 def rows_of(verdicts: list[Verdict], port: int) -> list[Verdict]:
     """The rows of the connections of a port."""
     return [verdict for verdict in verdicts if is_row(verdict) and verdict.state != 'error'
-            and (re.search(fr':{port}\b', verdict.message) or verdict.client.endswith(f':{port}') or verdict.server.endswith(f':{port}'))]
+            and (re.search(fr':{port}\b', verdict.message) or verdict.client.endswith(f':{port}')
+                 or verdict.server.endswith(f':{port}'))]
 
 
 def contents(recording: bytes, port: int) -> list[tuple[bytes, bytes]]:
     """The streams that are taken of the connections of a port."""
     with taken_of(recording) as taken:
         client, server = SIDES
-        return [(one.stream(client).read(0, 1 << 20), one.stream(server).read(0, 1 << 20)) for one in taken.connections
+        return [(one.stream(client).read(0, 1 << 20), one.stream(server).read(0, 1 << 20))
+                for one in taken.connections
                 if one.client_end.endswith(f':{port}')]
 
 
-def wrong_of_port(port: int, whole: Whole, made: Make, recording: bytes, said: dict[str, list[Verdict]]) -> list[str]:
+def wrong_of_port(port: int, whole: Whole, made: Make, recording: bytes,
+                  said: dict[str, list[Verdict]]) -> list[str]:
     """What is wrong with what is said of the connections of a port."""
     wrong = []
     for how, verdicts in said.items():
         rows = rows_of(verdicts, port)
         is_good = all(row.state == 'ok' for row in rows) and len(rows) == whole.with_bytes
-        is_part = any(row.state == 'in part' and not row.client and 'fragments' in row.message for row in verdicts)
-        if whole.is_whole is not None and is_good is not whole.is_whole and not (is_part and not whole.is_whole):
-            wrong.append(f'{how}, port {port}: {whole}, but {[(row.state, row.message) for row in rows]}')
+        is_part = any(row.state == 'in part' and not row.client and 'fragments' in row.message
+                      for row in verdicts)
+        if whole.is_whole is not None and is_good is not whole.is_whole and not (
+            is_part and not whole.is_whole):
+            wrong.append(f'{how}, port {port}: {whole}, but '
+                         f'{[(row.state, row.message) for row in rows]}')
         if is_good and how == 'plain':
             wanted = [one.streams for one in made.connections if one.port == port]
             found = contents(recording, port)
-            if not all(any(client.startswith(one) and server.startswith(two) for client, server in wanted) for one, two in found):
+            if not all(any(client.startswith(one) and server.startswith(two)
+                           for client, server in wanted) for one, two in found):
                 wrong.append(f'{how}, port {port}: other bytes')
-    rows = [sorted((row.state, row.message) for row in rows_of(verdicts, port)) for verdicts in said.values()]
+    rows = [sorted((row.state, row.message) for row in rows_of(verdicts, port))
+            for verdicts in said.values()]
     is_early = any(row.message.endswith(LATER) for row in rows_of(said['followed'], port)) or any(
         row.state == 'refused' for verdicts in said.values() for row in rows_of(verdicts, port))
     if rows[0] != rows[1] and not is_early:
@@ -382,13 +393,9 @@ def wrong_of_seed(program: str, seed: int) -> list[str]:
     made = Make(seed)
     frames = made.recorded()
     recording = pcap_of(frames)
-    said = {'plain': plain(program, recording), 'followed': followed(program, recording)}
+    said = dict(zip(('plain', 'followed'), both_ways(program, recording)))
     return [f'seed {seed}: {wrong}' for port, whole in modelled(made.connections, frames).items()
             for wrong in wrong_of_port(port, whole, made, recording, said)]
-
-
-def of_seeds(program: str, seeds: range) -> list[str]:
-    return [wrong for seed in seeds for wrong in wrong_of_seed(program, seed)]
 
 
 # --- One frame that is changed ---
@@ -410,9 +417,10 @@ HEADERS, HEADERS_OF_IP = range(12, 54), range(12, 34)
 
 
 def changed(chance: random.Random, one: Recorded) -> list[Recorded]:
-    """A frame that is removed, that is shortened without or with its lengths, or of whose headers one
-    byte is another."""
-    frame, way = one.frame, chance.choice(('removed', 'cut', 'shortened', 'header', 'header', 'header'))
+    """A frame that is removed, that is shortened without or with its lengths, or of whose headers
+    one byte is another."""
+    frame, way = one.frame, chance.choice(('removed', 'cut', 'shortened', 'header', 'header',
+                                           'header'))
     if way == 'removed':
         return []
     if way == 'cut':
@@ -421,7 +429,8 @@ def changed(chance: random.Random, one: Recorded) -> list[Recorded]:
         frame = frame[:chance.randrange(len(frame))]
         return [one._replace(frame=frame, kept=len(frame))]
     at = chance.choice(HEADERS_OF_IP if one.part else HEADERS)
-    other = (frame[at] + chance.choice((1, 2, 4, 8, 16, 32, 64, 128, chance.randrange(1, 256)))) % 256
+    other = (frame[at] + chance.choice((1, 2, 4, 8, 16, 32, 64, 128,
+                                        chance.randrange(1, 256)))) % 256
     return [one._replace(frame=frame[:at] + bytes([other]) + frame[at + 1:])]
 
 
@@ -448,15 +457,14 @@ def recorded_in(made: Make, frames: list[Recorded]) -> tuple[bool, collections.C
 
 
 def wrong_of_change(program: str, seed: int) -> list[str]:
-    """What is wrong with the status after a frame was changed. It is 0 only if all records were judged,
-    or if those of the other frames are whole, and were."""
+    """What is wrong with the status after a frame was changed. It is 0 only if all records were
+    judged, or if those of the other frames are whole, and were."""
     made = Undisturbed(seed)
     frames = made.recorded()
     at = made.chance.randrange(len(frames))
     instead, others = changed(made.chance, frames[at]), frames[:at] + frames[at + 1:]
     recording = pcap_of(frames[:at] + instead + frames[at + 1:])
-    statuses = [status_of(verdicts, Allowed())
-                for verdicts in (plain(program, recording), followed(program, recording))]
+    statuses = [status_of(verdicts, Allowed()) for verdicts in both_ways(program, recording)]
     if all(statuses):
         return []
     with taken_of(recording) as taken:
@@ -465,29 +473,19 @@ def wrong_of_change(program: str, seed: int) -> list[str]:
     (_, every), (is_whole, left) = (recorded_in(made, some) for some in (frames, others))
     is_right = judged == every or is_whole and judged >= left and every >= judged
     return [] if is_right else [
-        f'seed {seed}: frame {at + 1}, statuses {statuses}, {is_whole}, judged {sum(judged.values())} '
+        f'seed {seed}: frame {at + 1}, statuses {statuses}, {is_whole}, judged '
+        f'{sum(judged.values())} '
         f'of {sum(left.values())} and {sum(every.values())}']
 
 
-def of_changes(program: str, seeds: range) -> list[str]:
-    return [wrong for seed in seeds for wrong in wrong_of_change(program, seed)]
-
-
-class ShuffledTest(unittest.TestCase):
-    """Processes side by side each have some of the seeds."""
+class ShuffledTest(SeedsTest):
+    """Random recordings, plain and with --follow."""
 
     def test_seeds(self) -> None:
         """Both ways say what the model says."""
-        steps = in_steps(seeds(5_000))
-        with concurrent.futures.ProcessPoolExecutor() as pool:
-            for step, wrong in zip(steps, pool.map(functools.partial(of_seeds, PROGRAM), steps)):
-                with self.subTest(seeds=step):
-                    self.assertEqual(wrong, [])
+        self.check(5_000, wrong_of_seed)
 
     def test_changed_frames(self) -> None:
-        """With one frame removed, shortened or changed, nothing is called valid but what is whole."""
-        steps = in_steps(seeds(3_000))
-        with concurrent.futures.ProcessPoolExecutor() as pool:
-            for step, wrong in zip(steps, pool.map(functools.partial(of_changes, PROGRAM), steps)):
-                with self.subTest(seeds=step):
-                    self.assertEqual(wrong, [])
+        """With one frame removed, shortened or changed, nothing is called valid but what is
+        whole."""
+        self.check(3_000, wrong_of_change)

@@ -1,7 +1,6 @@
 """Tests that the types of the tools are right, by mypy with the settings of pyproject.toml."""
 import shutil
 import unittest
-from collections.abc import Callable
 
 from tests.shared.running import ended
 
@@ -12,12 +11,10 @@ from .scripts import TOP, Tools
 @unittest.skipUnless(shutil.which('mypy'), 'mypy is not there')
 def types_are_right(tools: Tools) -> None:
     """mypy --strict finds nothing in nfs3tools."""
-    status, out, error = ended(['mypy', '--cache-dir', tools.path('cache')], TOP / 'tools', limit=None).text()
+    status, out, error = ended(['mypy', '--cache-dir', tools.path('cache')], TOP / 'tools',
+                               limit=None).text()
     tools.want('mypy', (status, out if status else '', error), (0, '', ''))
 
 
-TESTS: list[Callable[[Tools], None]] = [types_are_right]
-
-
-class TypesTest(FolderTest, make=Tools, tests=TESTS):
+class TypesTest(FolderTest, make=Tools, tests=[types_are_right]):
     """Each test has a folder of its own."""

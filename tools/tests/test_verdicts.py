@@ -22,49 +22,61 @@ from ..nfs3tools.shared.places import SIDES, Place
 from .cases import FolderTest
 from .recordings import NANOSECONDS, fragments, interface, section, simple
 from .scripts import (
-    ALL, CALLS, REPLIES, TOP, Tools, exchange, in_fragments, stream, sums, taken_of, whole)
+    ALL, CALLS, REPLIES, TOP, Tools, connection_of, exchange, in_fragments, stream, sums, taken_of,
+    whole)
 
 VERDICTS = str(TOP / 'tools/verdicts')
 CALL, REPLY = len(stream(CALLS[:1])), len(stream(REPLIES[:1]))
 FIFTH_OF_REPLIES = -(-len(ALL[1]) // 5)
-ALLOWING: list[tuple[list[str], int]] = [([], 1), (['--allow-losses'], 0)]  # words, and the status of what is in part
+# words, and the status of what is in part
+ALLOWING: list[tuple[list[str], int]] = [([], 1), (['--allow-losses'], 0)]
 HEAD = 'connection 1 %s: client 192.0.2.7:700, server 192.0.2.1:2049, tcp.stream == 0'
-FAULTS = {'bad_client_record': ('client record 1 byte 4: BadEnum', 4), 'bad_server_record': ('server record 2 byte 0: NoCall', 13),
-          'bad_status': ('server record 1 byte 24: BadEnum', 5), 'bad_bool': ('server record 1 byte 28: BadBool', 5),
+FAULTS = {'bad_client_record': ('client record 1 byte 4: BadEnum', 4),
+          'bad_server_record': ('server record 2 byte 0: NoCall', 13),
+          'bad_status': ('server record 1 byte 24: BadEnum', 5),
+          'bad_bool': ('server record 1 byte 28: BadBool', 5),
           'bad_length': ('client record 1 byte 40: TooLong', 4)}
 
 
 # --- where ---
 
 def where(tools: Tools, place: str, *options: str) -> tuple[int, list[str], str]:
-    """The status of `tools/where` on the recording `a.pcap`, its lines, and what is told on standard error."""
+    """The status of `tools/where` on the recording `a.pcap`, its lines, and what is told on
+    standard error."""
     status, out, error = tools.tool('where', *options, 'a.pcap', place)
     return status, out.splitlines(), error
 
 
 def places(tools: Tools) -> None:
-    """A place in each form in which the program prints it, in a recording with a retransmission and records of fragments."""
+    """A place in each form in which the program prints it, in a recording with a retransmission and
+    records of fragments."""
     talk = Talk()
     frames = talk.opened()
     content = stream(CALLS[:2]) + in_fragments(CALLS[2], 10) + stream(CALLS[3:])
     again = talk.frame(0, ACK, content[:50])
-    frames += [again, talk.sent(0, content[:70]), again, talk.sent(0, content[70:]), talk.sent(1, ALL[1]), *talk.closed()]
+    frames += [again, talk.sent(0, content[:70]), again, talk.sent(0, content[70:]),
+               talk.sent(1, ALL[1]), *talk.closed()]
     tools.write('a.pcap', pcap(frames, magic=NANOSECONDS))
-    times = {number: 'frame %d, 1970-01-01 00:00:01.%09d UTC' % (number, number - 1) for number in range(1, 12)}
+    times = {number: 'frame %d, 1970-01-01 00:00:01.%09d UTC' % (number, number - 1)
+             for number in range(1, 12)}
     for place, lines in (
             ('connection 1 client record 1 byte 0', [times[4], 'frame.number == 4']),
             ('connection 1 client record 2 byte 1: BadEnum', [times[4], 'frame.number == 4']),
             ('connection 1 client record 2 byte 2', [times[5], 'frame.number == 5']),
             ('first: connection 1 client record 2 byte 24: Short', [times[7], 'frame.number == 7']),
-            ('second: connection 1 client record 3 byte 39: Short', [times[7], 'frame.number == 7']),
+            ('second: connection 1 client record 3 byte 39: Short',
+             [times[7], 'frame.number == 7']),
             ('connection 1 client record 3 byte 40: Short', [times[7], 'frame.number == 7']),
             ('connection 1 server record 39 byte 23', [times[8], 'frame.number == 8']),
             ('differ at connection 1 client record 1', [times[4], 'frame.number == 4']),
-            ('differ at connection 1 client record 2', [times[4], times[5], times[7], 'frame.number in {4..5, 7}'])):
-        named = re.sub('^(?:first|second): |^differ at |: \\w+$', '', place).replace('connection 1 ', '')
+            ('differ at connection 1 client record 2',
+             [times[4], times[5], times[7], 'frame.number in {4..5, 7}'])):
+        named = re.sub('^(?:first|second): |^differ at |: \\w+$', '',
+                       place).replace('connection 1 ', '')
         tools.want(place, where(tools, place), (0, [HEAD % named, *lines], ''))
     listed = '1 server 7 xid=7 NFSPROC3_NULL mtype=1 reply_stat=0'
-    tools.want(listed, where(tools, listed), (0, [HEAD % 'server record 7', times[8], 'frame.number == 8'], ''))
+    tools.want(listed, where(tools, listed),
+               (0, [HEAD % 'server record 7', times[8], 'frame.number == 8'], ''))
     for byte, frame in ((16, 4), (19, 4), (65, 4), (66, 5)):
         lines = [f'file {byte}', times[frame], f'frame.number == {frame}']
         tools.want(f'file {byte}', where(tools, f'file {byte}: TooManyBytes'), (0, lines, ''))
@@ -75,70 +87,89 @@ def places(tools: Tools) -> None:
 def places_that_are_not_there(tools: Tools) -> None:
     """Of the recording of `places`."""
     for place, status, message in (
-            ('connection 1 client record 1 byte 41', 1, 'there is no connection 1 client record 1 byte 41: the body is shorter'),
+            ('connection 1 client record 1 byte 41', 1,
+             'there is no connection 1 client record 1 byte 41: the body is shorter'),
             ('connection 1 client record 40', 1, 'there is no connection 1 client record 40'),
             ('connection 1 client record 0', 1, 'there is no connection 1 client record 0'),
             ('connection 2 client record 1 byte 0', 1, 'there is no connection 2'),
             ('file 8', 1, 'byte 8 of the capture is not of a stream, so no frame carries it'),
             ('file 15', 1, 'byte 15 of the capture is not of a stream, so no frame carries it'),
-            ('file 999999', 1, 'byte 999999 of the capture is not of a stream, so no frame carries it'),
-            ('somewhere', 2, "no position: somewhere (as in 'connection 1 server record 7 byte 24')")):
+            ('file 999999', 1,
+             'byte 999999 of the capture is not of a stream, so no frame carries it'),
+            ('somewhere', 2,
+             "no position: somewhere (as in 'connection 1 server record 7 byte 24')")):
         tools.want(place, where(tools, place), (status, [], f'where: {message}\n'))
 
 
 def places_by_standard_input(tools: Tools, frames: list[bytes]) -> None:
     """The place, or the recording; and files that have no frames, or are not there."""
-    answer = tools.tool('where', 'a.pcap', stdin=b'connection 1 client record 1 byte 0: RpcVersion\n')
+    answer = tools.tool('where', 'a.pcap',
+                        stdin=b'connection 1 client record 1 byte 0: RpcVersion\n')
     tools.want('a place from standard input', answer[1].splitlines()[-1:], ['frame.number == 4'])
     answer = tools.tool('where', '-', 'connection 1 client record 1 byte 0', stdin=pcap(frames))
-    tools.want('a recording from standard input', answer[1].splitlines()[-1:], ['frame.number == 4'])
-    for words, message in ((('-',), 'where: POSITION has to be an argument if the recording is standard input\n'),
-                           (('b.nfs3cap', 'file 8'), 'where: b.nfs3cap is a capture, which has no frames\n')):
+    tools.want('a recording from standard input', answer[1].splitlines()[-1:],
+               ['frame.number == 4'])
+    for words, message in ((('-',), 'where: POSITION has to be an argument if the recording is '
+                            'standard input\n'),
+                           (('b.nfs3cap', 'file 8'),
+                            'where: b.nfs3cap is a capture, which has no frames\n')):
         shutil.copy(TOP / 'examples/null.nfs3cap', tools.path('b.nfs3cap'))
         tools.want(message, tools.tool('where', *words), (2, '', message))
-    tools.want('an absent file', tools.tool('where', 'absent', 'file 8'), (3, '', 'where: absent: No such file or directory\n'))
+    tools.want('an absent file', tools.tool('where', 'absent', 'file 8'),
+               (3, '', 'where: absent: No such file or directory\n'))
 
 
 def places_of_other_recordings(tools: Tools) -> None:
-    """Fragments, frames without times, cut connections, gaps, and the number of the connection as Wireshark counts."""
+    """Fragments, frames without times, cut connections, gaps, and the number of the connection as
+    Wireshark counts."""
     frames = whole()
-    pieces = [ethernet(piece) for number, frame in enumerate(frames) for piece in fragments(frame[14:], 64, number)]
+    pieces = [ethernet(piece) for number, frame in enumerate(frames)
+              for piece in fragments(frame[14:], 64, number)]
     tools.write('a.pcap', pcap(pieces))
-    tools.want('the last fragment', where(tools, 'connection 1 client record 1 byte 0')[1][-1], 'frame.number == 9')
+    tools.want('the last fragment', where(tools, 'connection 1 client record 1 byte 0')[1][-1],
+               'frame.number == 9')
     talk = Talk()
-    tools.write('a.pcap', pcap(talk.opened() + [talk.sent(0, ALL[0][at:at + 1]) for at in range(2 * CALL)]))
+    tools.write('a.pcap',
+                pcap(talk.opened() + [talk.sent(0, ALL[0][at:at + 1]) for at in range(2 * CALL)]))
     for byte, frame in ((0, 8), (39, 47), (40, 47)):
         answer = where(tools, f'connection 1 client record 1 byte {byte}')
         tools.want(f'byte {byte} of single bytes', answer[1][-1], f'frame.number == {frame}')
-    tools.want('all of them', where(tools, 'connection 1 client record 2')[1][-1], 'frame.number in {48..91}')
+    tools.want('all of them', where(tools, 'connection 1 client record 2')[1][-1],
+               'frame.number in {48..91}')
     tools.write('a.pcap', section() + interface() + b''.join(map(simple, frames)))
-    tools.want('no time', where(tools, 'connection 1 client record 1 byte 0')[1][1], 'frame 4, without a time')
+    tools.want('no time', where(tools, 'connection 1 client record 1 byte 0')[1][1],
+               'frame 4, without a time')
     tools.write('a.pcap', pcap(Talk(699).opened() + whole() + whole(first=(9_000, 9_000))))
     lines = where(tools, 'connection 2 server record 39 byte 23')[1]
-    tools.want('the third of Wireshark', lines[0].endswith('tcp.stream == 2') and lines[-1], 'frame.number == 31')
+    tools.want('the third of Wireshark', lines[0].endswith('tcp.stream == 2') and lines[-1],
+               'frame.number == 31')
     tools.write('a.pcap', pcap(frames[:4] + frames[5:]))
     first = 2 * 344 // CALL + 1
-    tools.want('after a gap', where(tools, 'connection 1 client record 8 byte 39', '--no-midstream')[0], 1)
-    for words in ([], ['--midstream']):
-        tools.want('after a gap, gone on', where(tools, f'connection 1 client record {first - 7} byte 39', *words)[1][-1],
-                   'frame.number == 5')
+    tools.want('after a gap', where(tools, f'connection 1 client record {first - 7} byte 39')[1][
+        -1], 'frame.number == 5')
     tools.write('a.pcap', pcap(frames[4:]))
-    tools.want('cut', where(tools, 'connection 1 client record 1 byte 0', '--midstream')[1][-1], 'frame.number == 1')
-    tools.want('its record', where(tools, 'connection 1 client record 8', '--midstream')[1][-1], 'frame.number in {1..2}')
+    tools.want('cut', where(tools, 'connection 1 client record 1 byte 0')[1][-1],
+               'frame.number == 1')
+    tools.want('its record', where(tools, 'connection 1 client record 8')[1][-1],
+               'frame.number in {1..2}')
 
 
 @unittest.skipUnless(shutil.which('tshark'), 'tshark is not there')
 def places_at_the_frames_of_tshark(tools: Tools) -> None:
-    """Random places of the real recordings, and of shuffled segments, are at the frame that tshark says carries the byte first."""
+    """Random places of the real recordings, and of shuffled segments, are at the frame that tshark
+    says carries the byte first."""
     chance, talk = random.Random(4), Talk(first=((1 << 32) - 900, 77))
     opened, frames = talk.opened(), exchange(talk, 30)
     frames += chance.choices(frames, k=20)
     chance.shuffle(frames)
-    recordings = [(TOP / 'examples/ganesha_a.pcap').read_bytes(), pcap(opened + frames), pcap(whole() + whole(first=(9_000, 9_000)))]
+    recordings = [(TOP / 'examples/ganesha_a.pcap').read_bytes(), pcap(opened + frames),
+                  pcap(whole() + whole(first=(9_000, 9_000)))]
     for recording in recordings:
         tools.write('a.pcap', recording)
-        words = ['tshark', '-n', '-r', 'a.pcap', '-Y', 'tcp.len > 0', '-T', 'fields', '-o', 'tcp.desegment_tcp_streams:FALSE']
-        words += [word for field in ('frame.number', 'tcp.stream', 'tcp.srcport', 'tcp.seq', 'tcp.len') for word in ('-e', field)]
+        words = ['tshark', '-n', '-r', 'a.pcap', '-Y', 'tcp.len > 0', '-T', 'fields', '-o',
+                 'tcp.desegment_tcp_streams:FALSE']
+        words += [word for field in ('frame.number', 'tcp.stream', 'tcp.srcport', 'tcp.seq',
+                                     'tcp.len') for word in ('-e', field)]
         done = ended(words, tools.folder)
         tools.want('the status of tshark', done.status, 0)
         segments = [tuple(map(int, line.split())) for line in done.out.splitlines()]
@@ -149,21 +180,27 @@ def places_at_the_frames_of_tshark(tools: Tools) -> None:
             extent = connection.stream(side).extent(number)
             assert extent
             byte = chance.randrange(extent.end - extent.begin - 4)
-            at, end = extent.begin + 4 + byte, connection.client_end if side == 'client' else connection.server_end
+            at, end = (extent.begin + 4 + byte, connection.client_end if side == 'client'
+                       else connection.server_end)
             wanted = next(frame for frame, *whose, sequence, size in segments
-                          if whose == [connection.stream_number, int(end.rpartition(':')[2])] and sequence - 1 <= at < sequence - 1 + size)
-            found = [frame.number for frame in taken.frames(Place(connection.number, side, number, byte))]
-            tools.want(f'connection {connection.number} {side} record {number} byte {byte}', found, [wanted])
+                          if whose == [connection.stream_number, int(end.rpartition(':')[2])]
+                          and sequence - 1 <= at < sequence - 1 + size)
+            found = [frame.number
+                     for frame in taken.frames(Place(connection.number, side, number, byte))]
+            tools.want(f'connection {connection.number} {side} record {number} byte {byte}', found,
+                       [wanted])
 
 
 def parts_of_a_recording(tools: Tools) -> None:
-    """A pattern that is the name of no file stands for the parts of one recording, in the order of the times of their first frames, for
-    each tool. A frame has its number in the whole, and `where` has that in the part, too."""
+    """A pattern that is the name of no file stands for the parts of one recording, in the order of
+    the times of their first frames, for each tool. A frame has its number in the whole, and `where`
+    has that in the part, too."""
     frames, head = whole() + whole(port=701), pcap([])
     records = pcap(frames)[24:]
     ends = list(itertools.accumulate((16 + len(frame) for frame in frames), initial=0))
     # As `tcpdump -W 3` names them after it began anew: the first frames are in the second file.
-    for name, low, high in (('run.pcap1', 0, 6), ('run.pcap2', 6, 20), ('run.pcap10', 20, 21), ('run.pcap0', 21, 30)):
+    for name, low, high in (('run.pcap1', 0, 6), ('run.pcap2', 6, 20), ('run.pcap10', 20, 21),
+                            ('run.pcap0', 21, 30)):
         tools.write(name, head + records[ends[low]:ends[high]])
     tools.write('whole.pcap', pcap(frames))
     status, rows, last, error = verdicts(tools, 'run.pcap*')
@@ -173,13 +210,18 @@ def parts_of_a_recording(tools: Tools) -> None:
         tools.want('from_pcap', tools.tool('from_pcap', recording, name)[:2], (0, ''))
     tools.want('one capture', tools.read('of_parts'), tools.read('of_whole'))
     answer = tools.tool('compare', '--program', tools.program, 'run.pcap*', 'whole.pcap')
-    tools.want('compare', (answer[0], answer[1].splitlines()[1], answer[2]), (0, 'same: 78 calls in 2 connections', ''))
+    tools.want('compare', (answer[0], answer[1].splitlines()[1], answer[2]),
+               (0, 'same: 78 calls in 2 connections', ''))
     place, time = 'connection 1 client record 8', '1970-01-01 00:00:01.0000%02d000 UTC'
     tools.want('where', tools.tool('where', 'run.pcap*', place)[1].splitlines()[1:], [
         'frame 4, ' + time % 3, 'frame 5, ' + time % 4, 'run.pcap1: frame.number in {4..5}'])
-    tools.want('where, in two parts', tools.tool('where', 'run.pcap*', 'connection 2 client record 16')[1].splitlines()[1:], [
-        'frame 20, ' + time % 19, 'frame 21, ' + time % 20, 'run.pcap2: frame.number == 14', 'run.pcap10: frame.number == 1'])
-    tools.want('OUT is a part', tools.tool('from_pcap', 'run.pcap*', 'run.pcap10'), (2, '', 'from_pcap: run.pcap10 is an input, and is not replaced\n'))
+    tools.want('where, in two parts',
+               tools.tool('where', 'run.pcap*',
+                          'connection 2 client record 16')[1].splitlines()[1:], [
+                              'frame 20, ' + time % 19, 'frame 21, ' + time % 20,
+                              'run.pcap2: frame.number == 14', 'run.pcap10: frame.number == 1'])
+    tools.want('OUT is a part', tools.tool('from_pcap', 'run.pcap*', 'run.pcap10'),
+               (2, '', 'from_pcap: run.pcap10 is an input, and is not replaced\n'))
     tools.write('run.pcap*', pcap(whole()))
     tools.want('the name of a file', len(verdicts(tools, 'run.pcap*')[1]), 1)
     os.remove(tools.path('run.pcap*'))
@@ -187,27 +229,37 @@ def parts_of_a_recording(tools: Tools) -> None:
 
 
 def parts_that_are_none(tools: Tools) -> None:
-    """After the parts of `parts_of_a_recording`: a part alone, times that are equal, and files that are no parts."""
-    status, _, _, error = verdicts(tools, '--no-midstream', 'run.pcap10')
+    """After the parts of `parts_of_a_recording`: a part alone, times that are equal, and files that
+    are no parts."""
+    tools.write('half.pcap1', pcap(whole()[:8]))
+    tools.write('half.pcap2', pcap(whole()[8:]))  # replies alone
+    status, _, _, error = verdicts(tools, 'half.pcap2')
     tools.want('a part alone', (status, error.splitlines()[0]), (1, (
-        'run.pcap10: it begins in the middle of 1 connection: if it is a part of a recording, as of `tcpdump -C`, name all parts in its '
-        "place, as 'run.pcap*'")))
+        'half.pcap2: it begins in the middle of 1 connection: if it is a part of a recording, as '
+        'of `tcpdump -C`, name all parts in its '
+        "place, as 'half.pcap*'")))
     for number, frame in enumerate(whole()):  # all at one time
         tools.write(f'equal{number or ""}', pcap([frame]))
     tools.want('equal times', [row[-1] for row in verdicts(tools, 'equal*')[1]], ['ok'])
     tools.write('run.pcap3', pcap(whole(port=702))[:-3])
-    tools.want('a part that is cut', verdicts(tools, 'run.pcap[013]')[1][-1][-1], 'in part: run.pcap3: the recording ends inside a frame (frame 15)')
+    tools.want('a part that is cut', verdicts(tools, 'run.pcap[013]')[1][-1][-1],
+               'in part: run.pcap3: the recording ends inside a frame (frame 15)')
     tools.write('run.pcap3', pcap([]))
     tools.write('run.pcap.html', b'<!doctype html>')
     tools.write('run.pcap.txt', b'')
-    told = [f'run.pcap*: run.pcap.{name} is no recording, and is skipped' for name in ('html', 'txt')]
+    told = [f'run.pcap*: run.pcap.{name} is no recording, and is skipped'
+            for name in ('html', 'txt')]
     found = verdicts(tools, '--html', 'run.pcap.html', 'run.pcap*')
-    tools.want('a page beside them', ([row[-1] for row in found[1]], found[3].splitlines()), (['ok'] * 2, told))
+    tools.want('a page beside them', ([row[-1] for row in found[1]], found[3].splitlines()),
+               (['ok'] * 2, told))
     answer = tools.tool('where', 'run.pcap*', 'connection 1 client record 8')
-    tools.want('where', (answer[0], answer[1].splitlines()[-1]), (0, 'run.pcap1: frame.number in {4..5}'))
+    tools.want('where', (answer[0], answer[1].splitlines()[-1]),
+               (0, 'run.pcap1: frame.number in {4..5}'))
     tools.want('no recording', verdicts(tools, 'run.pcap.[ht]*')[:2],
-               (1, [['run.pcap.[ht]*', *['-'] * 5, 'run.pcap.html: it is neither pcap nor pcapng']]))
-    tools.want('no file', verdicts(tools, 'absent*')[1][0][-1], 'absent*: No such file or directory')
+               (1,
+                [['run.pcap.[ht]*', *['-'] * 5, 'run.pcap.html: it is neither pcap nor pcapng']]))
+    tools.want('no file', verdicts(tools, 'absent*')[1][0][-1],
+               'absent*: No such file or directory')
 
 
 def recordings_that_are_compressed(tools: Tools) -> None:
@@ -216,12 +268,15 @@ def recordings_that_are_compressed(tools: Tools) -> None:
     told = 'it is compressed by %s: decompress it first, as in `%s`'
     for words, line in (
             (('from_pcap', 'a.lz4', 'out'), told % ('lz4', 'lz4 -dc FILE | tools/from_pcap - OUT')),
-            (('where', 'a.lz4', 'file 20'), told % ('lz4', 'lz4 -dc FILE | tools/where - POSITION')),
-            (('compare', '--program', tools.program, 'a.lz4', 'a.lz4'), told % ('lz4', 'tools/compare <(lz4 -dc A) <(lz4 -dc B)'))):
+            (('where', 'a.lz4', 'file 20'),
+             told % ('lz4', 'lz4 -dc FILE | tools/where - POSITION')),
+            (('compare', '--program', tools.program, 'a.lz4', 'a.lz4'),
+             told % ('lz4', 'tools/compare <(lz4 -dc A) <(lz4 -dc B)'))):
         # (of two recordings the name says which it is)
         named = f'{words[0]}: {"a.lz4: " if words[0] == "compare" else ""}'
         tools.want(words[0], tools.tool(*words), (2, '', f'{named}{line}\n'))
-    tools.want('verdicts', verdicts(tools, 'a.lz4')[1][0][-1], told % ('lz4', 'lz4 -dc FILE | tools/verdicts -'))
+    tools.want('verdicts', verdicts(tools, 'a.lz4')[1][0][-1],
+               told % ('lz4', 'lz4 -dc FILE | tools/verdicts -'))
     os.symlink(TOP / 'tools/where', tools.path('nfs3-where'))
     done = ended([tools.path('nfs3-where'), 'a.lz4', 'file 20'], tools.folder)
     tools.want('installed', '`lz4 -dc FILE | nfs3-where - POSITION`' in done.error.decode(), True)
@@ -235,7 +290,8 @@ def rows_of(tools: Tools, name: str) -> list[dict[str, object]]:
     return rows
 
 
-def verdicts(tools: Tools, *words: str, stdin: bytes | None = None) -> tuple[int, list[list[str]], str, str]:
+def verdicts(tools: Tools, *words: str,
+             stdin: bytes | None = None) -> tuple[int, list[list[str]], str, str]:
     """The status, the cells of the rows, the last line, and what is told on standard error."""
     status, out, error = tools.tool('verdicts', '--program', tools.program, *words, stdin=stdin)
     lines = out.splitlines() or ['', '']
@@ -243,7 +299,8 @@ def verdicts(tools: Tools, *words: str, stdin: bytes | None = None) -> tuple[int
 
 
 def faults_with_their_frames(tools: Tools) -> None:
-    """The wrong recordings of the examples are named with their frame, and so are the captures, without one."""
+    """The wrong recordings of the examples are named with their frame, and so are the captures,
+    without one."""
     for name, (fault, frame) in FAULTS.items():
         status, rows, last, error = verdicts(tools, str(TOP / 'examples' / (name + '.pcap')))
         tools.want(name, (status, rows[-1][-1], error), (1, f'{fault}, frame {frame}', ''))
@@ -256,12 +313,12 @@ def faults_with_their_frames(tools: Tools) -> None:
 
 
 def rows_of_all_kinds(tools: Tools) -> None:
-    """Each connection by itself, counts of those that are refused, captures that are not whole, and files that are none."""
+    """Each connection by itself, counts of those that are refused, captures that are not whole, and
+    files that are none."""
     wrong = ([call(1, NFS, 3, 0), call(2, NFS, 3, 0)], [success(1), success(9), success(2)])
     frames = whole()
     for number, (calls, replies) in enumerate((wrong, (CALLS[:1], REPLIES[:1]), wrong), 701):
-        talk = Talk(number)
-        frames += [*talk.opened(), *exchange(talk, 1, calls, replies), *talk.closed()]
+        frames += connection_of(calls, replies, port=number)
     tools.write('a.pcap', pcap(frames))
     fault = 'server record 2 byte 0: NoCall, frame %d'
     wanted = [['a.pcap', '1', '192.0.2.7:700', '192.0.2.1:2049', '39', '39', 'ok'],
@@ -269,24 +326,31 @@ def rows_of_all_kinds(tools: Tools) -> None:
               ['a.pcap', '3', '192.0.2.7:702', '192.0.2.1:2049', '1', '1', 'ok'],
               ['a.pcap', '4', '192.0.2.7:703', '192.0.2.1:2049', '2', '3', fault % 34]]
     tools.want('four connections', verdicts(tools, 'a.pcap'), (1, wanted, sums(2, 0, 2), ''))
-    tools.want('one at a time', verdicts(tools, '-j', '1', 'a.pcap'), (1, wanted, sums(2, 0, 2), ''))
-    tools.want('standard input', verdicts(tools, '-', stdin=pcap(frames))[1], [['-', *row[1:]] for row in wanted])
+    tools.want('one at a time', verdicts(tools, '-j', '1', 'a.pcap'),
+               (1, wanted, sums(2, 0, 2), ''))
+    tools.want('standard input', verdicts(tools, '-', stdin=pcap(frames))[1],
+               [['-', *row[1:]] for row in wanted])
     tools.write('b.pcap', pcap(whole()))
     shutil.copy(TOP / 'examples/two_connections.nfs3cap', tools.path('c.nfs3cap'))
     shutil.copy(TOP / 'examples/interleaved.nfs3cap', tools.path('d.nfs3cap'))
     status, rows, last, error = verdicts(tools, 'b.pcap', 'c.nfs3cap', 'd.nfs3cap')
     tools.want('all ok', (status, [[row[0], *row[-3:]] for row in rows], last, error),
-               (0, [['b.pcap', '39', '39', 'ok'], *([['c.nfs3cap', '1', '1', 'ok']] * 2), ['d.nfs3cap', '7', '7', 'ok'],
-                    ['d.nfs3cap', '51', '51', 'ok'], ['d.nfs3cap', '2', '2', 'ok']], sums(6, raw='1 NFSACL GETACL'), ''))
+               (0, [['b.pcap', '39', '39', 'ok'], *([['c.nfs3cap', '1', '1', 'ok']] * 2),
+                    ['d.nfs3cap', '7', '7', 'ok'],
+                    ['d.nfs3cap', '51', '51', 'ok'], ['d.nfs3cap', '2', '2', 'ok']],
+                sums(6, raw='1 NFSACL GETACL'), ''))
     rows_of_files_that_are_not_whole(tools)
-    tools.want('no program', tools.tool('verdicts', '--program', './absent', 'b.pcap'), (2, '', 'verdicts: ./absent is missing\n'))
+    tools.want('no program', tools.tool('verdicts', '--program', './absent', 'b.pcap'),
+               (2, '', 'verdicts: ./absent is missing\n'))
     tools.want('no processes', tools.tool('verdicts', '-j', '0', 'b.pcap')[0], 2)
 
 
 def rows_of_faults_alone(tools: Tools) -> None:
-    """With -q, rows of ok and the heads are left out, also with --follow; the counts and the status stay."""
+    """With -q, rows of ok and the heads are left out, also with --follow; the counts and the status
+    stay."""
     good, bad = pcap(whole()), (TOP / 'examples/bad_server_record.pcap').read_bytes()
-    for words, content, faults in ((['-'], good, 0), (['-'], bad, 1), (['--follow', '-'], good, 0), (['--follow', '-'], bad, 1)):
+    for words, content, faults in ((['-'], good, 0), (['-'], bad, 1), (['--follow', '-'], good, 0),
+                                   (['--follow', '-'], bad, 1)):
         status, rows, last, error = verdicts(tools, *words, stdin=content)
         quiet = tools.tool('verdicts', '--program', tools.program, '-q', *words, stdin=content)
         *lines, counts = [re.split('  +', line) for line in quiet[1].splitlines()]
@@ -298,7 +362,8 @@ def rows_of_faults_alone(tools: Tools) -> None:
 def rows_of_files_that_are_not_whole(tools: Tools) -> None:
     """Each beside a good one."""
     two = (TOP / 'examples/two_connections.nfs3cap').read_bytes()
-    first, second, as_a_whole = ['1', '-', '-', '1', '1', 'ok'], ['2', '-', '-', '1', '1', 'ok'], ['-', '-', '-', '-', '-']
+    first, second, as_a_whole = ['1', '-', '-', '1', '1',
+                                 'ok'], ['2', '-', '-', '1', '1', 'ok'], ['-', '-', '-', '-', '-']
     cases: list[tuple[str, bytes | None, list[list[str]]]] = [
         ('cut', two[:-1], [first, second, [*as_a_whole, f'file {len(two) - 1}: CaptureCut']]),
         ('more', two + b'x', [first, second, [*as_a_whole, f'file {len(two)}: AfterEnd']]),
@@ -307,13 +372,16 @@ def rows_of_files_that_are_not_whole(tools: Tools) -> None:
          [first, ['2', '-', '-', '1', '2', 'server record 2 byte 0: NoCall']]),
         ('text', b'no recording', [[*as_a_whole, 'it is neither pcap nor pcapng']]),
         ('lz4', b'\x04\x22\x4d\x18',
-         [[*as_a_whole, 'it is compressed by lz4: decompress it first, as in `lz4 -dc FILE | tools/verdicts -`']]),
+         [[*as_a_whole, 'it is compressed by lz4: decompress it first, as in `lz4 -dc FILE | '
+           'tools/verdicts -`']]),
         ('xz', lzma.compress(pcap(whole()))[:-1],
          [['1', '192.0.2.7:700', '192.0.2.1:2049', '39', '39', 'ok'],
-          [*as_a_whole, 'in part: the recording ends inside a frame (frame 16): the compressed file is cut short']]),
+          [*as_a_whole, 'in part: the recording ends inside a frame (frame 16): the compressed '
+           'file is cut short']]),
         ('damaged', pcap(whole()) + b'\xff' * 16,
          [['1', '192.0.2.7:700', '192.0.2.1:2049', '39', '39', 'ok'],
-          [*as_a_whole, 'the recording is damaged after frame 15: frame 16 claims 4294967295 bytes']]),
+          [*as_a_whole,
+           'the recording is damaged after frame 15: frame 16 claims 4294967295 bytes']]),
         ('empty', pcap([]), [[*as_a_whole, 'no connection to judge']]),
         ('absent', None, [[*as_a_whole, 'absent: No such file or directory']])]
     for name, content, rows in cases:
@@ -328,88 +396,107 @@ def what_is_told(tools: Tools) -> None:
     """Losses are told, and what is left out is skipped."""
     frames = whole()
     tools.write('a.pcap', pcap(frames[:4] + frames[5:] + Talk(800).opened()))
-    kept = 344 // CALL
-    status, rows, last, error = verdicts(tools, '--no-midstream', 'a.pcap')
+    status, rows, last, error = verdicts(tools, 'a.pcap')
+    # The bytes 344 to 687 have a part of each call from the 8th to the 16th.
     tools.want('a loss', (status, [row[-3:] for row in rows], last),
-               (1, [[str(kept), str(kept), f'ok in part: {kept} calls, 344 bytes missing']], sums(0, 1, left_out=1, bare=1)))
-    tools.want('told', error.splitlines()[0], 'a.pcap: connection 1: client: 344 bytes are missing from the recording after the first '
-               '344, before frame 5; the stream ends there')
-    tools.want('left out', error.splitlines()[-1], 'a.pcap: left out: 192.0.2.7:800 and 192.0.2.1:2049: no payload')
-    for words in ([], ['--midstream']):
-        status, rows, last, error = verdicts(tools, *words, 'a.pcap')
-        tools.want('gone on after it', (status, int(rows[0][4]) > 3 * kept), (1, True))
+               (1, [['30', '30', 'ok in part: 30 calls, 344 bytes missing']],
+                sums(0, 1, left_out=1, bare=1)))
+    tools.want('told', error.splitlines()[0],
+               'a.pcap: connection 1: client: 344 bytes are missing from the recording after the '
+               'first '
+               f'344, before frame 5; {9 * CALL - 344} bytes of torn records are left out')
+    tools.want('left out', error.splitlines()[-1],
+               'a.pcap: left out: 192.0.2.7:800 and 192.0.2.1:2049: no payload')
 
 
 def ok_in_part(tools: Tools) -> None:
-    """A connection of which bytes are missing is counted apart, with the calls that were judged, and --allow-losses takes it as 0."""
+    """A connection of which bytes are missing is counted apart, with the calls that were judged,
+    and --allow-losses takes it as 0."""
     good, one, last = whole(port=701), whole(), Talk(first=((1 << 32) - 9, 5))
-    large = stream([call(1, NFS, 3, 0)]) + stream([call(2, NFS, 3, 7, fh(b'abcd') + hyper(0) + word(27_000) + word(0) + opaque(bytes(27_000)))])
+    large = stream([call(1, NFS, 3, 0)]) + stream(
+        [call(2, NFS, 3, 7, fh(b'abcd') + hyper(0) + word(27_000) + word(0)
+              + opaque(bytes(27_000)))])
     long = [*last.opened(), last.sent(0, large), last.sent(1, stream(REPLIES[:1])), *last.closed()]
     lost_first, lost_last = one[:3] + one[4:], one[:12] + one[-1:]
-    calls, replies = 344 // CALL, 4 * FIFTH_OF_REPLIES // REPLY
-    cases: list[tuple[str, bytes, list[str], str, tuple[int, int]]] = [
-        ('a frame', pcap(one[:4] + one[5:]), ['--no-midstream'], f'ok in part: {calls} calls, 344 bytes missing', (calls, calls)),
-        # The bytes 344 to 687 have a part of each call from the 8th to the 16th.
-        ('a frame, gone on after', pcap(one[:4] + one[5:]), [], 'ok in part: 30 calls, 344 bytes missing', (30, 30)),
-        ('the last reply, as FIN shows', pcap(lost_last), [],
-         f'ok in part: 39 calls, {len(ALL[1]) - 4 * FIFTH_OF_REPLIES} bytes missing', (39, replies)),
-        # A frame of 1,000 bytes has 946 of its segment, and the call after the first 44 has 72 bytes before its data.
-        ('a frame that is cut', pcap(long, 1_000), [], f'ok in part: 1 call, {44 + 72 + 27_000 - 946:,} bytes missing', (1, 1))]
-    for what, recording, options, verdict, numbers in cases:
+    replies = 4 * FIFTH_OF_REPLIES // REPLY
+    cases: list[tuple[str, bytes, str, tuple[int, int]]] = [
+        # The bytes 344 to 687 have a part of each call from the 8th to the 16th, and the first 344
+        # one of each of the first 8.
+        ('a frame', pcap(one[:4] + one[5:]), 'ok in part: 30 calls, 344 bytes missing', (30, 30)),
+        ('the first frame', pcap(lost_first), 'ok in part: 31 calls, 344 bytes missing', (31, 31)),
+        ('the last reply, as FIN shows', pcap(lost_last),
+         f'ok in part: 39 calls, {len(ALL[1]) - 4 * FIFTH_OF_REPLIES} bytes missing',
+         (39, replies)),
+        # A frame of 1,000 bytes has 946 of its segment, and the call after the first 44 has 72
+        # bytes before its data.
+        ('a frame that is cut', pcap(long, 1_000),
+         f'ok in part: 1 call, {44 + 72 + 27_000 - 946:,} bytes missing', (1, 1))]
+    for what, recording, verdict, numbers in cases:
         tools.write('a.pcap', pcap(good) + recording[24:])
         for words, status in ALLOWING:
-            found, rows, last_line, _ = verdicts(tools, *options, *words, 'a.pcap')
-            tools.want(what, (found, [row[1] for row in rows], [row[-1] for row in rows], last_line),
-                       (status, ['1', '2'], ['ok', verdict], sums(1, 1, silent=numbers[0] - numbers[1])))
+            found, rows, last_line, _ = verdicts(tools, *words, 'a.pcap')
+            tools.want(what, (found, [row[1] for row in rows], [row[-1] for row in rows],
+                              last_line),
+                       (status, ['1', '2'], ['ok', verdict],
+                        sums(1, 1, silent=numbers[0] - numbers[1])))
             tools.want(what + ', its numbers', rows[1][-3:-1], [str(number) for number in numbers])
-    tools.write('a.pcap', pcap(good + lost_first))
-    why = '192.0.2.7:700 and 192.0.2.1:2049: its first bytes are missing from the recording'
-    for words, status in ALLOWING:
-        found, rows, last_line, _ = verdicts(tools, '--no-midstream', *words, 'a.pcap')
-        tools.want('the first bytes', (found, [row[-1] for row in rows], last_line),
-                   (status, ['ok', 'left out: ' + why], sums(1, left_out=1)))
     wrong = (TOP / 'examples/bad_bool.pcap').read_bytes()
     tools.write('a.pcap', pcap(one[:4] + one[5:]))
     tools.write('b.pcap', wrong)
-    tools.want('a fault beside it', verdicts(tools, '--allow-losses', 'a.pcap', 'b.pcap')[::2], (1, sums(0, 1, 1)))
+    tools.want('a fault beside it', verdicts(tools, '--allow-losses', 'a.pcap', 'b.pcap')[::2],
+               (1, sums(0, 1, 1)))
 
 
 def ok_in_part_in_files(tools: Tools) -> None:
-    """JUnit has a failure of a type of its own, or a case that passed and says it, and the number; JSON has a state and the number of bytes."""
+    """JUnit has a failure of a type of its own, or a case that passed and says it, and the number;
+    JSON has a state and the number of bytes."""
     tools.write('a.pcap', pcap(whole(port=701) + whole()[:4] + whole()[5:]))
     line = 'ok in part: 30 calls, 344 bytes missing'
     for words, failures in ALLOWING:
         verdicts(tools, '--junit', 'x.xml', '--json', 'x.json', *words, 'a.pcap')
         suite = xml.etree.ElementTree.fromstring((tools.read('x.xml') or b'').decode())[0]
-        tools.want('the suite', [suite.get(key) for key in ('tests', 'failures', 'errors', 'skipped')], ['2', str(failures), '0', '0'])
-        tools.want('properties', [(item.get('name'), item.get('value')) for item in suite.iter('property')], [
-            ('judged', '1'), ('ok', '1'), ('refused', '0'), ('in part', '1'), ('left out', '0'), ('without calls', '0'),
-            ('not checked', '0'), ('errors', '0'), ('without reply', '0'), ('raw', '')])
+        tools.want('the suite',
+                   [suite.get(key) for key in ('tests', 'failures', 'errors', 'skipped')],
+                   ['2', str(failures), '0', '0'])
+        tools.want('properties',
+                   [(item.get('name'), item.get('value')) for item in suite.iter('property')], [
+                       ('judged', '1'), ('ok', '1'), ('refused', '0'), ('in part', '1'),
+                       ('left out', '0'), ('without calls', '0'),
+                       ('not checked', '0'), ('errors', '0'), ('without reply', '0'), ('raw', '')])
         first, second = suite.iter('testcase')
-        tools.want('the cases', ([item.tag for item in first], [item.tag for item in second]), ([], ['failure'] * failures + ['system-out']))
-        tools.want('the type', [(item.get('type'), item.get('message')) for item in second if item.tag == 'failure'],
+        tools.want('the cases', ([item.tag for item in first], [item.tag for item in second]),
+                   ([], ['failure'] * failures + ['system-out']))
+        tools.want('the type', [(item.get('type'), item.get('message')) for item in second
+                                if item.tag == 'failure'],
                    [('in part', line)] if not words else [])
-        tools.want('what the case says', (second.findtext('system-out') or '').partition('\n')[0], line)
+        tools.want('what the case says', (second.findtext('system-out') or '').partition('\n')[0],
+                   line)
         rows = rows_of(tools, 'x.json')
-        tools.want('JSON', [(row['state'], row['message'], row['missing']) for row in rows], [('ok', 'ok', 0), ('in part', line, 344)])
+        tools.want('JSON', [(row['state'], row['message'], row['missing']) for row in rows],
+                   [('ok', 'ok', 0), ('in part', line, 344)])
 
 
 def notes_on_a_recording(tools: Tools) -> None:
-    """A note on a whole recording is none of its first connection: a line, a row of JSON, and output of the suite."""
+    """A note on a whole recording is none of its first connection: a line, a row of JSON, and
+    output of the suite."""
     frames, other = whole(port=701) + whole(), whole(service=900)[0]
     lying = other[:16] + b'\xff\xff' + other[18:]
     tools.write('a.pcap', pcap(frames + [lying]))
     tools.write('b.pcap', pcap(whole(port=702) + [lying]))
     told = '1 frame has headers that do not fit its length, and is passed over'
     status, rows, _, error = verdicts(tools, '--json', 'x.json', '--junit', 'x.xml', 'a.pcap')
-    tools.want('a note', (status, [row[-1] for row in rows], error), (0, ['ok', 'ok'], f'a.pcap: {told}\n'))
-    found = [(row['connection'], row['state'], row['message'], row['notes']) for row in rows_of(tools, 'x.json')]
+    tools.want('a note', (status, [row[-1] for row in rows], error),
+               (0, ['ok', 'ok'], f'a.pcap: {told}\n'))
+    found = [(row['connection'], row['state'], row['message'], row['notes'])
+             for row in rows_of(tools, 'x.json')]
     tools.want('JSON', found, [(None, 'note', told, []), (1, 'ok', 'ok', []), (2, 'ok', 'ok', [])])
     suite = xml.etree.ElementTree.fromstring((tools.read('x.xml') or b'').decode())[0]
-    tools.want('JUnit', (suite.get('tests'), suite.findtext('system-out'), [len(case) for case in suite.iter('testcase')]),
+    tools.want('JUnit', (suite.get('tests'), suite.findtext('system-out'),
+                         [len(case) for case in suite.iter('testcase')]),
                ('2', f'a.pcap: {told}', [0, 0]))
     error = verdicts(tools, 'a.pcap', 'b.pcap')[3]
-    tools.want('two recordings', [line for line in error.splitlines() if ' connection ' not in line],
+    tools.want('two recordings',
+               [line for line in error.splitlines() if ' connection ' not in line],
                [f'a.pcap: {told}', f'b.pcap: {told}'])
 
 
@@ -418,41 +505,54 @@ def files_for_others(tools: Tools) -> None:
     name = 'a\1\n<&"]]>\udcff.pcap'
     tools.write(name, (TOP / 'examples/bad_server_record.pcap').read_bytes())
     tools.write('b.pcap', pcap(whole()[:4] + whole()[5:] + Talk(800).opened()))
-    words = ['--no-midstream', '--junit', 'x.xml', '--json', 'x.json', '--program', tools.program, name, 'b.pcap', 'c']
+    words = ['--junit', 'x.xml', '--json', 'x.json', '--program', tools.program, name, 'b.pcap',
+             'c']
     done = ended([VERDICTS, *words], tools.folder)
     tools.want('status', (done.status, b'Traceback' in done.error), (1, False))
     suites = xml.etree.ElementTree.fromstring((tools.read('x.xml') or b'').decode())
     suite = suites[0]
-    tools.want('the suite', [suite.get(key) for key in ('name', 'tests', 'failures', 'errors', 'skipped')],
+    tools.want('the suite',
+               [suite.get(key) for key in ('name', 'tests', 'failures', 'errors', 'skipped')],
                ['nfs3canon', '5', '2', '1', '1'])
-    in_part = f'ok in part: {344 // CALL} calls, 344 bytes missing'
+    in_part = 'ok in part: 30 calls, 344 bytes missing'
     escaped = 'a\\x01\\x0a<&"]]>\\xff.pcap'
-    cases = [(case.get('classname'), case.get('name'), [(item.tag, item.get('message')) for item in case if item.tag != 'system-out'])
+    cases = [(case.get('classname'), case.get('name'),
+              [(item.tag, item.get('message')) for item in case if item.tag != 'system-out'])
              for case in suite.iter('testcase')]
     ends = '192.0.2.7 to 192.0.2.1:2049'  # the client's port is another in each run
     tools.want('the cases', cases, [
         (escaped, 'connection 1 ' + ends, []),
-        (escaped, 'connection 2 ' + ends, [('failure', 'server record 2 byte 0: NoCall, frame 13')]),
+        (escaped, 'connection 2 ' + ends,
+         [('failure', 'server record 2 byte 0: NoCall, frame 13')]),
         ('b.pcap', 'connection 1 ' + ends, [('failure', in_part)]),
         ('b.pcap', 'left out: 192.0.2.7:800 and 192.0.2.1:2049: no payload',
          [('skipped', 'left out: 192.0.2.7:800 and 192.0.2.1:2049: no payload')]),
         ('c', 'as a whole', [('error', 'c: No such file or directory')])])
-    told = [item.text or '' for case in suite.iter('testcase') for item in case if item.tag == 'system-out']
+    told = [item.text or '' for case in suite.iter('testcase') for item in case
+            if item.tag == 'system-out']
     tools.want('what is told', [text.splitlines()[:2] for text in told],
-               [[in_part, 'client: 344 bytes are missing from the recording after the first 344, before frame 5; the stream ends there']])
+               [[in_part, 'client: 344 bytes are missing from the recording after the first 344, '
+                 'before frame 5; '
+                 f'{9 * CALL - 344} bytes of torn records are left out']])
     rows = rows_of(tools, 'x.json')
-    tools.want('JSON', [(row['state'], row['connection'], row['tcp_stream'], row['position'], row['reason'], row['frames']) for row in rows], [
-        ('ok', 1, 0, None, None, []),
-        ('refused', 2, 1, 'server record 2 byte 0', 'NoCall', [{'number': 13, 'time': 1_000_012_000}]),
-        ('in part', 1, 0, None, None, []), ('left out', None, None, None, None, []), ('error', None, None, None, None, [])])
-    status, _, _ = tools.tool('verdicts', '--program', tools.program, '--junit', 'absent/x', 'b.pcap')
+    tools.want('JSON', [(row['state'], row['connection'], row['tcp_stream'], row['position'],
+                         row['reason'], row['frames']) for row in rows], [
+                             ('ok', 1, 0, None, None, []),
+                             ('refused', 2, 1, 'server record 2 byte 0', 'NoCall',
+                              [{'number': 13, 'time': 1_000_012_000}]),
+                             ('in part', 1, 0, None, None, []),
+                             ('left out', None, None, None, None, []),
+                             ('error', None, None, None, None, [])])
+    status, _, _ = tools.tool('verdicts', '--program', tools.program, '--junit', 'absent/x',
+                              'b.pcap')
     tools.want('a file that cannot be written', status, 3)
 
 
 def interrupted(tools: Tools) -> None:
     """An interrupt ends it without a traceback, and nothing is left behind."""
     os.mkfifo(tools.path('fifo'))
-    process = begin([VERDICTS, '--program', tools.program, 'fifo'], tools.folder, prepare=take_interrupts)
+    process = begin([VERDICTS, '--program', tools.program, 'fifo'], tools.folder,
+                    prepare=take_interrupts)
     with open(tools.path('fifo'), 'wb') as fifo:
         fifo.write(pcap(whole()))
         fifo.flush()
@@ -460,7 +560,8 @@ def interrupted(tools: Tools) -> None:
         process.send_signal(signal.SIGINT)
         out, error = process.communicate(timeout=20)
     tools.want('interrupted', (process.returncode, out, error), (130, b'', b''))
-    listed = begin([VERDICTS, '--program', tools.program, str(TOP / 'examples/ganesha_a.pcap')], tools.folder)
+    listed = begin([VERDICTS, '--program', tools.program, str(TOP / 'examples/ganesha_a.pcap')],
+                   tools.folder)
     pipe_of(listed.stdout).close()
     tools.want('a reader that is gone', (pipe_of(listed.stderr).read(), listed.wait()), (b'', 3))
 
@@ -471,20 +572,22 @@ def take_interrupts() -> None:
 
 
 def parts_without_quotes(tools: Tools) -> None:
-    """Several recordings of which one goes on with a connection of another are told to be parts, by each tool that takes several; as a
-    pattern in quotes they are one. Recordings of other connections are not told of."""
+    """Several recordings of which one goes on with a connection of another are told to be parts, by
+    each tool that takes several; as a pattern in quotes they are one. Recordings of other
+    connections are not told of."""
     frames = talk_in_turns(Talk())
     tools.write('run1.pcap', pcap(frames[:13]))
     tools.write('run2.pcap', pcap(frames[13:]))
     tools.write('other.pcap', pcap(talk_in_turns(Talk(701))[13:]))
     line = 'run1.pcap and %s: these look like parts of one recording; put the pattern in quotes'
     for tool in ('verdicts', 'procedures', 'calls'):
-        for names, is_told in ((['run1.pcap', 'run2.pcap'], True), (['run2.pcap', 'run1.pcap'], True), (['run?.pcap'], False),
-                               (['run1.pcap', 'other.pcap'], False), (['run1.pcap', 'run1.pcap'], False), (['run2.pcap'], False)):
+        for names, is_told in ((['run1.pcap', 'run2.pcap'], True),
+                               (['run2.pcap', 'run1.pcap'], True), (['run?.pcap'], False),
+                               (['run1.pcap', 'other.pcap'], False),
+                               (['run1.pcap', 'run1.pcap'], False), (['run2.pcap'], False)):
             _, _, error = tools.tool(tool, '--program', tools.program, *names)
-            tools.want(f'{tool} {names}', [one for one in error.splitlines() if 'look like' in one], [line % 'run2.pcap'] * is_told)
-    _, _, error = tools.tool('verdicts', '--program', tools.program, '--no-midstream', 'run1.pcap', 'run2.pcap')
-    tools.want('left out', line % 'run2.pcap' in error, True)
+            tools.want(f'{tool} {names}', [one for one in error.splitlines() if 'look like' in one],
+                       [line % 'run2.pcap'] * is_told)
 
 
 def talk_in_turns(talk: Talk) -> list[bytes]:
@@ -495,10 +598,9 @@ def talk_in_turns(talk: Talk) -> list[bytes]:
     return [*frames, *talk.closed()]
 
 
-TESTS = [places, places_of_other_recordings, parts_of_a_recording, recordings_that_are_compressed, places_at_the_frames_of_tshark,
-         faults_with_their_frames, rows_of_all_kinds, rows_of_faults_alone, what_is_told, ok_in_part, ok_in_part_in_files, notes_on_a_recording,
-         files_for_others, interrupted, parts_without_quotes]
-
-
-class VerdictsTest(FolderTest, make=Tools, tests=TESTS):
+class VerdictsTest(FolderTest, make=Tools, tests=[
+        places, places_of_other_recordings, parts_of_a_recording, recordings_that_are_compressed,
+        places_at_the_frames_of_tshark, faults_with_their_frames, rows_of_all_kinds,
+        rows_of_faults_alone, what_is_told, ok_in_part, ok_in_part_in_files, notes_on_a_recording,
+        files_for_others, interrupted, parts_without_quotes]):
     """Each test has a folder of its own."""

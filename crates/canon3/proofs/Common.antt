@@ -29,7 +29,7 @@ unfoldable pub use Rattle.procs3.specs.Table.{arguments_of, results_of}
 pub use Rattle.record_mark.proofs.Steps.{IsWord-big_bytes}
 pub use Rattle.record_mark.specs.RecordMark.{max_body}
 pub use Rattle.record_mark.specs.Word.{Joins}
-unfoldable pub use Rattle.rpc_head.specs.Messages.{call_layout, call_start, reply_layout, reply_start}
+unfoldable pub use Rattle.rpc_head.specs.Messages.{call_layout, start_of_type, reply_layout}
 unfoldable pub use Rattle.rpc_head.specs.Shapes.{call_head, reply_head}
 pub use Rattle.rpc_head.specs.declared.values.call.ProcId.{ProcId}
 pub use Rattle.std.proofs.Common.{Bool, Err, List, None, Ok, Option, Result, Some, [], ap, append-nil, append_assoc, ap₂, arith, cond, drop, false, inl, inr, length, length-append, length-drop, length-take, map, min, refl, replicate, rules, subst, suc, sym, take, take-append-drop, true, zero, ℕ, ⊎_elim, ◌++◌, ◌+◌, ◌-◌, ◌<◌, ◌^◌, ◌||◌, ◌↔◌, ◌∙◌, ◌∷◌, ◌≡◌, ◌≢◌, ◌≤◌, ◌⊎◌}

@@ -1,5 +1,5 @@
 -- Small captures are read by computing.
-use Rattle.canon3.proofs.Common.{◌≡◌, ℕ, true, List, refl, Ok, Err, Entry, bytes_of, canonical, call_layout, call_start, reply_layout, reply_start, arguments_of, results_of, checked, p, q}
+use Rattle.canon3.proofs.Common.{◌≡◌, ℕ, true, List, refl, Ok, Err, Entry, bytes_of, canonical, call_layout, start_of_type, reply_layout, arguments_of, results_of, checked, p, q}
 use Rattle.capture3.proofs.Lemmas.Container.BytesOf.{all_bytes}
 use Rattle.xdr3.specs.declared.reason.Reason.{Reason}
 use Rattle.xdr3.specs.declared.reason.Reason.TheVariants.{AuthLength, BadBool, BadEnum, Flavor, NoCall, RpcVersion, Short, TooLong, Trailing, WrongSide, XidConflict}
@@ -8,11 +8,11 @@ use Rattle.xdr3.specs.Reading.{reading}
 use Rattle.xdr3.specs.Shape.{optional}
 use Rattle.record_mark.specs.RecordMark.{is_last, length_of}
 use Rattle.record_mark.specs.Word.{number}
-use Rattle.rpc_head.specs.Names.{head_names as rpc_names}
 use Rattle.rpc_head.specs.Shapes.{accept, auth_sys, call_head, credential, deny, gids, message_start, parameters, reply_head, verifier}
-use Rattle.nfs3_types.specs.Names.{names}
+use Rattle.xdr3.specs.Item.{called}
 use Rattle.nfs3_types.specs.Shapes.{attributes, file_kind, flavor, handle, mount_ok, post_op_attr, post_op_fh, results, status, time, times, wcc, wcc_attr, dir_op}
-use Rattle.procs3.specs.Shapes.{commit_ok, dirpath, entry_plus, file_range, lookup_ok, mount_results, readdirplus_args, readdirplus_ok}
+use Rattle.procs3.specs.Shapes.{dirpath, entry_plus, file_range, mount_results}
+use Rattle.procs3.specs.Table.{mount_procedures, nfs_procedures}
 use Rattle.capture3.specs.declared.fault.Place.TheVariants.{Record}
 use Rattle.capture3.specs.declared.fault.Side.{Side}
 use Rattle.capture3.specs.declared.fault.Side.TheVariants.{Client, Server}
@@ -50,10 +50,10 @@ pub record AreWorked : Type 0 where
 
 pub worked : AreWorked
 unfolding all_bytes number is_last length_of judge_call judge_reply reading reading_layout
-    message_start call_layout call_start call_head reply_layout reply_start reply_head credential
-    auth_sys parameters gids verifier accept deny arguments_of results_of rpc_names names file_kind
-    handle time times attributes post_op_attr wcc wcc_attr post_op_fh dir_op status results mount_ok
-    flavor entry_plus file_range readdirplus_args readdirplus_ok commit_ok lookup_ok mount_results
+    message_start call_layout start_of_type call_head reply_layout reply_head credential
+    auth_sys parameters gids verifier accept deny arguments_of results_of nfs_procedures
+    mount_procedures called file_kind handle time times attributes post_op_attr wcc
+    wcc_attr post_op_fh dir_op status results mount_ok flavor entry_plus file_range mount_results
     dirpath optional
 worked = record {
   exchange_is = worked_by exchange exchange_entries exchange_form refl refl refl;

@@ -1,9 +1,8 @@
 -- What a comparison of two captures answers.
 use Rattle.std.specs.Prelude.{◌≡◌, ℕ, ◌+◌, ◌-◌, ◌^◌, Bool, true, false, cond, min, List, Result, Ok, Err}
-use Rattle.capture3.specs.Observed.{Gave, Observed}
+use Rattle.capture3.specs.Observed.{Observed}
 use Rattle.capture3.specs.declared.fault.Error.{Error}
 use Rattle.capture3.specs.declared.fault.Error.TheVariants as errors
-use Rattle.capture3.specs.declared.fault.Fault.{Fault}
 use Rattle.capture3.specs.Entry.{Entry}
 use Rattle.capture3.specs.FirstFault.{FirstFault}
 use Rattle.capture3.specs.Typed.{IsWellFormed, Typed}
@@ -14,7 +13,7 @@ use Rattle.canon3.specs.declared.comparison.verdict.Which.{Which}
 use Rattle.canon3.specs.declared.comparison.verdict.Which.TheVariants.{First, Second}
 use Rattle.canon3.specs.Parting.{Parting}
 use Rattle.canon3.specs.Renaming.{Same}
-use Rattle.canon3.specs.Summary.{GaveAll, IsFirstGiven}
+use Rattle.canon3.specs.Summary.{GaveAll, GaveFault}
 
 -- The fault is the first of the first file, or of the second where the first is well formed. No
 -- other error says anything of them.
@@ -31,12 +30,6 @@ DecidesSame file other (Ok verdicts.Same) = (a : List Entry) × (b : List Entry)
 DecidesSame file other (Ok (verdicts.Differ place)) = (a : List Entry) × (b : List Entry)
     × Typed file a × Typed other b × (Same a b → ⊥) × Parting a b place
 DecidesSame file other (Err error) = StopsComparing file other error.error error.which
-
--- the source gave bytes that show this fault
-pub record GaveFault (source : Observed × Observed) (fault : Fault) : Type 0 where
-  pub given : List ℕ
-  pub gave : Gave source.0 source.1 given
-  pub first : IsFirstGiven source.1 given fault
 
 -- two sources, each as it was observed before the call, and as it is now
 module _ (first second : Observed × Observed) where

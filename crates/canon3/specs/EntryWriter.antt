@@ -1,7 +1,7 @@
 -- What is written of a capture's entries while it is read. A form says which bytes a list of
 -- entries is written as. A source and a sink are each told as a pair: as before the call, and as
 -- after it.
-use Rattle.std.specs.Prelude.{◌≡◌, ℕ, Option, List, ◌++◌, Result, Ok, Err}
+use Rattle.std.specs.Prelude.{◌≡◌, ◌<◌, ◌^◌, ℕ, Option, List, [], ◌∷◌, ◌++◌, length, Result, Ok, Err}
 use Rattle.capture3.specs.Observed.{Gave, Observed}
 use Rattle.std.specs.Io.KnownBytes.{Appends}
 use Rattle.capture3.specs.declared.fault.Error.{Error}
@@ -9,12 +9,25 @@ use Rattle.capture3.specs.declared.fault.Error.TheVariants as errors
 use Rattle.capture3.specs.Entries.{IsMetBy}
 use Rattle.capture3.specs.Entry.{Entry}
 use Rattle.capture3.specs.FirstFault.{FirstFault}
+use Rattle.capture3.specs.Numbering.{IsLentAfter}
+use Rattle.capture3.specs.Progress.{HasPassed}
 use Rattle.capture3.specs.Reached.{Reached}
+use Rattle.capture3.specs.declared.reader.entry.LentEntry.{LentEntry}
+use Rattle.capture3.specs.declared.reader.progress.Progress.{Progress}
 use Rattle.capture3.specs.Typed.{Typed}
 use Rattle.canon3.specs.declared.summary.Summary.{Summary}
 use Rattle.canon3.specs.Laws.{AreFirst}
 use Rattle.canon3.specs.Summary.{GaveAll, IsSummary}
 use Rattle.canon3.specs.SinkWrites.{AppendsFront}
+
+-- A lent entry comes next, after entries that begin a capture. It has its number, and this is how
+-- far they had come.
+pub record IsNextEntry (progress : Progress) (entries : List Entry) (lent : LentEntry) (one : Entry)
+    : Type 0 where
+  pub is_lent : IsLentAfter entries lent one
+  pub first : AreFirst (entries ++ one ∷ [])
+  pub few : length (entries ++ one ∷ []) < 2 ^ 32
+  pub passed : HasPassed progress entries
 
 module _ (form : List Entry → List ℕ) where
   -- What an error says, where the source gave these bytes and is observed so. The fault is the

@@ -46,22 +46,21 @@ pub record IsSummary (bytes : List ℕ) (summary : Summary) : Type 0 where
 abbrev pub AreCountedHandles : ℕ → List Entry → Type 0
 AreCountedHandles n entries = n ≡ min (length (distinct bytes_eq (handles entries))) number_limit
 
--- the bytes given show this fault: it is the first whatever follows them, or since nothing does
-abbrev pub IsFirstGiven : (observed : Observed) (given : List ℕ) → Fault → Type 0
-IsFirstGiven observed given fault = ((rest : List ℕ) → FirstFault (given ++ rest) fault)
-    ⊎ (IsSpent observed × FirstFault given fault)
+-- a source, as it was observed before and is observed now, gave bytes that show this fault: it is
+-- the first whatever follows them, or since nothing does
+pub record GaveFault (source : Observed × Observed) (fault : Fault) : Type 0 where
+  pub given : List ℕ
+  pub gave : Gave source.0 source.1 given
+  pub first : ((rest : List ℕ) → FirstFault (given ++ rest) fault)
+      ⊎ (IsSpent source.1 × FirstFault given fault)
 
--- What is concluded of the bytes that the source gave, where it is observed so: all were a
--- capture's, and this is its summary; or they show the fault. No other error says anything.
-abbrev pub Concludes : (observed : Observed) (given : List ℕ) → Result Summary Error → Type 0
-Concludes observed given (Ok summary) = IsSpent observed × IsSummary given summary
-Concludes observed given (Err (errors.Refused fault)) = IsFirstGiven observed given fault
-Concludes observed given (Err _) = Unit {0}
-
--- the source gave some bytes, and this is concluded of them
+-- What is concluded of the bytes that the source gave: all were a capture's, and this is its
+-- summary; or they show the fault. No other error says anything of them.
 abbrev pub ConcludesGiven : (before observed : Observed) → Result Summary Error → Type 0
-ConcludesGiven before observed result = (given : List ℕ) × Gave before observed given
-    × Concludes observed given result
+ConcludesGiven before observed (Ok summary) = (given : List ℕ) × Gave before observed given
+    × IsSpent observed × IsSummary given summary
+ConcludesGiven before observed (Err (errors.Refused fault)) = GaveFault (before, observed) fault
+ConcludesGiven before observed (Err _) = (given : List ℕ) × Gave before observed given
 
 -- What is concluded of all bytes of a capture, of which the source gave a prefix: they are well
 -- formed, and this is their summary; or this is their first fault. No other error says anything of

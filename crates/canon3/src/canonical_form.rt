@@ -3,7 +3,7 @@
 pub(crate) mod message_writer;
 pub(crate) mod spelling;
 
-ghost use Rattle.std.specs.Prelude.{◌≡◌, ◌<◌, ◌^◌, ◌++◌, ◌∷◌, ℕ, List, [], length, IfErr, OnOk};
+ghost use Rattle.std.specs.Prelude.{◌<◌, ◌++◌, ◌∷◌, ℕ, List, [], IfErr, OnOk};
 ghost use Rattle.capture3.specs.Entries.{CountsReading};
 ghost use Rattle.capture3.specs.Entry as spec;
 ghost use Rattle.canon3.specs.Laws.{AreFirst};

@@ -2,7 +2,7 @@
 
 pub(crate) mod verdict;
 
-ghost use Rattle.std.specs.Prelude.{◌≡◌, ◌≢◌, ◌<◌, ◌≤◌, ◌+◌, ◌^◌, ◌++◌, ◌∷◌, ℕ, List, [], length, None, Some, IfErr, IfOk, IsTrue, OnOk};
+ghost use Rattle.std.specs.Prelude.{◌≡◌, ◌≢◌, ◌<◌, ◌+◌, ◌^◌, ◌++◌, ◌∷◌, ℕ, List, [], None, Some, IfErr, IfOk, OnOk};
 ghost use Rattle.capture3.specs.Observed.{GavePrefix, Observed};
 ghost use Rattle.capture3.specs.Entries.{failure_of, source_of};
 ghost use Rattle.capture3.specs.machinery.EntriesHistory.{entries_left};
@@ -11,9 +11,9 @@ ghost use Rattle.canon3.specs.Comparison.{CountsReadingOf, DecidesGiven, Decides
 ghost use Rattle.canon3.specs.machinery.ComparisonSteps.{Compares, FindsOut, IsFound, IsReadAfter, IsReadOut, HaveReceived, IsComparing, Meets, met_second, refusal_in, StepsOn};
 ghost use Rattle.canon3.specs.machinery.WritingSteps.{HasGiven, since, source_since};
 ghost use Rattle.canon3.specs.machinery.Reading.{ReadsBoth, ReadsOne, ReadsSecond};
+ghost use Rattle.canon3.specs.EntryWriter.{IsNextEntry};
 ghost use Rattle.canon3.specs.Laws.{AreFirst};
 ghost use Rattle.capture3.specs.Numbering.{IsLentAfter};
-ghost use Rattle.capture3.specs.Progress.{HasPassed};
 ghost use Rattle.canon3.specs.machinery.ProgressSteps.{place_from, side_of_kind};
 
 use crate::canonical_form::message_writer::MessageWriter;
@@ -271,8 +271,7 @@ impl<S: BuildHasher + Drop> Comparison<S> {
         // What came of the two entries.
         ensures meets { (first : Observed × Observed) (start : Observed) (a b : List spec.Entry)
             (e : spec.Entry)
-            → IsLentAfter a entry.entry e → AreFirst (a ++ e ∷ [])
-            → HasPassed before a → length a + 1 < 2 ^ 32
+            → IsNextEntry before a entry.entry e
             → HaveReceived self.old a b (Some e) None
             → HasGiven (since B.observed start second.old) b
             → Meets first (since B.observed start second.new) self.new a b e result }
@@ -299,9 +298,8 @@ impl<S: BuildHasher + Drop> Comparison<S> {
         other: LentEntry<'_>,
     ) -> Result<Option<Place>, SameError>
         ensures compares { (a b : List spec.Entry) (e f : spec.Entry)
-            → IsLentAfter a entry.entry e → IsLentAfter b other.entry f
-            → AreFirst (a ++ e ∷ []) → AreFirst (b ++ f ∷ [])
-            → HasPassed before a → length a + 1 < 2 ^ 32
+            → IsNextEntry before a entry.entry e
+            → IsLentAfter b other.entry f → AreFirst (b ++ f ∷ [])
             → HaveReceived self.old a b (Some e) (Some f)
             → IfOk result (Compares self.new a b e f) }
         ensures memory { IfErr result (λ error. error.error ≡ Error.Memory) }

@@ -5,7 +5,7 @@ pub use Rattle.record_mark.proofs.Machines.{Leads, Tells, after-append, after_st
 pub use Rattle.record_mark.proofs.Words.{IsPart, Joins-snoc, word_leads, word_runs, word_stops, concat-snoc}
 pub use Rattle.record_mark.specs.Joining.{Between, Bytes, Header, Joined, Joining, TooLong, Whole, join_next, EndsRecord, HasJoined}
 pub use Rattle.record_mark.specs.Machine.{Ends, Goes, Next, Run, Runs, Stopped, Stops, after, landed, last_running, within}
-pub use Rattle.record_mark.specs.RecordMark.{IsFragment, IsOpen, IsRecord, Marks, IsTooLong, IsUnfinished}
+pub use Rattle.record_mark.specs.RecordMark.{IsFragment, IsOpen, IsRecord, Marks, IsTooLong}
 pub use Rattle.record_mark.specs.Taking.{IsRunning, IsWhole, Led, OutOfMemory, Taking, body_of, joined_body, joining_of, released}
 pub use Rattle.record_mark.specs.Word.{IsWord, Joins, word_next}
 unfoldable pub use Rattle.record_mark.specs.Word.{number}
@@ -13,8 +13,7 @@ pub use Rattle.record_mark.specs.WordPart.{bytes_so_far, TakesWord}
 pub use Rattle.record_mark.specs.declared.word_part.WordPart.{WordPart}
 pub use Rattle.rpc_head.specs.MessageStart.{start_items}
 pub use Rattle.rpc_head.specs.Messages.{procedure_in}
-unfoldable pub use Rattle.rpc_head.specs.Messages.{call_layout, call_start, reply_layout, reply_start}
-pub use Rattle.rpc_head.specs.Names.{head_names}
+unfoldable pub use Rattle.rpc_head.specs.Messages.{call_layout, start_of_type, reply_layout}
 unfoldable pub use Rattle.rpc_head.specs.Shapes.{call_head, message_start, reply_head}
 pub use Rattle.rpc_head.specs.declared.values.call.ProcId.{ProcId}
 pub use Rattle.rpc_head.specs.declared.values.message_start.MessageStart.{MessageStart}
@@ -33,7 +32,7 @@ pub use Rattle.xdr3.proofs.Lemmas.Reading.Complete.{complete}
 pub use Rattle.xdr3.proofs.Lemmas.Reading.Items.{length_of_spelling, Spells-split}
 pub use Rattle.xdr3.proofs.Lemmas.Reading.Reasons.{IsOfItem, HasItemReason, refused_for, row_refused_for}
 pub use Rattle.xdr3.proofs.Lemmas.Shapes.Layouts.{reads_whole, layout_decides}
-pub use Rattle.xdr3.specs.Item.{AreBytes, Item, Spells, Word}
+pub use Rattle.xdr3.specs.Item.{AreBytes, Item, Spells, Word, called}
 unfoldable pub use Rattle.xdr3.specs.Item.{followed_by}
 pub use Rattle.xdr3.specs.Layout.{Layout, RefusesLayout, exactly, ReadsLayout, word_in}
 unfoldable pub use Rattle.xdr3.specs.Layout.{reading_layout}
@@ -47,13 +46,13 @@ pub use Rattle.xdr3.specs.declared.reason.Stop.{Stop}
 pub use Rattle.capture3.specs.Bodies.{ACall, AReply, AcceptsCall, AcceptsReply, BadCall, BadReply, IsCall, IsReply, LongCall, LongReply, OtherCall, ReplyItems, Starts, Unasked, procedure_of, xid_in, LeavesMore, RefusesCall, RefusesReply}
 pub use Rattle.capture3.specs.BodyProgram.{agreed, agrees, all_of_body, answering, read_whole}
 unfoldable pub use Rattle.capture3.specs.BodyProgram.{judge_call, judge_reply}
-pub use Rattle.capture3.specs.Capture.{AreStreams, IsCapture, IsConnection, One, Two, Version, digit, magic, magic_front, max_connections, total_size, AreInTurn}
+pub use Rattle.capture3.specs.Capture.{AreStreams, IsCapture, IsConnection, One, Two, Version, magic, max_connections, total_size}
 pub use Rattle.capture3.specs.Chunks.{AreChunks, BeginsStream, IsChunk, IsStream, max_bytes, WithinChunk}
-pub use Rattle.capture3.specs.ConnectionMachine.{Closes, Closing, InClient, InMixed, InServer, Opening, Refuses, after_client, conversing, ending, judge_replies, opened, opening_next, after_server, turning, opening_entries}
-pub use Rattle.capture3.specs.Connections.{BadSide, ConnectionShows, InCalls, InClientStream, InReplies, InServerStream, InTurnShows, MixedShows, NoLength, ShownFault, StreamsShow, TooMuch, calls_in_turn, client_refusal, refusal, replies_to, server_position, server_refusal}
+pub use Rattle.capture3.specs.ConnectionMachine.{Closes, Closing, InClient, InMixed, InServer, Opening, Refuses, after_client, conversing, ending, judge_replies, opened, opening_next, after_server, client_refusal, server_refusal, turning, opening_entries}
+pub use Rattle.capture3.specs.Connections.{BadSide, ConnectionShows, InCalls, InClientStream, InReplies, InServerStream, InTurnShows, MixedShows, NoLength, ShownFault, StreamsShow, TooMuch, calls_in_turn, refusal, replies_to}
 pub use Rattle.capture3.specs.Entry.{End, Entry}
-pub use Rattle.capture3.specs.FileMachine.{Parsing, concluded, emitted, file_next, file_start, last_entries, parsed, parsing_in, reached, verdict, verdict_of, marked}
-pub use Rattle.capture3.specs.FirstFault.{AfterConnections, ByteAfterEnd, ConnectionIsTooMany, FirstFault, IsClean, MagicDiffers, MarkIsBad, Rule, Shows, WithinConnection, next_position}
+pub use Rattle.capture3.specs.FileMachine.{Parsing, concluded, digit, emitted, file_next, file_start, last_entries, magic_front, parsed, parsing_in, reached, verdict, verdict_of, marked}
+pub use Rattle.capture3.specs.FirstFault.{AfterConnections, ByteAfterEnd, ConnectionIsTooMany, FirstFault, IsClean, MagicDiffers, MarkIsBad, Rule, Shows, WithinConnection}
 pub use Rattle.capture3.specs.Laws.{AreWithinLimits, begins, most_bytes, HasItsPlace, HasOneVerdict, HaveSameEntries, IsCutShort, IsJudgedInTurn, IsJudgedOnce, IsOfVersion, IsWithinVersion, spelled}
 pub use Rattle.capture3.specs.Reached.{AreFirstReached, AreWhole, BetweenConnections, InConnection, InMagic, IsLongestClean, Opens, Reached, ReachesInside}
 pub use Rattle.capture3.specs.Records.{AreMessages, CutsOpen, FirstRecordFault, Holds, HoldsSoFar, IsCut, Judgement, PassesLimit, RecordFault, RefusesRecord, StreamShows, fault_at}
@@ -102,3 +101,16 @@ pub joined_length : (front back : List ℕ) → length (front ++ back) ≡ lengt
 joined_length = length-append
 
 pub ruleset lengths = (arith, joined_length)
+
+-- where the next connection's bytes begin, after its word 1
+abbrev pub next_position : List ℕ → List Streams → Position
+next_position front connections = record {
+  connection = suc (length connections);
+  start = length front + 4;
+  before = total_size connections;
+}
+
+-- where a server stream's bytes begin, after those of the client stream, which carry `client`
+abbrev pub server_position : Position → List ℕ → List ℕ → Position
+server_position at front client =
+    record at { start = at.start + length front; before = at.before + length client }

@@ -1,7 +1,8 @@
 -- What the definitions say of small captures.
-use Rattle.capture3.proofs.Common.{◌≡◌, [], ◌∷◌, ◌++◌, refl, Ok, Err, reading_layout, reading, number, call_layout, call_start, reply_layout, reply_start, arguments_of, results_of, Client, Server, judge_call, judge_reply, reached, verdict, CaptureCut, BadMark, AfterEnd, TooManyBytes, RecordTooLong, BadEnum, WrongSide, NoCall, file_fault, fault_in_record}
+use Rattle.capture3.proofs.Common.{◌≡◌, [], ◌∷◌, ◌++◌, refl, Ok, Err, reading_layout, reading, number, call_layout, start_of_type, reply_layout, arguments_of, results_of, Client, Server, judge_call, judge_reply, reached, verdict, CaptureCut, BadMark, AfterEnd, TooManyBytes, RecordTooLong, BadEnum, WrongSide, NoCall, file_fault, fault_in_record}
 use Rattle.record_mark.specs.RecordMark.{is_last, length_of}
 use Rattle.rpc_head.specs.Shapes.{accept, call_head, credential, deny, message_start, reply_head, verifier}
+use Rattle.procs3.specs.Table.{nfs_procedures}
 use Rattle.capture3.specs.Entry.{Begin, Call, Turn, Close, End}
 use Rattle.capture3.specs.Examples.{magic_1, magic_2, word_0, word_1, word_3, null_call, null_reply, null_call_items, null_capture, null_entries, bad_mtype as bad_mtype_bytes, bad_mtype_cut as bad_mtype_cut_bytes, client_chunk, server_chunk}
 use Rattle.capture3.specs.Examples.{null_mixed as null_mixed_bytes, null_mixed_swapped as null_mixed_swapped_bytes, bad_mtype_mixed as bad_mtype_mixed_bytes, bad_mtype_mixed_cut as bad_mtype_mixed_cut_bytes, call_answered_by_call as call_answered_by_call_bytes}
@@ -52,8 +53,8 @@ wrong_side = refl
 
 pub null_typed : verdict null_capture ≡ Ok null_entries
 unfolding number is_last length_of judge_call judge_reply reading reading_layout message_start
-    call_layout call_start call_head reply_layout reply_start reply_head credential verifier accept
-    deny arguments_of results_of
+    call_layout start_of_type call_head reply_layout reply_head credential verifier accept
+    deny arguments_of results_of nfs_procedures
 null_typed = refl
 
 -- ---- version 2
@@ -88,14 +89,14 @@ too_many_mixed = refl
 -- the chunks of both sides, in either order
 pub null_mixed : verdict null_mixed_bytes ≡ Ok null_entries
 unfolding number is_last length_of judge_call judge_reply reading reading_layout message_start
-    call_layout call_start call_head reply_layout reply_start reply_head credential verifier accept
-    deny arguments_of results_of
+    call_layout start_of_type call_head reply_layout reply_head credential verifier accept
+    deny arguments_of results_of nfs_procedures
 null_mixed = refl
 
 pub null_mixed_swapped : verdict null_mixed_swapped_bytes ≡ Ok null_entries
 unfolding number is_last length_of judge_call judge_reply reading reading_layout message_start
-    call_layout call_start call_head reply_layout reply_start reply_head credential verifier accept
-    deny arguments_of results_of
+    call_layout start_of_type call_head reply_layout reply_head credential verifier accept
+    deny arguments_of results_of nfs_procedures
 null_mixed_swapped = refl
 
 -- a record at fault is reported at the side word 0, and not before
@@ -110,14 +111,14 @@ bad_mtype_mixed_cut = refl
 pub call_answered_by_call : verdict call_answered_by_call_bytes
     ≡ Err (fault_in_record 1 Server 1 4 WrongSide)
 unfolding number is_last length_of judge_call judge_reply reading reading_layout message_start
-    call_layout call_start call_head credential verifier arguments_of
+    call_layout start_of_type call_head credential verifier arguments_of nfs_procedures
 call_answered_by_call = refl
 
 -- what is before the fault is reached with the side word 0, and not before
 pub reached_at_fault : Begin ∷ Call null_call_items ∷ Turn ∷ []
     ≡ reached call_answered_by_call_bytes
 unfolding number is_last length_of judge_call judge_reply reading reading_layout message_start
-    call_layout call_start call_head credential verifier arguments_of
+    call_layout start_of_type call_head credential verifier arguments_of nfs_procedures
 reached_at_fault = refl
 
 pub reached_before_side : Begin ∷ [] ≡ reached bad_mtype_mixed_cut_bytes

@@ -3,12 +3,11 @@
 use Rattle.std.specs.Prelude.{◌≡◌, ◌≢◌, ℕ, ◌+◌, ◌<◌, ◌==◌, if◌then◌else◌, List, [], ◌∷◌, length, Option, Some, None}
 use Rattle.xdr3.specs.declared.reason.Reason.TheVariants.{Trailing, WrongSide, NoCall, XidConflict}
 use Rattle.xdr3.specs.declared.reason.Stop.{Stop}
-use Rattle.xdr3.specs.Item.{Item, Word, Spells}
+use Rattle.xdr3.specs.Item.{Item, Word, Spells, called}
 use Rattle.xdr3.specs.Layout.{Layout, FitsLayout, ReadsLayout, RefusesLayout, word_in}
 use Rattle.xdr3.specs.Shape.{Reads, Refuses}
 use Rattle.rpc_head.specs.declared.values.call.ProcId.{ProcId}
 use Rattle.rpc_head.specs.Messages.{call_layout, reply_layout, procedure_in}
-use Rattle.rpc_head.specs.Names.{head_names}
 use Rattle.rpc_head.specs.Shapes.{message_start}
 use Rattle.procs3.specs.Table.{arguments_of, results_of}
 
@@ -40,7 +39,7 @@ procedure_of (call ∷ calls) xid =
 -- the body begins with the xid and the mtype, CALL (0) or REPLY (1) (RFC 5531, section 9)
 abbrev pub Starts : List ℕ → ℕ → ℕ → Type 0
 Starts body xid mtype = (left : List ℕ)
-    × Reads message_start body (Word head_names.xid xid ∷ Word head_names.mtype mtype ∷ []) left
+    × Reads message_start body (Word (called "xid") xid ∷ Word (called "mtype") mtype ∷ []) left
 
 -- a front of the body is laid out so, and bytes are left over: Trailing at the first of them
 pub record LeavesMore (layout : Layout) (body : List ℕ) (stop : Stop) : Type 0 where

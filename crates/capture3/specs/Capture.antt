@@ -1,5 +1,5 @@
 -- A capture file: a magic, connections of two streams each, and the word 0.
-use Rattle.std.specs.Prelude.{◌≡◌, ℕ, zero, ◌+◌, ◌≤◌, List, [], ◌∷◌, ◌++◌, length}
+use Rattle.std.specs.Prelude.{◌≡◌, ℕ, zero, ◌+◌, ◌≤◌, List, [], ◌∷◌, ◌++◌, codes, length}
 use Rattle.record_mark.specs.Word.{IsWord, Joins}
 use Rattle.capture3.specs.Chunks.{max_bytes, IsStream}
 use Rattle.capture3.specs.SidedChunks.{Streams, size, AreMixed}
@@ -10,18 +10,10 @@ pub data Version : Type 0 where
   One : Version
   Two : Version
 
--- the bytes NFS3CAP
-abbrev pub magic_front : List ℕ
-magic_front = 78 ∷ 70 ∷ 83 ∷ 51 ∷ 67 ∷ 65 ∷ 80 ∷ []
-
--- the byte after them: the character 1 or 2
-abbrev pub digit : Version → ℕ
-digit One = 49
-digit Two = 50
-
--- the eight bytes with which a file begins: NFS3CAP1 or NFS3CAP2
+-- the eight bytes with which a file begins
 abbrev pub magic : Version → List ℕ
-magic version = magic_front ++ digit version ∷ []
+magic One = codes "NFS3CAP1"
+magic Two = codes "NFS3CAP2"
 
 -- the most connections of a capture
 abbrev pub max_connections : ℕ
@@ -32,17 +24,11 @@ abbrev pub total_size : List Streams → ℕ
 total_size [] = zero
 total_size (streams ∷ more) = size streams + total_size more
 
--- version 1: the client stream, and then the server stream
-pub record AreInTurn (bytes : List ℕ) (streams : Streams) : Type 0 where
-  pub front : List ℕ
-  pub last : List ℕ
-  pub split : bytes ≡ front ++ last
-  pub client : IsStream front streams.client
-  pub server : IsStream last streams.server
-
--- the streams of a connection, by the version of the file
+-- The streams of a connection: in version 1 the client stream, and then the server stream; in
+-- version 2 the chunks of both.
 abbrev pub AreStreams : Version → List ℕ → Streams → Type 0
-AreStreams One bytes streams = AreInTurn bytes streams
+AreStreams One bytes streams = (front : List ℕ) × (last : List ℕ) × (bytes ≡ front ++ last)
+    × IsStream front streams.client × IsStream last streams.server
 AreStreams Two bytes streams = AreMixed bytes streams
 
 -- the word 1, and the connection's streams

@@ -5,11 +5,12 @@ use Rattle.record_mark.specs.Machine.{Next, Goes, Ends, within}
 use Rattle.capture3.specs.declared.fault.Side.TheVariants.{Client, Server}
 use Rattle.capture3.specs.Bodies.{ReplyItems}
 use Rattle.capture3.specs.Capture.{Version, One, Two}
-use Rattle.capture3.specs.Connections.{ShownFault, refusal, client_refusal, server_refusal}
+use Rattle.capture3.specs.Connections.{ShownFault, refusal}
 use Rattle.capture3.specs.Entry.{Entry, Begin, Call, Turn}
 use Rattle.capture3.specs.BodyProgram.{judge_call, judge_reply}
 use Rattle.capture3.specs.SidedChunksMachine.{Mixing, MixedEnd, MixedCloses, MixedRefuses, mixed_next, mixing_from}
 use Rattle.capture3.specs.StreamMachine.{Judge, StreamEnd, Held, Faulty, stream_end}
+use Rattle.capture3.specs.Records.{RecordFault}
 use Rattle.capture3.specs.Sides.{place_at}
 use Rattle.capture3.specs.SideMachine.{Siding, SideEnd, SideCloses, SideRefuses, side_next, siding_from}
 use Rattle.capture3.specs.Typed.{reply_entry, connection_entries}
@@ -37,6 +38,18 @@ abbrev pub ending : List (List Item) → SideEnd ReplyItems → Next Opening Clo
 ending calls (SideCloses at total replies) =
     Ends (Closes at total (connection_entries calls replies))
 ending calls (SideRefuses fault) = Ends (Refuses (refusal fault))
+
+-- a fault in the client stream
+abbrev pub client_refusal : ℕ → List (List Item) → RecordFault → ShownFault
+client_refusal number calls fault =
+    record { fault = place_at number Client fault; more = map Call calls }
+
+-- a fault in the server stream
+abbrev pub server_refusal : ℕ → List (List Item) → List ReplyItems → RecordFault → ShownFault
+server_refusal number calls replies fault = record {
+  fault = place_at number Server fault;
+  more = map Call calls ++ (Turn ∷ map reply_entry replies);
+}
 
 -- in version 2: the server stream has been judged, after these calls
 abbrev pub after_server : ℕ → ℕ → ℕ → List (List Item) → StreamEnd ReplyItems → Next Opening Closing

@@ -22,11 +22,6 @@ calls_in_turn = record { accepts = AcceptsCall; refuses = RefusesCall }
 abbrev pub replies_to : List (List Item) → Judgement ReplyItems
 replies_to calls = record { accepts = λ _. AcceptsReply calls; refuses = λ _. RefusesReply calls }
 
--- the server stream's, after the bytes of the client stream in the file, which carry `client`
-abbrev pub server_position : Position → List ℕ → List ℕ → Position
-server_position at front client =
-    record at { start = at.start + length front; before = at.before + length client }
-
 -- a fault, and the entries that the byte which shows it still reaches
 pub record ShownFault : Type 0 where
   pub fault : Fault
@@ -38,10 +33,11 @@ refusal fault = record { fault = fault; more = [] }
 -- version 1: the last byte of a connection's bytes shows this fault of its two streams
 pub data InTurnShows (at : Position) (bytes : List ℕ) (fault : Fault) : Type 0 where
   InCalls : SideShows calls_in_turn Client at bytes fault → InTurnShows at bytes fault
-  -- after the client stream with these calls
+  -- in the server stream, after the client stream with these calls
   InReplies : (front last client : List ℕ) (calls : List (List Item)) → bytes ≡ front ++ last
       → IsStream front client → Holds calls_in_turn client calls
-      → SideShows (replies_to calls) Server (server_position at front client) last fault
+      → SideShows (replies_to calls) Server
+      (record at { start = at.start + length front; before = at.before + length client }) last fault
       → InTurnShows at bytes fault
 
 -- version 2: the last byte of a connection's bytes shows this fault of its chunks
@@ -58,28 +54,22 @@ pub data MixedShows (at : Position) (bytes : List ℕ) (fault : Fault) : Type 0 
       → max_bytes < at.before + size (gathered b.chunks) + count
       → fault ≡ file_fault (at.start + length b.front + 4) TooManyBytes → MixedShows at bytes fault
 
--- a fault in the client stream: the calls before it are reached
-abbrev pub client_refusal : ℕ → List (List Item) → RecordFault → ShownFault
-client_refusal number calls fault =
-    record { fault = place_at number Client fault; more = map Call calls }
-
--- a fault in the server stream: all calls and the replies before it are reached
-abbrev pub server_refusal : ℕ → List (List Item) → List ReplyItems → RecordFault → ShownFault
-server_refusal number calls replies fault = record {
-  fault = place_at number Server fault;
-  more = map Call calls ++ (Turn ∷ map reply_entry replies);
-}
-
 -- The side word 0 shows this fault of the streams, which are whole with it: the first fault of the
--- client stream, or, where that has none, of the server stream.
+-- client stream, or, if that has none, of the server stream.
 pub data StreamsShow (number : ℕ) (bytes : List ℕ) (shown : ShownFault) : Type 0 where
+  -- the calls before the fault are reached
   InClientStream : (streams : Streams) (calls : List (List Item)) (fault : RecordFault)
       → AreMixed bytes streams → FirstRecordFault calls_in_turn streams.client calls fault
-      → shown ≡ client_refusal number calls fault → StreamsShow number bytes shown
+      → shown ≡ record { fault = place_at number Client fault; more = map Call calls }
+      → StreamsShow number bytes shown
+  -- all calls and the replies before the fault are reached
   InServerStream : (streams : Streams) (calls : List (List Item)) (replies : List ReplyItems)
       (fault : RecordFault) → AreMixed bytes streams → Holds calls_in_turn streams.client calls
       → FirstRecordFault (replies_to calls) streams.server replies fault
-      → shown ≡ server_refusal number calls replies fault → StreamsShow number bytes shown
+      → shown ≡ record {
+        fault = place_at number Server fault;
+        more = map Call calls ++ (Turn ∷ map reply_entry replies);
+      } → StreamsShow number bytes shown
 
 -- The last byte of a connection's bytes, after its word 1, shows this fault. In version 2 a fault
 -- of a record is shown by the side word 0 alone.

@@ -1,8 +1,7 @@
 -- Small captures.
 use Rattle.std.specs.Prelude.{ℕ, List, [], ◌∷◌, ◌++◌}
-use Rattle.xdr3.specs.Item.{Item, Word, Opaque, Var}
+use Rattle.xdr3.specs.Item.{Item, Word, Opaque, Var, called}
 use Rattle.rpc_head.specs.declared.values.call.ProcId.{ProcId}
-use Rattle.rpc_head.specs.Names.{head_names}
 use Rattle.capture3.specs.Entry.{Entry, Begin, Call, Turn, Reply, Close, End}
 
 abbrev pub magic_1 : List ℕ
@@ -37,16 +36,16 @@ null_procedure = record { prog = 100003; vers = 3; proc_no = 0 }
 
 abbrev pub null_call_items : List Item
 null_call_items =
-    Word head_names.xid 3735928559 ∷ Word head_names.mtype 0 ∷ Word head_names.rpcvers 2
-    ∷ Word head_names.prog 100003 ∷ Word head_names.vers 3 ∷ Word head_names.proc 0
-    ∷ Word head_names.cred_flavor 0 ∷ Opaque Var head_names.cred_body []
-    ∷ Word head_names.verf_flavor 0 ∷ Opaque Var head_names.verf_body [] ∷ []
+    Word (called "xid") 3735928559 ∷ Word (called "mtype") 0 ∷ Word (called "rpcvers") 2
+    ∷ Word (called "prog") 100003 ∷ Word (called "vers") 3 ∷ Word (called "proc") 0
+    ∷ Word (called "cred_flavor") 0 ∷ Opaque Var (called "cred_body") []
+    ∷ Word (called "verf_flavor") 0 ∷ Opaque Var (called "verf_body") [] ∷ []
 
 abbrev pub null_reply_items : List Item
 null_reply_items =
-    Word head_names.xid 3735928559 ∷ Word head_names.mtype 1 ∷ Word head_names.reply_stat 0
-    ∷ Word head_names.verf_flavor 0 ∷ Opaque Var head_names.verf_body []
-    ∷ Word head_names.accept_stat 0 ∷ []
+    Word (called "xid") 3735928559 ∷ Word (called "mtype") 1 ∷ Word (called "reply_stat") 0
+    ∷ Word (called "verf_flavor") 0 ∷ Opaque Var (called "verf_body") []
+    ∷ Word (called "accept_stat") 0 ∷ []
 
 abbrev pub null_entries : List Entry
 null_entries =

@@ -1,15 +1,23 @@
 -- The machine for a capture file.
-use Rattle.std.specs.Prelude.{ℕ, zero, suc, ◌+◌, List, [], ◌∷◌, ◌++◌, length, cond, nat_lt, nat_eq, Result, Ok, Err, unwrap_or}
+use Rattle.std.specs.Prelude.{ℕ, zero, suc, ◌+◌, List, [], ◌∷◌, ◌++◌, codes, length, cond, nat_lt, nat_eq, Result, Ok, Err, unwrap_or}
 use Rattle.std.specs.Result.{result_ok}
 use Rattle.xdr3.specs.declared.reason.Reason.TheVariants.{BadMagic, CaptureCut, BadMark, AfterEnd, TooManyConnections}
 use Rattle.record_mark.specs.Machine.{Next, Goes, Ends, Run, Runs, Stops, Stopped, after, within, last_running}
 use Rattle.record_mark.specs.Word.{word_next}
 use Rattle.capture3.specs.declared.fault.Fault.{Fault}
-use Rattle.capture3.specs.Capture.{Version, One, Two, digit, magic_front, max_connections}
+use Rattle.capture3.specs.Capture.{Version, One, Two, max_connections}
 use Rattle.capture3.specs.Connections.{ShownFault, refusal}
 use Rattle.capture3.specs.Entry.{Entry, End}
 use Rattle.capture3.specs.ConnectionMachine.{Opening, Closing, Closes, Refuses, opening_next, opened, opening_entries}
 use Rattle.capture3.specs.Sides.{file_fault}
+
+-- the bytes with which each magic begins, and the byte after them
+abbrev pub magic_front : List ℕ
+magic_front = codes "NFS3CAP"
+
+abbrev pub digit : Version → ℕ
+digit One = 49
+digit Two = 50
 
 -- before a byte of the magic, before its last byte, in a connection word, in a connection, or after
 -- the last word 0

@@ -6,7 +6,7 @@ use Rattle.capture3.specs.declared.fault.Fault.{Fault}
 use Rattle.capture3.specs.Capture.{Version, magic, max_connections, total_size, IsConnection}
 use Rattle.capture3.specs.SidedChunks.{Streams}
 use Rattle.capture3.specs.Connections.{ShownFault, refusal, ConnectionShows}
-use Rattle.capture3.specs.Sides.{Position, file_fault}
+use Rattle.capture3.specs.Sides.{file_fault}
 use Rattle.capture3.specs.Typed.{IsWellFormed}
 
 -- the magic, whole connections, a connection word, and what comes after it
@@ -22,14 +22,6 @@ pub record AfterConnections (bytes : List ℕ) : Type 0 where
   pub begins : front ≡ magic version ++ whole
   pub joined : Joins (IsConnection version) whole connections
   pub is_word : IsWord word mark
-
--- where the next connection stands, after its word 1
-abbrev pub next_position : List ℕ → List Streams → Position
-next_position front connections = record {
-  connection = suc (length connections);
-  start = length front + 4;
-  before = total_size connections;
-}
 
 -- the rules: the last byte of these bytes shows this fault
 pub data Rule (bytes : List ℕ) (shown : ShownFault) : Type 0 where
@@ -47,10 +39,13 @@ pub data Rule (bytes : List ℕ) (shown : ShownFault) : Type 0 where
   ConnectionIsTooMany : (b : AfterConnections bytes) → b.rest ≡ [] → b.mark ≡ 1
       → length b.connections ≡ max_connections
       → shown ≡ refusal (file_fault (length b.front) TooManyConnections) → Rule bytes shown
-  -- in a connection
+  -- in the next connection, whose bytes begin after its word 1
   WithinConnection : (b : AfterConnections bytes) → b.mark ≡ 1
-      → ConnectionShows b.version (next_position b.front b.connections) b.rest shown
-      → Rule bytes shown
+      → ConnectionShows b.version (record {
+        connection = suc (length b.connections);
+        start = length b.front + 4;
+        before = total_size b.connections;
+      }) b.rest shown → Rule bytes shown
   -- a byte after the last word 0
   ByteAfterEnd : (b : AfterConnections bytes) → b.mark ≡ 0 → length b.rest ≡ 1
       → shown ≡ refusal (file_fault (length b.front + 4) AfterEnd) → Rule bytes shown

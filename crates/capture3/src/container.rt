@@ -9,7 +9,7 @@ pub(crate) mod side_words;
 ghost use Rattle.std.specs.Prelude.{◌≡◌, ◌≢◌, ◌≤◌, ◌<◌, ◌+◌, length, take, Err, IfOk, IfErr, IfSome, OnErr, OnOk, None, Some};
 ghost use Rattle.capture3.specs.machinery.Container.{CanGoOn, ComesNext, ComesToFault, ShowsError, first_cursor, GoesBy, IsCutInRecord, Leaves, Reaches, RecallFails, Recalled, room_in, StepsTo, TakesPiece, unpacking_in};
 ghost use Rattle.record_mark.specs.Joining.{Between};
-ghost use Rattle.capture3.specs.machinery.Position.{AreEmpty, cost_of, IsEndSpot, IsOpenBody, most_things, room_of, StoredWith};
+ghost use Rattle.capture3.specs.machinery.Position.{AreEmpty, cost_of, IsEndSpot, most_things, room_of, StoredWith};
 ghost use Rattle.capture3.specs.machinery.ContainerMachine.{unpacking_start};
 ghost use Rattle.capture3.specs.machinery.InPlace.{IsCopied, LiesIn};
 ghost use Rattle.record_mark.specs.RecordMark.{max_body};
@@ -156,7 +156,7 @@ impl Container {
                 }
             },
             None => match self.advance(piece, error) {
-                Ok((count, Some(Event::Streams))) => match self.first_recalled() {
+                Ok((count, Some(Event::Streams))) => match self.recall_first() {
                     Ok(event) => Ok((count, Some(event))),
                     Err(found) => {
                         *error = found;
@@ -199,7 +199,7 @@ impl Container {
 
     /// Returns what is whole first in the streams, which are whole.
     #[inline(never)]
-    fn first_recalled(&mut self) -> Result<Event, Error>
+    fn recall_first(&mut self) -> Result<Event, Error>
         requires stored { StoredWith (Some Event.Streams) self.old.position self.old.streams.kept }
 
         // What is whole.

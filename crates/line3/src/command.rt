@@ -15,20 +15,29 @@ const END: &str = "--";
 
 const NO_FORM: &str = "error: the line has none of the forms of the program\n";
 
-/// Returns the words of a command line, the program's name first, without the `--` that ends its options. A
-/// line that clap does not take, and a call for help, is answered by the text that clap writes.
-pub fn take_words(alloc: Global, words: Vec<String>) -> Result<Vec<String>, LineFault>
-    ensures taken { IfOk result (λ said.
-        map string_bytes said.items ≡ without_end 2 (map string_bytes words.items)) }
-    ensures accepted { OnOk result (fault_of app (map string_bytes words.items) ≡ []) }
-    ensures refused { IfErr result (AreRefused (map string_bytes words.items)) }
+/// Returns the job that a command line asks for. `words` are its words, the program's name first; of them the
+/// `--` that ends the options is taken out.
+///
+/// # Errors
+///
+/// - `Usage` if the line has none of the forms, or asks for help, with the text that clap writes.
+/// - `Odd` if a stream has no counterpart.
+/// - `SameName` if the output is an input.
+/// - `Memory` if memory ran out.
+pub fn job<'a>(alloc: Global, words: &'a mut Vec<String>) -> Result<Job<'a>, LineFault>
+    ensures asked { IfOk result (Asks (map string_bytes words.old.items)) }
+    ensures accepted { OnOk result (fault_of app (map string_bytes words.old.items) ≡ []) }
+    ensures refused { IfErr result (AreRefused (map string_bytes words.old.items)) }
 {
     let command = match command(alloc) {
         Ok(command) => command,
         Err(_) => return Err(LineFault::Memory),
     };
     match try_words(alloc, command, words.as_slice()) {
-        Ok(()) => Ok(without_end(words, 2)),
+        Ok(()) => {
+            take_end(words, 2);
+            job_of(alloc, words.as_slice())
+        }
         Err(fault) => Err(fault),
     }
 }
@@ -54,16 +63,16 @@ pub fn try_words<'a>(
 
 /// Takes the first `--` out of the words, but for so many first ones. It ends the options of a line, and is
 /// no name.
-pub fn without_end(mut words: Vec<String>, first: usize) -> Vec<String>
-    ensures { map string_bytes result.items ≡ without_end first (map string_bytes words.items) }
+pub fn take_end(words: &mut Vec<String>, first: usize)
+    ensures { map string_bytes words.new.items
+        ≡ without_end first (map string_bytes words.old.items) }
 {
     for place in first..words.len() {
         if words[place].as_str() == END {
             words.remove(place);
-            return words;
+            return;
         }
     }
-    words
 }
 
 /// Returns the fault of a line that clap does not take: the text that clap writes, or that memory ran out.
@@ -81,9 +90,8 @@ fn line_fault_of(alloc: Global, error: clap::Error) -> LineFault
     }
 }
 
-/// Returns the job that the words of a line ask for, the program's name first. They are what `take_words`
-/// returns.
-pub fn job<'a>(alloc: Global, words: &'a [String]) -> Result<Job<'a>, LineFault>
+/// Returns the job that the words of a line ask for, the program's name first. A `--` is not among them.
+fn job_of<'a>(alloc: Global, words: &'a [String]) -> Result<Job<'a>, LineFault>
     ensures asked { (line : List (List ℕ)) → map string_bytes words.now ≡ without_end 2 line
         → IfOk result (Asks line) }
     ensures refused { (line : List (List ℕ)) → map string_bytes words.now ≡ without_end 2 line

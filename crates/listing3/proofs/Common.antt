@@ -10,7 +10,7 @@ pub use Rattle.capture3.specs.Entry.{Begin, Call, Close, End, Entry, Reply, Turn
 pub use Rattle.hex.specs.Hex.{decode_of, encode_lower, lower_digits}
 unfoldable pub use Rattle.hex.specs.Hex.{encode_with}
 pub use Rattle.rpc_head.specs.Messages.{procedure_in}
-unfoldable pub use Rattle.rpc_head.specs.Names.{head_names}
+unfoldable pub use Rattle.xdr3.specs.Item.{called}
 pub use Rattle.rpc_head.specs.declared.values.call.ProcId.{ProcId}
 pub use Rattle.std.proofs.Common.{Bool, Err, List, None, Ok, Option, Result, Some, T, [], ap, append-nil, append_assoc, ap₂, arith, bytes_eq, codes, decimal, drop, drop-set-lt, eq-zero-or-pos, eqb, eqb→eq, false, get_or, inl, inr, length, length-drop, length-set, length-take-le, map, min, not, refl, rules, set, slice_index, subst, suc, sym, take, take-take, true, zero, ℕ, ⊎_elim, ◌%◌, ◌&&◌, ◌*◌, ◌++◌, ◌+◌, ◌-◌, ◌/◌, ◌<◌, ◌==◌, ◌^◌, ◌∙◌, ◌∷◌, ◌≡◌, ◌≢◌, ◌≤◌, ◌⊎◌}
 pub use Rattle.std.proofs.KnownBytes.{Appends-nil, Appends-trans}

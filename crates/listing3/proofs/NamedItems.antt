@@ -1,5 +1,5 @@
 -- The name of an item tells which kind of item it is.
-use Rattle.listing3.proofs.Common.{ℕ, List, refl, AllByRecursion, Item, Word, Hyper, Fixed, WriteVerf, Opaque, Rest, ProcId, head_names, item_name, FitsCall, FitsReply, each_of_call, each_of_reply}
+use Rattle.listing3.proofs.Common.{ℕ, List, refl, AllByRecursion, Item, Word, Hyper, Fixed, WriteVerf, Opaque, Rest, ProcId, called, item_name, FitsCall, FitsReply, each_of_call, each_of_reply}
 use Rattle.xdr3.proofs.Lemmas.Shapes.ShapeParts.{Part, fixed_part, hyper_part, opaque_part, rest_part, size_part, word_part, write_verf_part}
 use Rattle.procs3.proofs.ProtocolParts.{AWord, AHyper, AFixed, AWriteVerf, ARest, AnOpaque, IsNamedPart, IsNameOf, IsProtocolPart, ItemKind}
 use Rattle.canon3.proofs.Lemmas.WellFormed.Items.{IsEach}
@@ -30,8 +30,8 @@ named_part (size_part name shape) h = λ n. h
 each_named : (part : Part) → IsProtocolPart part → IsEach IsNamed part
 each_named part is = named_part part is.name
 
-version_named : (version : ℕ) → IsNamed (Word head_names.rpcvers version)
-unfolding head_names
+version_named : (version : ℕ) → IsNamed (Word (called "rpcvers") version)
+unfolding called
 version_named version = (refl, refl)
 
 pub call_named : (items : List Item) → FitsCall items → AreNamed items

@@ -4,11 +4,9 @@ mod gathering;
 mod items_text;
 mod large_data;
 
-ghost use Rattle.std.specs.Prelude.{◌≡◌, ◌≤◌, ◌<◌, ◌+◌, ◌*◌, ◌^◌, ◌++◌, ◌∷◌, ℕ, List, [], codes, decimal, drop, length, take, None, IfErr, OnErr, OnOk};
-ghost use Rattle.std.specs.Io.KnownBytes.{Appends};
-ghost use Rattle.xdr3.specs.Item.{Handle as HandleKind, Item, Opaque, Spells, Word};
+ghost use Rattle.std.specs.Prelude.{◌≡◌, ◌≤◌, ◌<◌, ◌+◌, ◌^◌, ◌++◌, ◌∷◌, ℕ, List, [], codes, decimal, drop, length, None, IfErr, OnErr, OnOk};
+ghost use Rattle.xdr3.specs.Item.{Handle as HandleKind, Item, Opaque, Spells, Word, called};
 ghost use Rattle.xdr3.specs.Visit.{Adds, Keeps};
-ghost use Rattle.rpc_head.specs.Names.{head_names};
 ghost use Rattle.capture3.specs.Entry as spec;
 ghost use Rattle.capture3.specs.Entry.{items_of};
 ghost use Rattle.capture3.specs.Kept.{IsLent};
@@ -17,7 +15,6 @@ ghost use Rattle.capture3.specs.machinery.Stepping.{IsOfKind};
 ghost use Rattle.canon3.specs.Laws.{AreFirst};
 ghost use Rattle.capture3.specs.Progress.{HasPassed};
 ghost use Rattle.canon3.specs.WriteErrors.{CountsWriting, IsOfWriting};
-ghost use Rattle.canon3.specs.SinkWrites.{AppendsFront};
 ghost use Rattle.listing3.specs.machinery.ItemsText.{filled};
 ghost use Rattle.listing3.specs.machinery.LineWriter.{after_front, items_before, LineRests, LineStands};
 ghost use Rattle.listing3.specs.machinery.WritesText.{WritesText};
@@ -174,11 +171,11 @@ impl<H: Gathering + Drop> LineWriter<H> {
     ) -> Result<(), Error>
         ensures handles { self.new.handles ≡ self.old.handles }
         ensures writes { (front rest : List Item) (n : ℕ) → progress.records + 1 < 2 ^ 32
-            → Spells (Word head_names.xid n ∷ rest) body.now
-            → LineStands H.stands self.old (after_front front (Word head_names.xid n ∷ rest))
+            → Spells (Word (called "xid") n ∷ rest) body.now
+            → LineStands H.stands self.old (after_front front (Word (called "xid") n ∷ rest))
             → WritesText (W.written sink.old) (W.written sink.new)
             (line progress.connections side.now (progress.records + 1) id
-            (Word head_names.xid n ∷ rest)) result }
+            (Word (called "xid") n ∷ rest)) result }
         ensures count { CountsWriting (W.failures sink.old) (W.failures sink.new) result }
         ensures error { IfErr result IsOfWriting }
     {

@@ -26,12 +26,10 @@ pub use Rattle.capture3.specs.Entry.{Begin, Call, Close, End, Entry, Reply, Turn
 pub use Rattle.capture3.specs.Typed.{AnswerCalls, HaveOneProcedure, IsIn, Typed, connection_entries, reply_entry}
 pub use Rattle.capture3.specs.declared.fault.Side.{Side}
 pub use Rattle.capture3.specs.declared.fault.Side.TheVariants.{Client, Server}
-unfoldable pub use Rattle.nfs3_types.specs.Names.{names}
-pub use Rattle.procs3.specs.Table.{is_mount, is_nfs, mount_arguments, mount_results_of, nfs_arguments, nfs_results}
+unfoldable pub use Rattle.xdr3.specs.Item.{called}
 unfoldable pub use Rattle.procs3.specs.Table.{arguments_of, results_of}
 pub use Rattle.rpc_head.specs.Messages.{has_results, procedure_in}
-unfoldable pub use Rattle.rpc_head.specs.Names.{head_names}
-pub use Rattle.rpc_head.specs.Shapes.{auth_stats, credential_flavors, rpc_versions, versions}
+pub use Rattle.rpc_head.specs.Shapes.{versions}
 unfoldable pub use Rattle.rpc_head.specs.Shapes.{accept, auth_sys, call_head, credential, deny, gids, parameters, reply_head, verifier}
 pub use Rattle.rpc_head.specs.declared.values.call.ProcId.{ProcId}
 pub use Rattle.std.proofs.Common.{Bool, List, OnErr, OnOk, [], ap, append-nil, append_assoc, ap₂, arith, drop, false, get_or-set_other, inl, inr, le-leb, length, length-append, ltb-true, map, min, nat_le, nat_lt, refl, replicate, slice_set, subst, suc, sym, true, zero, ℕ, ⊎_elim, ◌++◌, ◌+◌, ◌-◌, ◌<◌, ◌^◌, ◌∙◌, ◌∷◌, ◌≡◌, ◌≢◌, ◌≤◌, ◌⊎◌}
@@ -46,7 +44,7 @@ pub use Rattle.std.specs.List.{AllByRecursion, flat_map, list_all}
 pub use Rattle.std.specs.Prelude.{IsTrue, None, Option, Some, bytes_eq, fold, get_or, if◌then◌else◌, nat_eq, not, ⊤, ◌&&◌, ◌==◌, ◌||◌}
 pub use Rattle.xdr3.proofs.Lemmas.Shapes.ShapeParts.{HasParts, Part, fixed_part, hyper_part, opaque_part, parts_weaker, rest_part, size_part, word_part, write_verf_part}
 pub use Rattle.xdr3.specs.Item.{AreBytes, Fixed, Handle, Hyper, Item, Opaque, Rest, Spells, SpellsItem, Text, Var, Word, WriteVerf, residue, word_bytes, zero_spelling, zero_spelling_of}
-pub use Rattle.xdr3.specs.Layout.{FitsLayout, Layout, after, exactly, number_of_word, rest, word_in}
+pub use Rattle.xdr3.specs.Layout.{FitsLayout, Layout, after, exactly, rest, word_in}
 pub use Rattle.xdr3.specs.Shape.{Fits, Shape, both, choose, counted, fixed, hyper, is_listed, joined, linked, links, listed, nothing, opaque, sized, word, write_verf, ◌then◌}
 unfoldable pub use Rattle.xdr3.specs.Visit.{Adds, Keeps}
 pub use Rattle.masking3.specs.Classes.{class_of, class_of_fixed, class_of_hyper, class_of_word, class_value, classes, position, row, zero_stays}

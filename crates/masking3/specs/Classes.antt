@@ -2,9 +2,7 @@
 use Rattle.std.specs.Prelude.{ℕ, Bool, true, false, bytes_eq, if◌then◌else◌, List, [], ◌∷◌, Option, None, Some, codes}
 use Rattle.std.specs.List.{list_any}
 use Rattle.byteorder.specs.Endian.{big_number}
-use Rattle.xdr3.specs.Item.{Item, Word, Hyper, Fixed}
-use Rattle.nfs3_types.specs.Names.{names}
-use Rattle.rpc_head.specs.Names.{head_names}
+use Rattle.xdr3.specs.Item.{Item, Word, Hyper, Fixed, called}
 use Rattle.masking3.specs.declared.values.class.Class.{Class}
 use Rattle.masking3.specs.declared.values.class.Class.TheVariants.{Times, Stamps, Machines, Space, Ids, Fsids, Cookies, CookieVerifiers, CreateVerifiers, Owners, Wcc, SillyNames, Raw}
 use Rattle.masking3.specs.declared.values.spot.ItemSpot.{ItemSpot}
@@ -52,18 +50,20 @@ is_one_of others name = list_any (bytes_eq name) others
 
 -- of times, in attributes, guards and settings (RFC 1813, sections 2.5 and 2.6)
 abbrev pub names_of_times : List (List ℕ)
-names_of_times = names.atime_sec ∷ names.atime_nsec ∷ names.mtime_sec ∷ names.mtime_nsec
-    ∷ names.ctime_sec ∷ names.ctime_nsec ∷ []
+names_of_times =
+    (called "atime_sec") ∷ (called "atime_nsec") ∷ (called "mtime_sec") ∷ (called "mtime_nsec")
+    ∷ (called "ctime_sec") ∷ (called "ctime_nsec") ∷ []
 
 -- of counts of space: FSSTAT3resok's (RFC 1813, section 3.3.18), and what a file uses (section 2.5)
 abbrev pub names_of_space : List (List ℕ)
-names_of_space = names.used ∷ names.tbytes ∷ names.fbytes ∷ names.abytes ∷ names.tfiles
-    ∷ names.ffiles ∷ names.afiles ∷ []
+names_of_space =
+    (called "used") ∷ (called "tbytes") ∷ (called "fbytes") ∷ (called "abytes") ∷ (called "tfiles")
+    ∷ (called "ffiles") ∷ (called "afiles") ∷ []
 
 -- of users and groups, in attributes and settings (RFC 1813, section 2.5) and in credentials
 -- (RFC 5531, appendix A)
 abbrev pub names_of_owners : List (List ℕ)
-names_of_owners = names.uid ∷ names.gid ∷ []
+names_of_owners = (called "uid") ∷ (called "gid") ∷ []
 
 -- A word `group` of a call is a group of its credential (RFC 5531, appendix A): no other item of a
 -- call has this name. In a reply it tells whether another group of an export follows (RFC 1813,
@@ -82,26 +82,26 @@ class_in_wcc _ = None
 abbrev pub class_of_word : ItemSpot → List ℕ → Option Class
 class_of_word spot name =
     (if is_one_of names_of_times name then Some Times else
-    (if is_one_of (head_names.stamp ∷ []) name then Some Stamps else
-    (if is_one_of (names.invarsec ∷ []) name then Some Space else
+    (if is_one_of ((called "stamp") ∷ []) name then Some Stamps else
+    (if is_one_of ((called "invarsec") ∷ []) name then Some Space else
     (if is_one_of names_of_owners name then Some Owners else
-    (if is_one_of (head_names.group ∷ []) name then class_of_group spot else
-    (if is_one_of (names.nlink ∷ []) name then class_in_wcc spot else
+    (if is_one_of ((called "group") ∷ []) name then class_of_group spot else
+    (if is_one_of ((called "nlink") ∷ []) name then class_in_wcc spot else
     None))))))
 
 abbrev pub class_of_hyper : ItemSpot → List ℕ → Option Class
 class_of_hyper spot name =
     (if is_one_of names_of_space name then Some Space else
-    (if is_one_of (names.fileid ∷ []) name then Some Ids else
-    (if is_one_of (names.fsid ∷ []) name then Some Fsids else
-    (if is_one_of (names.cookie ∷ []) name then Some Cookies else
-    (if is_one_of (names.size ∷ []) name then class_in_wcc spot else
+    (if is_one_of ((called "fileid") ∷ []) name then Some Ids else
+    (if is_one_of ((called "fsid") ∷ []) name then Some Fsids else
+    (if is_one_of ((called "cookie") ∷ []) name then Some Cookies else
+    (if is_one_of ((called "size") ∷ []) name then class_in_wcc spot else
     None)))))
 
 abbrev pub class_of_fixed : List ℕ → Option Class
 class_of_fixed name =
-    (if is_one_of (names.cookieverf ∷ []) name then Some CookieVerifiers else
-    (if is_one_of (names.createverf ∷ []) name then Some CreateVerifiers else
+    (if is_one_of ((called "cookieverf") ∷ []) name then Some CookieVerifiers else
+    (if is_one_of ((called "createverf") ∷ []) name then Some CreateVerifiers else
     None))
 
 -- the class of an item at this spot, where it has one

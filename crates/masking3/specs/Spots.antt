@@ -1,7 +1,6 @@
 -- Where an item stands in its message, as far as its class depends on that.
 use Rattle.std.specs.Prelude.{ℕ, ◌==◌, bytes_eq, if◌then◌else◌, List}
-use Rattle.xdr3.specs.Item.{Item, Word}
-use Rattle.nfs3_types.specs.Names.{names}
+use Rattle.xdr3.specs.Item.{Item, Word, called}
 use Rattle.masking3.specs.declared.values.spot.ItemSpot.{ItemSpot}
 use Rattle.masking3.specs.declared.values.spot.ItemSpot.TheVariants.{InCall, InReply, InDirectory, InWcc}
 
@@ -9,8 +8,8 @@ use Rattle.masking3.specs.declared.values.spot.ItemSpot.TheVariants.{InCall, InR
 -- a directory's if it is NF3DIR (2) (section 2.5).
 abbrev pub after_word : ItemSpot → List ℕ → ℕ → ItemSpot
 after_word spot name n =
-    (if bytes_eq name names.before then InWcc else
-    (if bytes_eq name names.type then (if n == 2 then InDirectory else InReply) else
+    (if bytes_eq name (called "before") then InWcc else
+    (if bytes_eq name (called "type") then (if n == 2 then InDirectory else InReply) else
     spot))
 
 -- The spot of what follows an item. No results go on after wcc_data with attributes of other kinds

@@ -2,8 +2,7 @@
 -- not looked into.
 use Rattle.std.specs.Prelude.{ℕ, replicate, ◌==◌, ◌&&◌, ◌||◌, nat_le, bytes_eq, codes, Bool, if◌then◌else◌, List, [], length, take, drop}
 use Rattle.std.specs.List.{list_all}
-use Rattle.xdr3.specs.Item.{Item, Opaque, Rest, Text}
-use Rattle.nfs3_types.specs.Names.{names}
+use Rattle.xdr3.specs.Item.{Item, Opaque, Rest, Text, called}
 use Rattle.masking3.specs.declared.values.ways.Way.{Way}
 use Rattle.masking3.specs.declared.values.ways.Ways.{Ways}
 use Rattle.masking3.specs.declared.values.class.Class.TheVariants.{Machines, Raw, SillyNames}
@@ -45,8 +44,8 @@ host_by way bytes = unless_kept way (λ b. []) bytes
 -- results alone (section 5.2.2).
 abbrev pub text_by : Ways → (name bytes : List ℕ) → List ℕ
 text_by ways name bytes =
-    (if bytes_eq name names.name then silly_by (way_of ways SillyNames) bytes else
-    (if bytes_eq name names.hostname then host_by (way_of ways Machines) bytes else
+    (if bytes_eq name (called "name") then silly_by (way_of ways SillyNames) bytes else
+    (if bytes_eq name (called "hostname") then host_by (way_of ways Machines) bytes else
     bytes))
 
 -- ---- bodies of other programs and versions

@@ -1,7 +1,6 @@
 -- Messages without the names of machines, and with masked texts.
 use Rattle.std.specs.Prelude.{ℕ, zero, suc, ◌+◌, ◌-◌, bytes_eq, if◌then◌else◌, List, [], ◌∷◌, length, map}
-use Rattle.xdr3.specs.Item.{Item, Word, Opaque, Text, residue}
-use Rattle.rpc_head.specs.Names.{head_names}
+use Rattle.xdr3.specs.Item.{Item, Word, Opaque, Text, residue, called}
 use Rattle.capture3.specs.Entry.{Entry, Call, Reply}
 use Rattle.masking3.specs.declared.values.ways.Way.{Way}
 use Rattle.masking3.specs.declared.values.ways.Ways.{Ways}
@@ -17,7 +16,7 @@ text_size _ = 0
 -- the length of an AUTH_SYS credential, less so many bytes
 abbrev pub less_by : ℕ → Item → Item
 less_by size (Word name n) =
-    Word name (if bytes_eq name head_names.cred_length then n - size else n)
+    Word name (if bytes_eq name (called "cred_length") then n - size else n)
 less_by size item = item
 
 -- a text becomes empty

@@ -27,14 +27,10 @@ fn is_parsed(rt: &impl Abort, alloc: Global, capture: &[u8]) {
     }
 }
 
-/// A message whose reading memory was refused is read by a second call.
+/// A call is read without memory. A reply whose reading memory was refused is read by a second call.
 fn message_is_read(rt: &impl Abort, alloc: Global, entry: &Entry) {
     match entry {
-        Entry::Call(kept) => {
-            if kept.read(alloc).is_err() {
-                assert!(rt; kept.read(alloc).is_ok());
-            }
-        }
+        Entry::Call(kept) => assert_eq!(rt; kept.read(alloc).head.id, kept.id),
         Entry::Reply(kept) => {
             if kept.read(alloc).is_err() {
                 assert!(rt; kept.read(alloc).is_ok());

@@ -2,12 +2,11 @@
 use Rattle.std.proofs.Common.{List}
 use Rattle.xdr3.specs.Shape.{◌then◌}
 use Rattle.xdr3.specs.declared.reason.GetError.{GetError}
-use Rattle.xdr3.specs.Item.{Item}
+use Rattle.xdr3.specs.Item.{Item, called}
 use Rattle.xdr3.specs.Scan.{Scans, Stops}
 use Rattle.xdr3.specs.View.{View}
 use Rattle.nfs3_types.specs.machinery.AttributeTails.{after_type, settable_times}
 use Rattle.nfs3_types.specs.Shapes.{attributes, file_kind, time_how}
-use Rattle.nfs3_types.specs.Names.{names}
 
 pub attributes_scanned : {V : Type 0} (stands : V → List Item → Type 0) (v0 v1 : View) (s0 s1 : V)
     → Scans stands (file_kind then after_type) (v0, s0) (v1, s1)
@@ -24,15 +23,15 @@ pub ruleset whole_attributes = (attributes_scanned, attributes_stop)
 
 pub settable_times_scanned : {V : Type 0} (stands : V → List Item → Type 0) (v0 v1 : View)
     (s0 s1 : V) → Scans stands settable_times (v0, s0) (v1, s1)
-    → Scans stands (time_how names.set_atime names.atime_sec names.atime_nsec
-    then time_how names.set_mtime names.mtime_sec names.mtime_nsec) (v0, s0) (v1, s1)
+    → Scans stands (time_how (called "set_atime") (called "atime_sec") (called "atime_nsec")
+    then time_how (called "set_mtime") (called "mtime_sec") (called "mtime_nsec")) (v0, s0) (v1, s1)
 unfolding settable_times
 settable_times_scanned stands v0 v1 s0 s1 h = h
 
 pub settable_times_stop : (v0 : View) (error : GetError) → Stops settable_times v0 error
     → Stops
-    (time_how names.set_atime names.atime_sec names.atime_nsec
-    then time_how names.set_mtime names.mtime_sec names.mtime_nsec) v0 error
+    (time_how (called "set_atime") (called "atime_sec") (called "atime_nsec")
+    then time_how (called "set_mtime") (called "mtime_sec") (called "mtime_nsec")) v0 error
 unfolding settable_times
 settable_times_stop v0 error h = h
 

@@ -1,5 +1,4 @@
 -- The parts of NFS version 3 and MOUNT version 3.
-pub mod Names
 pub mod Status
 pub mod MountStatus
 pub mod FileKind

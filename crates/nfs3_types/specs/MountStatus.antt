@@ -3,6 +3,7 @@ use Rattle.std.specs.Prelude.{ℕ, List, [], ◌∷◌}
 use Rattle.nfs3_types.specs.declared.values.mount3.MountStatus.{MountStatus}
 use Rattle.nfs3_types.specs.declared.values.mount3.MountStatus.TheVariants.{Ok, Perm, NoEnt, Io, Acces, NotDir, Inval, NameTooLong, NotSupp, ServerFault}
 
+-- mountstat3 (RFC 1813, section 5.1.5)
 abbrev pub mount_status_words : List ℕ
 mount_status_words = 0 ∷ 1 ∷ 2 ∷ 5 ∷ 13 ∷ 20 ∷ 22 ∷ 63 ∷ 10004 ∷ 10006 ∷ []
 

@@ -1,6 +1,7 @@
 -- What came of files, by what was read of them.
-use Rattle.nfs3canon.proofs.Common.{◌≡◌, ◌≢◌, ◌⊎◌, ℕ, List, [], ◌∷◌, Option, Some, Result, Err, IfErr, IfSome, inl, inr, refl, subst, sym, TracedReader, Gave, GavePrefix, Error, IsUnread, MayContain, reading_under, Outcome, one_failed, prefix_of, observed_of, ComparesFiles, CountsFile, ListsFile, WriterRun}
+use Rattle.nfs3canon.proofs.Common.{◌≡◌, ◌≢◌, ◌⊎◌, ℕ, List, [], ◌∷◌, Option, Some, Result, Ok, Err, IfErr, IfSome, inl, inr, refl, subst, sym, TracedReader, Gave, GavePrefix, Error, IsUnread, MayContain, reading_under, Outcome, one_failed, prefix_of, observed_of, ComparesFiles, CountsFile, ListsFile, WriterRun}
 use Rattle.capture3.specs.Entries.{CountsReading}
+use Rattle.capture3.specs.Observed.{Observed}
 use Rattle.capture3.specs.declared.fault.Error.TheVariants as errors
 use Rattle.capture3.proofs.Lemmas.Reader.ObservedLemmas.{IsPrefixOf, prefix_of_kept}
 use Rattle.canon3.specs.Comparison.{CountsReadingOf, DecidesGiven}
@@ -92,6 +93,14 @@ module _ {R : Type 0} (remaining : R → Option (List ℕ)) (whole : Option (Lis
       prefix_of_kept (observed_of remaining was) (observed_of remaining now) given bytes
       (prefix_of remaining whole name was now unread given bytes gave may) gave
 
+given_in : (before observed : Observed) (result : Result Summary Error)
+    → ConcludesGiven before observed result → (given : List ℕ) × Gave before observed given
+given_in before observed (Ok summary) c = (c.0, c.1)
+given_in before observed (Err (errors.Refused fault)) c = (c.given, c.gave)
+given_in before observed (Err errors.Read) c = c
+given_in before observed (Err errors.Write) c = c
+given_in before observed (Err errors.Memory) c = c
+
 module _ {R : Type 0} (remaining : R → Option (List ℕ)) (run : FilesRun) where
   pub counts_read : (name : List ℕ) (was now : TracedReader R)
       → IsUnread remaining (run.holds name) was → (came : Result Summary Error)
@@ -101,14 +110,16 @@ module _ {R : Type 0} (remaining : R → Option (List ℕ)) (run : FilesRun) whe
       → ((bytes : List ℕ) → GavePrefix (observed_of remaining was) (observed_of remaining now) bytes
       → ConcludesAll bytes came)
       → CountsFile run name (outcomes.Counted came)
-  counts_read name was now unread came is counts written (given, gave, concludes) all = inl (
+  counts_read name was now unread came is counts written concludes all = inl (
     (
       reading_under name now,
       is,
       refl,
       one_failed name was.failures now unread.failures came counts,
-      λ bytes may. all bytes
-          (prefix_of remaining (run.holds name) name was now unread given bytes gave may),
+      λ bytes may.
+          let (given, gave) =
+          given_in (observed_of remaining was) (observed_of remaining now) came concludes in
+          all bytes (prefix_of remaining (run.holds name) name was now unread given bytes gave may),
     ),
     written,
   )

@@ -1,7 +1,8 @@
 //! What each job does with files, and what is said of them.
 
-ghost use Rattle.std.specs.Prelude.{◌≡◌, Err};
+ghost use Rattle.std.specs.Prelude.{Err};
 ghost use Rattle.capture3.specs.declared.fault.Error.TheVariants as errors;
+ghost use Rattle.program3.specs.Files.{files_run};
 ghost use Rattle.program3.specs.Opening.{ReportsUnopened};
 ghost use Rattle.program3.specs.Readings.{readings_in};
 ghost use Rattle.program3.specs.declared.outcome.Outcome.TheVariants.{Compared};
@@ -20,11 +21,9 @@ pub fn run_check<F: Files, S: BuildHasher + Drop>(
     files: &F,
     name: &str,
 ) -> (Outcome, Readings)
-    ensures counts { CountsFile (record {
-      holds = F.holds files.now;
-      readings = readings_in result.1;
-      finished = (F.finished files.now, F.finished files.now);
-    }) name.now result.0 }
+    ensures counts { CountsFile
+        (files_run F.holds F.finished files.now files.now (readings_in result.1))
+        name.now result.0 }
 {
     match files.open(name) {
         Ok(mut opened) => {
@@ -47,11 +46,9 @@ pub fn run_same<F: Files, S: BuildHasher + Drop>(
     first: &str,
     second: &str,
 ) -> (Outcome, Readings)
-    ensures compares { ComparesFiles (record {
-      holds = F.holds files.now;
-      readings = readings_in result.1;
-      finished = (F.finished files.now, F.finished files.now);
-    }) first.now second.now result.0 }
+    ensures compares { ComparesFiles
+        (files_run F.holds F.finished files.now files.now (readings_in result.1))
+        first.now second.now result.0 }
 {
     let mut opened = match files.open(first) {
         Ok(opened) => opened,

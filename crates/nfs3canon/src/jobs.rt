@@ -1,7 +1,8 @@
 //! What a command line asks for, over any files, hashers and standard output.
 
-ghost use Rattle.std.specs.Prelude.{◌≡◌, ◌⊎◌, ℕ, false, List, is_some, Some, map, string_bytes};
+ghost use Rattle.std.specs.Prelude.{◌≡◌, ℕ, false, List, is_some, Some, map, string_bytes};
 ghost use Rattle.line3.specs.Asked.{Asks};
+ghost use Rattle.program3.specs.Files.{files_run};
 ghost use Rattle.program3.specs.Readings.{readings_in};
 ghost use Rattle.program3.specs.declared.outcome.Outcome.TheVariants as outcomes;
 ghost use Rattle.program3.specs.declared.reading.Readings.TheVariants.{Nothing};
@@ -14,7 +15,7 @@ use crate::listing::run_show;
 use crate::packing::run_pack;
 use canon3::{SameError, Which};
 use capture3::{Error, Hashers};
-use line3::{Job, LineFault, job, take_words};
+use line3::{Job, LineFault, job};
 use program3::{Ended, Files, Outcome, Readings, run_rewriting};
 use std::alloc::Global;
 use std::hash::BuildHasher;
@@ -42,23 +43,16 @@ pub fn answer_line<F: Files, S: BuildHasher + Drop, W: Write + Drop>(
     hashers: Option<JobHashers<S>>,
     files: &mut F,
     stdout: W,
-    words: Vec<String>,
+    mut words: Vec<String>,
 ) -> Answer<W>
     ensures answers { AnswersLine (record {
       has_keys = is_some hashers;
-      files = record {
-        holds = F.holds files.old;
-        readings = readings_in result.readings;
-        finished = (F.finished files.old, F.finished files.new);
-      };
+      files = files_run F.holds F.finished files.old files.new
+          (readings_in result.readings);
       stdout = record { contents = W.contents; before = stdout; after = result.stdout };
     }) (map string_bytes words.items) result.ended.outcome }
 {
-    let said = match take_words(alloc, words) {
-        Ok(said) => said,
-        Err(fault) => return refusal(stdout, fault),
-    };
-    match job(alloc, said.as_slice()) {
+    match job(alloc, &mut words) {
         Ok(job) => answer_job(alloc, hashers, files, stdout, job),
         Err(fault) => refusal(stdout, fault),
     }
@@ -86,11 +80,8 @@ fn answer_job<F: Files, S: BuildHasher + Drop, W: Write + Drop>(
     ensures { (words : List (List ℕ)) → Asks words job.entry
         → AnswersJob (record {
           has_keys = is_some hashers;
-          files = record {
-            holds = F.holds files.old;
-            readings = readings_in result.readings;
-            finished = (F.finished files.old, F.finished files.new);
-          };
+          files = files_run F.holds F.finished files.old files.new
+              (readings_in result.readings);
           stdout = record { contents = W.contents; before = stdout; after = result.stdout };
         }) job.entry result.ended.outcome }
 {
@@ -139,11 +130,8 @@ fn answer_without_hashers<F: Files, W: Write + Drop>(
     ensures { (words : List (List ℕ)) → Asks words job.entry
         → AnswersJob (record {
           has_keys = false;
-          files = record {
-            holds = F.holds files.old;
-            readings = readings_in result.readings;
-            finished = (F.finished files.old, F.finished files.new);
-          };
+          files = files_run F.holds F.finished files.old files.new
+              (readings_in result.readings);
           stdout = record { contents = W.contents; before = stdout; after = result.stdout };
         }) job.entry result.ended.outcome }
 {
@@ -181,11 +169,9 @@ fn answer_show<F: Files, S: BuildHasher + Drop, W: Write + Drop>(
     stdout: W,
     name: &str,
 ) -> Answer<W>
-    ensures { ListsFile (record {
-      holds = F.holds files.now;
-      readings = readings_in result.readings;
-      finished = (F.finished files.now, F.finished files.now);
-    }) (record { contents = W.contents; before = stdout; after = result.stdout }) name.now
+    ensures { ListsFile
+        (files_run F.holds F.finished files.now files.now (readings_in result.readings))
+        (record { contents = W.contents; before = stdout; after = result.stdout }) name.now
         result.ended.outcome }
 {
     let listed = run_show(alloc, hashers, files, name, stdout);

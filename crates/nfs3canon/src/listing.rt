@@ -1,7 +1,8 @@
 //! The listing of a file.
 
-ghost use Rattle.std.specs.Prelude.{◌≡◌, Err};
+ghost use Rattle.std.specs.Prelude.{Err};
 ghost use Rattle.capture3.specs.declared.fault.Error.TheVariants as errors;
+ghost use Rattle.program3.specs.Files.{files_run};
 ghost use Rattle.program3.specs.Opening.{ReportsUnopened};
 ghost use Rattle.program3.specs.Readings.{readings_in};
 ghost use Rattle.program3.specs.declared.outcome.Outcome.TheVariants as outcomes;
@@ -31,11 +32,9 @@ pub fn run_show<F: Files, W: Write + Drop, S: BuildHasher + Drop>(
     name: &str,
     output: W,
 ) -> Listed<W>
-    ensures lists { ListsFile (record {
-      holds = F.holds files.now;
-      readings = readings_in result.readings;
-      finished = (F.finished files.now, F.finished files.now);
-    }) (record { contents = W.contents; before = output; after = result.output }) name.now
+    ensures lists { ListsFile
+        (files_run F.holds F.finished files.now files.now (readings_in result.readings))
+        (record { contents = W.contents; before = output; after = result.output }) name.now
         result.outcome }
 {
     let mut opened = match files.open(name) {

@@ -1,6 +1,7 @@
 //! Streams that are packed into a capture.
 
 ghost use Rattle.std.specs.Prelude.{◌≡◌, ◌%◌, [], Some, IfErr, IfOk, length, map, string_bytes};
+ghost use Rattle.program3.specs.Files.{files_run};
 ghost use Rattle.program3.specs.Readings.{reading_in, readings_in};
 ghost use Rattle.nfs3canon.specs.Files.{PacksFile};
 ghost use Rattle.nfs3canon.specs.machinery.Packing.{StopsPacking, WritesStreams};
@@ -19,11 +20,9 @@ pub fn run_pack<F: Files>(
     output: &str,
     streams: &[String],
 ) -> (Ended, Readings)
-    ensures packs { length streams.now % 2 ≡ 0 → PacksFile (record {
-      holds = F.holds files.old;
-      readings = readings_in result.1;
-      finished = (F.finished files.old, F.finished files.new);
-    }) output.now (map string_bytes streams.now) result.0.outcome }
+    ensures packs { length streams.now % 2 ≡ 0 → PacksFile
+        (files_run F.holds F.finished files.old files.new (readings_in result.1))
+        output.now (map string_bytes streams.now) result.0.outcome }
 {
     let mut closed = Vec::new(alloc);
     let ended = match files.make_apart(output, streams) {
@@ -45,11 +44,9 @@ fn keep_packing<F: Files>(
 ) -> Outcome
     requires { closed.old.items ≡ [] }
     ensures packs { length streams.now % 2 ≡ 0 → F.Output.contents made.file ≡ Some []
-        → PacksFile (record {
-          holds = F.holds files.old;
-          readings = map reading_in closed.new.items;
-          finished = (F.finished files.old, F.finished files.new);
-        }) (F.name_of made.place) (map string_bytes streams.now) result }
+        → PacksFile
+        (files_run F.holds F.finished files.old files.new (map reading_in closed.new.items))
+        (F.name_of made.place) (map string_bytes streams.now) result }
 {
     let Made { file, place } = made;
     match pack_streams(alloc, files, file, &place, streams, closed) {

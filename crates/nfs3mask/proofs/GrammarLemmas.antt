@@ -1,17 +1,17 @@
 -- clap takes each line of the form.
-use Rattle.nfs3mask.proofs.Common.{arith, ap, ap₂, sym, refl, ◌≡◌, ◌≤◌, ◌∙◌, ◌==◌, ◌&&◌, ◌++◌, ℕ, Bool, true, false, List, [], ◌∷◌, Some, None, codes, length, fold, is_some, map, le-leb, append-nil, append_assoc, usize_max, App, Text, is_simple, takes, IsFileWord, IsMaskLine, IsUsage, Change, change_word, AreMaskWordsRefused, mask_words}
+use Rattle.nfs3mask.proofs.Common.{arith, ap, ap₂, sym, refl, ◌≡◌, ◌≤◌, ◌∙◌, ◌==◌, ◌&&◌, ◌++◌, ℕ, Bool, true, false, List, [], ◌∷◌, Some, None, codes, length, fold, is_some, map, le-leb, usize_max, App, Text, is_simple, takes, IsMaskLine, IsUsage, Change, change_word, AreMaskWordsRefused, mask_words}
 use Rattle.std.specs.Prelude.{Option}
 use Rattle.std.specs.List.{list_all}
-use Rattle.std.proofs.Common.{inl, inr, subst}
+use Rattle.std.proofs.Common.{inl, inr}
 use Rattle.line3.specs.Asked.{NameFiles, names_in}
 use Rattle.clap.specs.Walk.{Held, Walk, arg_by_index, finished, idle, nothing_held, positional, to_positional, walked}
-use Rattle.clap.specs.Simple.{built, entered, names_of}
+use Rattle.clap.specs.Simple.{built, entered}
 use Rattle.clap.specs.Takes.{default_passes, entered_passes, is_valid, settle_passes, turn_passes, walk_passes}
 use Rattle.clap.proofs.OnLiterals.{clap_on_literals}
 use Rattle.clap.specs.declared.parser.matches.ValueSource.TheVariants.{CommandLine}
 use Rattle.clap.specs.declared.builder.value_parser.Reading.TheVariants.{AsWritten}
 use Rattle.line3.specs.declared.asked.LineFault.{LineFault}
-use Rattle.line3.specs.declared.asked.LineFault.TheVariants.{Usage, Odd, SameName, NotText, Memory}
+use Rattle.line3.specs.declared.asked.LineFault.TheVariants.{Usage, Memory}
 use Rattle.line3.proofs.GrammarLemmas.{ends}
 use Rattle.line3.proofs.Reading.{Reads, all_pass, read_all, read_passes, trail_all, trail_passes}
 use Rattle.line3.proofs.Words.{at, end, end_is, further_turn, further_walked, name_then, names_ended, names_in-length, names_plain, plain_turn, plain_walked, split_one, split_two}

@@ -1,7 +1,7 @@
 -- Which form the words of a command line have.
 use Rattle.nfs3mask.proofs.Common.{sym, ap, arith, refl, ◌≡◌, ◌<◌, ◌∙◌, ℕ, List, [], ◌∷◌, length, IsMaskLine, IsUsage, names_in, without_end, AreMaskWordsRefused, Change, mask_words}
 use Rattle.line3.specs.declared.asked.LineFault.{LineFault}
-use Rattle.line3.specs.declared.asked.LineFault.TheVariants.{Usage, Odd, SameName, NotText, Memory}
+use Rattle.line3.specs.declared.asked.LineFault.TheVariants.{Usage, Memory}
 
 abbrev pub tail_of : List (List ℕ) → List (List ℕ)
 tail_of [] = []

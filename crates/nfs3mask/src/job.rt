@@ -1,9 +1,8 @@
 //! What the job does with files.
 
-ghost use Rattle.std.specs.Prelude.{◌≡◌, ℕ, List, is_some, map, string_bytes};
-ghost use Rattle.line3.specs.Asked.{without_end};
+ghost use Rattle.std.specs.Prelude.{◌≡◌, is_some, map, string_bytes};
 ghost use Rattle.nfs3mask.specs.Changes.{mask_text};
-ghost use Rattle.program3.specs.Files.{FilesRun};
+ghost use Rattle.program3.specs.Files.{FilesRun, files_run};
 ghost use Rattle.program3.specs.Readings.{readings_in};
 ghost use Rattle.program3.specs.declared.outcome.Outcome.TheVariants as outcomes;
 ghost use Rattle.program3.specs.declared.reading.Readings.TheVariants.{Nothing};
@@ -12,7 +11,7 @@ ghost use Rattle.nfs3mask.specs.declared.line.asked.MaskJob.{MaskJob};
 
 use crate::line::asked::MaskJob;
 use crate::line::change::ways_text;
-use crate::line::command::{mask_job, take_words};
+use crate::line::command::mask_job;
 use canon3::{Sink, Summary};
 use capture3::{Error, Source};
 use line3::LineFault;
@@ -60,35 +59,14 @@ pub fn answer_line<F: Files, S: BuildHasher + Copy + Drop>(
     alloc: Global,
     hashers: Option<MaskHashers<S>>,
     files: &mut F,
-    words: Vec<String>,
+    mut words: Vec<String>,
 ) -> MaskAnswer
-    ensures answers { AnswersMaskLine (record {
-      holds = F.holds files.old;
-      readings = readings_in result.readings;
-      finished = (F.finished files.old, F.finished files.new);
-    }) (is_some hashers) (map string_bytes words.items) result.ended.outcome }
+    ensures answers { AnswersMaskLine
+        (files_run F.holds F.finished files.old files.new (readings_in result.readings))
+        (is_some hashers) (map string_bytes words.items)
+        result.ended.outcome }
 {
-    match take_words(alloc, words) {
-        Ok(said) => answer_said(alloc, hashers, files, said.as_slice()),
-        Err(fault) => refusal(fault),
-    }
-}
-
-/// Does what the words of a line without a `--` ask for.
-fn answer_said<F: Files, S: BuildHasher + Copy + Drop>(
-    alloc: Global,
-    hashers: Option<MaskHashers<S>>,
-    files: &mut F,
-    words: &[String],
-) -> MaskAnswer
-    ensures { (line : List (List ℕ)) → map string_bytes words.now ≡ without_end 1 line
-        → AnswersMaskLine (record {
-          holds = F.holds files.old;
-          readings = readings_in result.readings;
-          finished = (F.finished files.old, F.finished files.new);
-        }) (is_some hashers) line result.ended.outcome }
-{
-    match mask_job(alloc, words) {
+    match mask_job(alloc, &mut words) {
         Ok(job) => answer_job(alloc, hashers, files, job),
         Err(fault) => refusal(fault),
     }
@@ -111,11 +89,9 @@ fn answer_job<F: Files, S: BuildHasher + Copy + Drop>(
     files: &mut F,
     job: MaskJob<'_>,
 ) -> MaskAnswer
-    ensures { AnswersMaskJob (record {
-      holds = F.holds files.old;
-      readings = readings_in result.readings;
-      finished = (F.finished files.old, F.finished files.new);
-    }) (is_some hashers) job.entry result.ended.outcome }
+    ensures { AnswersMaskJob
+        (files_run F.holds F.finished files.old files.new (readings_in result.readings))
+        (is_some hashers) job.entry result.ended.outcome }
 {
     let (ended, readings) = match hashers {
         Some(hashers) => run_mask(alloc, hashers, files, job),
@@ -135,11 +111,9 @@ fn run_mask<F: Files, S: BuildHasher + Copy + Drop>(
     files: &mut F,
     job: MaskJob<'_>,
 ) -> (Ended, Readings)
-    ensures masks { MasksFile (record {
-      holds = F.holds files.old;
-      readings = readings_in result.1;
-      finished = (F.finished files.old, F.finished files.new);
-    }) job.entry result.0.outcome }
+    ensures masks { MasksFile
+        (files_run F.holds F.finished files.old files.new (readings_in result.1))
+        job.entry result.0.outcome }
 {
     let ways = job.ways;
     let Ok(words) = ways_text(alloc, ways) else {

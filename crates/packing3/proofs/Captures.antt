@@ -46,13 +46,13 @@ is_connection bytes streams packed = record {
   rest = packed.client ++ packed.server;
   split = packed.split;
   one = IsWord-big_bytes 1 (omega arith);
-  both = record {
-    front = packed.client;
-    last = packed.server;
-    split = refl;
-    client = is_stream packed.client streams.client packed.client_is;
-    server = is_stream packed.server streams.server packed.server_is;
-  };
+  both = (
+    packed.client,
+    packed.server,
+    refl,
+    is_stream packed.client streams.client packed.client_is,
+    is_stream packed.server streams.server packed.server_is,
+  );
 }
 
 are_connections : (pairs : List Streams) (bytes : List ℕ) → Joins IsPackedConnection bytes pairs

@@ -1,7 +1,7 @@
 //! Replacements in a body of bytes, noted before the body is at hand.
 
-ghost use Rattle.std.specs.Prelude.{◌≡◌, ◌≢◌, ◌≤◌, ◌<◌, ◌+◌, ◌-◌, ◌*◌, ◌^◌, ◌++◌, ℕ, List, [], IfOk, IsOk, IsTrue, OnErr, OnOk, drop, length, min, replicate, take, vec_capacity, vec_len};
-ghost use Rattle.patches.specs.Patches.{patched, replacement, Makes};
+ghost use Rattle.std.specs.Prelude.{◌≡◌, ◌≢◌, ◌≤◌, ◌<◌, ◌+◌, ◌-◌, ◌*◌, ◌^◌, ◌++◌, ℕ, List, [], IfOk, IsOk, IsTrue, OnErr, OnOk, length, min, replicate, take, vec_capacity, vec_len};
+ghost use Rattle.patches.specs.Patches.{patched, Makes};
 ghost use Rattle.patches.specs.machinery.Room.{kept_by};
 
 use crate::part::{MOST, Part, after, front, is_alike, is_kept_alike, put_kept, put_part};

@@ -1,5 +1,5 @@
 -- The names that most proofs of the crate cite, passed on from one place. Declares nothing.
-unfoldable pub use Rattle.nfs3_types.specs.Names.{names}
+unfoldable pub use Rattle.xdr3.specs.Item.{called}
 pub use Rattle.xdr3.proofs.Lemmas.Reading.Within.{layout_given_within}
 pub use Rattle.xdr3.proofs.Lemmas.Shapes.Layouts.{layout_is_read}
 pub use Rattle.xdr3.proofs.Lemmas.Shapes.Walks.{next_adds_some, next_within, on_err, steps_add}

@@ -1,48 +1,48 @@
 -- Each part of the heads of messages is one of the protocol's, save the version of a call, which is
 -- refused for a reason of its own.
-use Rattle.std.specs.Prelude.{nat_eq}
+use Rattle.std.specs.Prelude.{ℕ, nat_eq}
 use Rattle.xdr3.specs.declared.reason.Reason.TheVariants.{RpcVersion}
-use Rattle.xdr3.specs.Item.{Var}
+use Rattle.xdr3.specs.Item.{Var, called}
 use Rattle.xdr3.specs.Shape.{Shape, ◌then◌, listed, nothing, opaque, word}
 use Rattle.xdr3.proofs.Lemmas.Shapes.ShapeParts.{HasParts, Part, parts_if, parts_weaker, word_part}
-use Rattle.rpc_head.specs.Messages.{call_start, reply_start}
-use Rattle.rpc_head.specs.Names.{head_names}
-use Rattle.rpc_head.specs.Shapes.{accept, auth_stats, auth_sys, call_head, credential, deny, gids, message_start, parameters, reply_head, verifier, versions}
+use Rattle.rpc_head.specs.Messages.{start_of_type}
+use Rattle.rpc_head.specs.machinery.HeadEnds.{auth_stats}
+use Rattle.rpc_head.specs.Shapes.{accept, auth_sys, call_head, credential, deny, gids, message_start, parameters, reply_head, verifier, versions}
 use Rattle.procs3.proofs.ProtocolParts.{AreProtocolParts, IsProtocolPart}
 
 verifier_parts : AreProtocolParts verifier
-unfolding verifier head_names
+unfolding verifier called
 verifier_parts = assumption
 
 auth_sys_parts : AreProtocolParts auth_sys
-unfolding auth_sys parameters gids head_names
+unfolding auth_sys parameters gids called
 auth_sys_parts = assumption
 
 credential_parts : AreProtocolParts credential
-unfolding credential head_names
+unfolding credential called
 credential_parts = (
   assumption,
   λ n.
-      parts_if IsProtocolPart (nat_eq n 0) (opaque Var head_names.cred_body 400) auth_sys
+      parts_if IsProtocolPart (nat_eq n 0) (opaque Var (called "cred_body") 400) auth_sys
       (assumption) auth_sys_parts,
 )
 
 accept_parts : AreProtocolParts accept
-unfolding accept head_names
+unfolding accept called
 accept_parts =
     (assumption, λ n. parts_if IsProtocolPart (nat_eq n 2) versions nothing (assumption) tt)
 
 deny_parts : AreProtocolParts deny
-unfolding deny head_names
+unfolding deny called
 deny_parts = (
   assumption,
   λ n.
-      parts_if IsProtocolPart (nat_eq n 0) versions (listed head_names.auth_stat auth_stats)
+      parts_if IsProtocolPart (nat_eq n 0) versions (listed (called "auth_stat") auth_stats)
       (assumption) (assumption),
 )
 
 pub reply_head_parts : AreProtocolParts reply_head
-unfolding reply_head head_names
+unfolding reply_head called
 reply_head_parts = (
   assumption,
   λ n.
@@ -51,30 +51,26 @@ reply_head_parts = (
 )
 
 pub message_start_parts : AreProtocolParts message_start
-unfolding message_start head_names
+unfolding message_start called
 message_start_parts = assumption
 
-pub call_start_parts : AreProtocolParts call_start
-unfolding call_start head_names
-call_start_parts = assumption
-
-pub reply_start_parts : AreProtocolParts reply_start
-unfolding reply_start head_names
-reply_start_parts = assumption
+pub start_parts : (mtype : ℕ) → AreProtocolParts (start_of_type mtype)
+unfolding start_of_type called
+start_parts mtype = assumption
 
 -- call_body after its version
 abbrev pub after_version : Shape
 after_version =
-    word head_names.prog then word head_names.vers then word head_names.proc then credential
+    word (called "prog") then word (called "vers") then word (called "proc") then credential
     then verifier
 
 pub after_version_parts : AreProtocolParts after_version
-unfolding head_names
+unfolding called
 after_version_parts = assumption (credential_parts, verifier_parts)
 
 -- whatever is so of the version, and of all parts of the protocol, is so of each part
 pub call_head_parts : (P : Part → Type 0) → ((part : Part) → IsProtocolPart part → P part)
-    → P (word_part head_names.rpcvers RpcVersion) → HasParts P call_head
+    → P (word_part (called "rpcvers") RpcVersion) → HasParts P call_head
 unfolding call_head
 call_head_parts P weaker h =
     (h, λ n. parts_weaker IsProtocolPart P weaker after_version after_version_parts)

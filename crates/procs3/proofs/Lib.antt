@@ -3,3 +3,4 @@ pub mod ProcedureParts
 pub mod HeadParts
 pub mod Common
 pub mod ItemLemmas
+pub mod TableLemmas

@@ -1,9 +1,8 @@
 -- The items of arguments and results of the procedures that make a file (RFC 1813, sections 3.3.8
 -- to 3.3.11).
 use Rattle.std.specs.Prelude.{List, [], ◌∷◌}
-use Rattle.xdr3.specs.Item.{Item, followed_by, Fixed, Opaque, Text, Word}
+use Rattle.xdr3.specs.Item.{Item, followed_by, Fixed, Opaque, Text, Word, called}
 use Rattle.nfs3_types.specs.Items.{dir_op_items, post_op_attr_items, post_op_fh_items, settable_items, wcc_items}
-use Rattle.nfs3_types.specs.Names.{names}
 use Rattle.procs3.specs.Tagged.{tagged_items}
 use Rattle.procs3.specs.declared.values.creation.CreateArgs.{CreateArgs}
 use Rattle.procs3.specs.declared.values.creation.MkDirArgs.{MkDirArgs}
@@ -17,9 +16,9 @@ use Rattle.procs3.specs.declared.values.creation.MkNodWhat.{MkNodWhat}
 use Rattle.procs3.specs.declared.values.creation.MkNodWhat.TheVariants.{Reg, Dir, Blk, Chr, Lnk, Sock, Fifo}
 
 abbrev pub create_how_items : CreateHow → List Item
-create_how_items (Unchecked attr) = tagged_items names.how 0 settable_items attr
-create_how_items (Guarded attr) = tagged_items names.how 1 settable_items attr
-create_how_items (Exclusive verf) = Word names.how 2 ∷ Fixed names.createverf verf ∷ []
+create_how_items (Unchecked attr) = tagged_items (called "how") 0 settable_items attr
+create_how_items (Guarded attr) = tagged_items (called "how") 1 settable_items attr
+create_how_items (Exclusive verf) = Word (called "how") 2 ∷ Fixed (called "createverf") verf ∷ []
 
 abbrev pub create_args_items : CreateArgs → List Item
 create_args_items c =
@@ -35,21 +34,21 @@ abbrev pub symlink_args_items : SymLinkArgs → List Item
 symlink_args_items s =
     followed_by (dir_op_items s.place)
     (followed_by (settable_items s.attr)
-    (Opaque Text names.path s.path.now ∷ []))
+    (Opaque Text (called "path") s.path.now ∷ []))
 
 abbrev pub device_items : Device → List Item
 device_items d =
     followed_by (settable_items d.attr)
-    (Word names.spec1 d.spec1 ∷ Word names.spec2 d.spec2 ∷ [])
+    (Word (called "spec1") d.spec1 ∷ Word (called "spec2") d.spec2 ∷ [])
 
 abbrev pub mknod_what_items : MkNodWhat → List Item
-mknod_what_items Reg = Word names.type 1 ∷ []
-mknod_what_items Dir = Word names.type 2 ∷ []
-mknod_what_items (Blk d) = tagged_items names.type 3 device_items d
-mknod_what_items (Chr d) = tagged_items names.type 4 device_items d
-mknod_what_items Lnk = Word names.type 5 ∷ []
-mknod_what_items (Sock attr) = tagged_items names.type 6 settable_items attr
-mknod_what_items (Fifo attr) = tagged_items names.type 7 settable_items attr
+mknod_what_items Reg = Word (called "type") 1 ∷ []
+mknod_what_items Dir = Word (called "type") 2 ∷ []
+mknod_what_items (Blk d) = tagged_items (called "type") 3 device_items d
+mknod_what_items (Chr d) = tagged_items (called "type") 4 device_items d
+mknod_what_items Lnk = Word (called "type") 5 ∷ []
+mknod_what_items (Sock attr) = tagged_items (called "type") 6 settable_items attr
+mknod_what_items (Fifo attr) = tagged_items (called "type") 7 settable_items attr
 
 abbrev pub mknod_args_items : MkNodArgs → List Item
 mknod_args_items m =

@@ -2,11 +2,10 @@
 -- 3.3).
 use Rattle.std.specs.Prelude.{ℕ, Bool, List, [], ◌∷◌}
 use Rattle.xdr3.specs.Combined.{linked_items}
-use Rattle.xdr3.specs.Item.{Item, followed_by, Fixed, Handle, Hyper, Opaque, Text, Word}
+use Rattle.xdr3.specs.Item.{Item, followed_by, Fixed, Handle, Hyper, Opaque, Text, Word, called}
 use Rattle.xdr3.specs.View.{word_of}
 use Rattle.nfs3_types.specs.Handle.{handle_bytes}
 use Rattle.nfs3_types.specs.Items.{dir_op_items, handle_items, post_op_attr_items, post_op_fh_items, wcc_items}
-use Rattle.nfs3_types.specs.Names.{names}
 use Rattle.procs3.specs.declared.values.directories.LookupOk.{LookupOk}
 use Rattle.procs3.specs.declared.values.directories.RenameArgs.{RenameArgs}
 use Rattle.procs3.specs.declared.values.directories.RenameWcc.{RenameWcc}
@@ -24,9 +23,9 @@ abbrev pub listing_items : {E : Type 0} → List Item → List ℕ → (E → Li
     → List Item
 listing_items attr cookieverf items entries eof =
     followed_by attr
-    (followed_by (Fixed names.cookieverf cookieverf ∷ [])
-    (followed_by (linked_items names.entry items entries)
-    (Word names.eof (word_of eof) ∷ [])))
+    (followed_by (Fixed (called "cookieverf") cookieverf ∷ [])
+    (followed_by (linked_items (called "entry") items entries)
+    (Word (called "eof") (word_of eof) ∷ [])))
 
 abbrev pub lookup_ok_items : LookupOk → List Item
 lookup_ok_items l =
@@ -56,12 +55,13 @@ link_wcc_items l =
 
 abbrev pub readdir_args_items : ReadDirArgs → List Item
 readdir_args_items r =
-    Opaque Handle names.fh (handle_bytes r.handle) ∷ Hyper names.cookie r.cookie
-    ∷ Fixed names.cookieverf r.cookieverf ∷ Word names.count r.count ∷ []
+    Opaque Handle (called "fh") (handle_bytes r.handle) ∷ Hyper (called "cookie") r.cookie
+    ∷ Fixed (called "cookieverf") r.cookieverf ∷ Word (called "count") r.count ∷ []
 
 abbrev pub entry_items : Entry → List Item
 entry_items e =
-    Hyper names.fileid e.fileid ∷ Opaque Text names.name e.name.now ∷ Hyper names.cookie e.cookie
+    Hyper (called "fileid") e.fileid ∷ Opaque Text (called "name") e.name.now
+    ∷ Hyper (called "cookie") e.cookie
     ∷ []
 
 abbrev pub readdir_ok_items : ReadDirOk → List Item
@@ -70,14 +70,14 @@ readdir_ok_items r =
 
 abbrev pub readdirplus_args_items : ReadDirPlusArgs → List Item
 readdirplus_args_items r =
-    Opaque Handle names.fh (handle_bytes r.handle) ∷ Hyper names.cookie r.cookie
-    ∷ Fixed names.cookieverf r.cookieverf ∷ Word names.dircount r.dircount
-    ∷ Word names.maxcount r.maxcount ∷ []
+    Opaque Handle (called "fh") (handle_bytes r.handle) ∷ Hyper (called "cookie") r.cookie
+    ∷ Fixed (called "cookieverf") r.cookieverf ∷ Word (called "dircount") r.dircount
+    ∷ Word (called "maxcount") r.maxcount ∷ []
 
 abbrev pub entry_plus_items : EntryPlus → List Item
 entry_plus_items e =
-    followed_by (Hyper names.fileid e.fileid ∷ Opaque Text names.name e.name.now
-    ∷ Hyper names.cookie e.cookie ∷ [])
+    followed_by (Hyper (called "fileid") e.fileid ∷ Opaque Text (called "name") e.name.now
+    ∷ Hyper (called "cookie") e.cookie ∷ [])
     (followed_by (post_op_attr_items e.attr)
     (post_op_fh_items e.handle))
 

@@ -1,9 +1,8 @@
 -- The items of arguments and results.
 use Rattle.std.specs.Prelude.{List, [], ◌∷◌}
-use Rattle.xdr3.specs.Item.{Item, Rest}
+use Rattle.xdr3.specs.Item.{Item, Rest, called}
 use Rattle.nfs3_types.specs.Items.{attributes_items, dir_op_items, handle_items, post_op_attr_items, wcc_items}
 use Rattle.nfs3_types.specs.Mounts.{exports_items, mount_list_items}
-use Rattle.nfs3_types.specs.Names.{names}
 use Rattle.nfs3_types.specs.Results.{items_by_status}
 use Rattle.procs3.specs.Creation.{create_args_items, create_ok_items, mkdir_args_items, mknod_args_items, symlink_args_items}
 use Rattle.procs3.specs.Directories.{link_args_items, link_wcc_items, lookup_ok_items, readdir_args_items, readdir_ok_items, readdirplus_args_items, readdirplus_ok_items, rename_args_items, rename_wcc_items}
@@ -44,7 +43,7 @@ args_items args.Dump = []
 args_items (args.Umnt x) = dirpath_items x
 args_items args.UmntAll = []
 args_items args.Export = []
-args_items (args.Raw bytes) = Rest names.rest bytes.now ∷ []
+args_items (args.Raw bytes) = Rest (called "rest") bytes.now ∷ []
 
 abbrev pub results_items : Results → List Item
 results_items results.Null = []
@@ -75,4 +74,4 @@ results_items (results.Dump x) = mount_list_items x
 results_items results.Umnt = []
 results_items results.UmntAll = []
 results_items (results.Export x) = exports_items x
-results_items (results.Raw bytes) = Rest names.rest bytes.now ∷ []
+results_items (results.Raw bytes) = Rest (called "rest") bytes.now ∷ []

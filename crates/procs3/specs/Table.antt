@@ -1,12 +1,82 @@
--- How the arguments and the results of each procedure are laid out (RFC 1813, sections 3.3 and
--- 5.2).
-use Rattle.std.specs.Prelude.{ℕ, Bool, ◌==◌, ◌&&◌, if◌then◌else◌}
+-- The procedures of NFS and MOUNT version 3: a row for each, with the layout of its arguments and
+-- of its results.
+use Rattle.std.specs.Prelude.{ℕ, Bool, ◌==◌, ◌&&◌, if◌then◌else◌, List, [], ◌∷◌, get_or, map}
+use Rattle.xdr3.specs.Item.{Text, Var, called}
 use Rattle.xdr3.specs.Layout.{Layout, exactly, rest}
-use Rattle.xdr3.specs.Shape.{nothing}
-use Rattle.nfs3_types.specs.Names.{names}
-use Rattle.nfs3_types.specs.Shapes.{attributes, dir_op, exports, handle, mount_list, post_op_attr, results, wcc}
+use Rattle.xdr3.specs.Shape.{Shape, ◌then◌, boolean, fixed, hyper, linked, listed, nothing, opaque, optional, word, write_verf}
+use Rattle.nfs3_types.specs.Shapes.{attributes, dir_op, export, handle, mounted, no_maximum, post_op_attr, results, settable, time, wcc}
+use Rattle.nfs3_types.specs.Stable.{stable_words}
 use Rattle.rpc_head.specs.declared.values.call.ProcId.{ProcId}
-use Rattle.procs3.specs.Shapes.{access_args, access_ok, commit_ok, create_args, create_ok, dirpath, file_range, fsinfo_ok, fsstat_ok, link_args, link_wcc, lookup_ok, mkdir_args, mknod_args, mount_results, pathconf_ok, read_ok, readdir_args, readdir_ok, readdirplus_args, readdirplus_ok, readlink_ok, rename_args, rename_wcc, setattr_args, symlink_args, write_args, write_ok}
+use Rattle.procs3.specs.Shapes.{create_how, create_ok, dirpath, entry, entry_plus, file_range, mknod_what, mount_results}
+
+-- A row: the arguments of a procedure, and its results, which are a status and then the parts of a
+-- success or those of a failure (RFC 1813, section 3.3).
+abbrev pub nfs_row : Shape → Shape → Shape → Shape × Shape
+nfs_row arguments done failed = (arguments, results done failed)
+
+-- The procedures of NFS in order, from 0: procedure n is that of section 3.3.n of RFC 1813, and
+-- procedure 0, NULL, has neither.
+unfoldable pub nfs_procedures : List (Shape × Shape)
+nfs_procedures =
+    (nothing, nothing)  -- NULL
+    ∷ nfs_row handle attributes nothing  -- GETATTR
+    ∷ nfs_row (handle then settable
+    then optional (called "check") (time (called "ctime_sec") (called "ctime_nsec")))
+    wcc wcc  -- SETATTR, with a sattrguard3
+    ∷ nfs_row dir_op (handle then post_op_attr then post_op_attr) post_op_attr  -- LOOKUP
+    ∷ nfs_row (handle then word (called "access")) (post_op_attr then word (called "access"))
+    post_op_attr  -- ACCESS
+    ∷ nfs_row handle (post_op_attr then opaque Text (called "path") no_maximum)
+    post_op_attr  -- READLINK
+    ∷ nfs_row file_range (post_op_attr then word (called "count") then boolean (called "eof")
+    then opaque Var (called "data") no_maximum) post_op_attr  -- READ
+    ∷ nfs_row (handle then hyper (called "offset") then word (called "count")
+    then listed (called "stable") stable_words then opaque Var (called "data") no_maximum)
+    (wcc then word (called "count") then listed (called "committed") stable_words
+    then write_verf (called "verf")) wcc  -- WRITE
+    ∷ nfs_row (dir_op then create_how) create_ok wcc  -- CREATE
+    ∷ nfs_row (dir_op then settable) create_ok wcc  -- MKDIR
+    ∷ nfs_row (dir_op then settable then opaque Text (called "path") no_maximum)
+    create_ok wcc  -- SYMLINK
+    ∷ nfs_row (dir_op then mknod_what) create_ok wcc  -- MKNOD
+    ∷ nfs_row dir_op wcc wcc  -- REMOVE
+    ∷ nfs_row dir_op wcc wcc  -- RMDIR
+    ∷ nfs_row (dir_op then dir_op) (wcc then wcc) (wcc then wcc)  -- RENAME
+    ∷ nfs_row (handle then dir_op) (post_op_attr then wcc) (post_op_attr then wcc)  -- LINK
+    ∷ nfs_row (handle then hyper (called "cookie") then fixed (called "cookieverf")
+    then word (called "count"))
+    (post_op_attr then fixed (called "cookieverf") then linked (called "entry") entry
+    then boolean (called "eof")) post_op_attr  -- READDIR
+    ∷ nfs_row (handle then hyper (called "cookie") then fixed (called "cookieverf")
+    then word (called "dircount")
+    then word (called "maxcount"))
+    (post_op_attr then fixed (called "cookieverf") then linked (called "entry") entry_plus
+    then boolean (called "eof")) post_op_attr  -- READDIRPLUS
+    ∷ nfs_row handle (post_op_attr then hyper (called "tbytes") then hyper (called "fbytes")
+    then hyper (called "abytes") then hyper (called "tfiles") then hyper (called "ffiles")
+    then hyper (called "afiles") then word (called "invarsec")) post_op_attr  -- FSSTAT
+    ∷ nfs_row handle (post_op_attr then word (called "rtmax") then word (called "rtpref")
+    then word (called "rtmult") then word (called "wtmax") then word (called "wtpref")
+    then word (called "wtmult") then word (called "dtpref") then hyper (called "maxfilesize")
+    then time (called "delta_sec") (called "delta_nsec") then word (called "properties"))
+    post_op_attr  -- FSINFO
+    ∷ nfs_row handle (post_op_attr then word (called "linkmax") then word (called "name_max")
+    then boolean (called "no_trunc") then boolean (called "chown_restricted")
+    then boolean (called "case_insensitive") then boolean (called "case_preserving"))
+    post_op_attr  -- PATHCONF
+    ∷ nfs_row file_range (wcc then write_verf (called "verf")) wcc  -- COMMIT
+    ∷ []
+
+-- the procedures of MOUNT in order, from 0: procedure n is that of section 5.2.n of RFC 1813
+unfoldable pub mount_procedures : List (Shape × Shape)
+mount_procedures =
+    (nothing, nothing)  -- NULL
+    ∷ (dirpath, mount_results)  -- MNT
+    ∷ (nothing, linked (called "entry") mounted)  -- DUMP
+    ∷ (dirpath, nothing)  -- UMNT
+    ∷ (nothing, nothing)  -- UMNTALL
+    ∷ (nothing, linked (called "entry") export)  -- EXPORT
+    ∷ []
 
 -- NFS version 3 is version 3 of program 100003 (RFC 1813, section 2.1)
 abbrev pub is_nfs : ProcId → Bool
@@ -16,94 +86,21 @@ is_nfs id = (id.prog == 100003) && (id.vers == 3)
 abbrev pub is_mount : ProcId → Bool
 is_mount id = (id.prog == 100005) && (id.vers == 3)
 
--- Each row is the number of a procedure and what belongs to it. Of a procedure that is not listed
--- it is all bytes that are left.
+-- the procedures of a program and its version (RFC 1813, sections 3.3 and 5.2)
+abbrev pub procedures_of : ProcId → List (Shape × Shape)
+procedures_of id =
+    if is_nfs id then nfs_procedures else (if is_mount id then mount_procedures else [])
 
--- procedure n of NFS has the arguments of section 3.3.n of RFC 1813
-abbrev pub nfs_arguments : ℕ → Layout
-nfs_arguments n =
-    (if n == 0 then exactly nothing else
-    (if n == 1 then exactly handle else
-    (if n == 2 then exactly setattr_args else
-    (if n == 3 then exactly dir_op else
-    (if n == 4 then exactly access_args else
-    (if n == 5 then exactly handle else
-    (if n == 6 then exactly file_range else
-    (if n == 7 then exactly write_args else
-    (if n == 8 then exactly create_args else
-    (if n == 9 then exactly mkdir_args else
-    (if n == 10 then exactly symlink_args else
-    (if n == 11 then exactly mknod_args else
-    (if n == 12 then exactly dir_op else
-    (if n == 13 then exactly dir_op else
-    (if n == 14 then exactly rename_args else
-    (if n == 15 then exactly link_args else
-    (if n == 16 then exactly readdir_args else
-    (if n == 17 then exactly readdirplus_args else
-    (if n == 18 then exactly handle else
-    (if n == 19 then exactly handle else
-    (if n == 20 then exactly handle else
-    (if n == 21 then exactly file_range else
-    rest names.rest))))))))))))))))))))))
+-- What a column has for procedure n of these: its arguments, or its results (RFC 1813, sections 3.3
+-- and 5.2). If there is no such procedure, all bytes that are left.
+abbrev pub layout_in : (Shape × Shape → Shape) → List (Shape × Shape) → ℕ → Layout
+layout_in column procedures n =
+    get_or (map (λ row. exactly (column row)) procedures) n (rest (called "rest"))
 
--- procedure n of MOUNT has the arguments of section 5.2.n of RFC 1813
-abbrev pub mount_arguments : ℕ → Layout
-mount_arguments n =
-    (if n == 0 then exactly nothing else
-    (if n == 1 then exactly dirpath else
-    (if n == 2 then exactly nothing else
-    (if n == 3 then exactly dirpath else
-    (if n == 4 then exactly nothing else
-    (if n == 5 then exactly nothing else
-    rest names.rest))))))
-
--- Procedure n of NFS has the results of section 3.3.n of RFC 1813: after a status the parts of a
--- success, or those of a failure.
-abbrev pub nfs_results : ℕ → Layout
-nfs_results n =
-    (if n == 0 then exactly nothing else
-    (if n == 1 then exactly (results attributes nothing) else
-    (if n == 2 then exactly (results wcc wcc) else
-    (if n == 3 then exactly (results lookup_ok post_op_attr) else
-    (if n == 4 then exactly (results access_ok post_op_attr) else
-    (if n == 5 then exactly (results readlink_ok post_op_attr) else
-    (if n == 6 then exactly (results read_ok post_op_attr) else
-    (if n == 7 then exactly (results write_ok wcc) else
-    (if n == 8 then exactly (results create_ok wcc) else
-    (if n == 9 then exactly (results create_ok wcc) else
-    (if n == 10 then exactly (results create_ok wcc) else
-    (if n == 11 then exactly (results create_ok wcc) else
-    (if n == 12 then exactly (results wcc wcc) else
-    (if n == 13 then exactly (results wcc wcc) else
-    (if n == 14 then exactly (results rename_wcc rename_wcc) else
-    (if n == 15 then exactly (results link_wcc link_wcc) else
-    (if n == 16 then exactly (results readdir_ok post_op_attr) else
-    (if n == 17 then exactly (results readdirplus_ok post_op_attr) else
-    (if n == 18 then exactly (results fsstat_ok post_op_attr) else
-    (if n == 19 then exactly (results fsinfo_ok post_op_attr) else
-    (if n == 20 then exactly (results pathconf_ok post_op_attr) else
-    (if n == 21 then exactly (results commit_ok wcc) else
-    rest names.rest))))))))))))))))))))))
-
--- procedure n of MOUNT has the results of section 5.2.n of RFC 1813
-abbrev pub mount_results_of : ℕ → Layout
-mount_results_of n =
-    (if n == 0 then exactly nothing else
-    (if n == 1 then exactly mount_results else
-    (if n == 2 then exactly mount_list else
-    (if n == 3 then exactly nothing else
-    (if n == 4 then exactly nothing else
-    (if n == 5 then exactly exports else
-    rest names.rest))))))
-
--- the arguments of a call; of a procedure of any other program, all bytes that are left
+-- the arguments of a call (RFC 1813, sections 3.3 and 5.2)
 unfoldable pub arguments_of : ProcId → Layout
-arguments_of id =
-    if is_nfs id then nfs_arguments id.proc_no else
-    (if is_mount id then mount_arguments id.proc_no else rest names.rest)
+arguments_of id = layout_in (λ row. row.0) (procedures_of id) id.proc_no
 
--- the results of a successful call; of a procedure of any other program, all bytes that are left
+-- the results of a successful call (RFC 1813, sections 3.3 and 5.2)
 unfoldable pub results_of : ProcId → Layout
-results_of id =
-    if is_nfs id then nfs_results id.proc_no else
-    (if is_mount id then mount_results_of id.proc_no else rest names.rest)
+results_of id = layout_in (λ row. row.1) (procedures_of id) id.proc_no

@@ -57,6 +57,11 @@ pub record FilesRun : Type 0 where
   -- the files that were finished, before and after
   pub finished : List WrittenFile × List WrittenFile
 
+abbrev pub files_run : {F : Type 0} → (F → List ℕ → Option (List ℕ)) → (F → List WrittenFile)
+    → (old new : F) → List FileReading → FilesRun
+files_run holds finished old new readings =
+    record { holds = holds old; readings = readings; finished = (finished old, finished new) }
+
 -- no file was finished
 abbrev pub FinishesNone : List WrittenFile × List WrittenFile → Type 0
 FinishesNone finished = finished.1 ≡ finished.0

@@ -6,7 +6,7 @@ ghost use Rattle.capture3.specs.Entries.{CountsReading};
 ghost use Rattle.capture3.specs.Observed.{GavePrefix};
 ghost use Rattle.canon3.specs.EntryWriter.{WritesAllCounted, WritesGivenCounted};
 ghost use Rattle.canon3.specs.WriteErrors.{IsOfWriting};
-ghost use Rattle.program3.specs.Files.{KeepsForm, RewritesFile};
+ghost use Rattle.program3.specs.Files.{KeepsForm, RewritesFile, files_run};
 ghost use Rattle.program3.specs.Readings.{IsByFailedRead, IsUnread, MayContain, reading_under, readings_in};
 
 use crate::files::{Files, Made};
@@ -55,11 +55,9 @@ pub fn run_rewriting<F: Files, J: Rewriting<Counts = Summary> + Drop>(
     input: &str,
     output: &str,
 ) -> (Ended, Readings)
-    ensures rewrites { RewritesFile J.counts (J.form rewriting) (record {
-      holds = F.holds files.old;
-      readings = readings_in result.1;
-      finished = (F.finished files.old, F.finished files.new);
-    }) (input.now, output.now) result.0.outcome }
+    ensures rewrites { RewritesFile J.counts (J.form rewriting)
+        (files_run F.holds F.finished files.old files.new (readings_in result.1))
+        (input.now, output.now) result.0.outcome }
 {
     match files.open_both(input, output) {
         Ok((mut opened, made)) => {

@@ -1,5 +1,5 @@
 -- The machine for one record against records.
-use Rattle.std.proofs.Common.{◌≡◌, ℕ, zero, suc, ◌+◌, ◌<◌, ◌≤◌, List, [], ◌∷◌, ◌++◌, length, refl, sym, ap, subst, ◌∙◌, append_assoc, append-nil, arith, length-append, Bool, true, false, cond, nat_lt, ltb-true, ltb-false, lt-ltb, le-ltb}
+use Rattle.std.proofs.Common.{◌≡◌, ℕ, zero, suc, ◌+◌, ◌<◌, ◌≤◌, List, [], ◌∷◌, ◌++◌, length, refl, sym, ap, subst, ◌∙◌, append_assoc, append-nil, arith, length-append, Bool, true, false, cond, nat_lt, ltb-true, ltb-false, lt-ltb, le-ltb, inl, inr}
 use Rattle.record_mark.proofs.Common.{concat, Ends, Runs, Stops, landed, after, within, IsWord, Joins, number, word_next}
 use Rattle.record_mark.specs.RecordMark.{max_body, is_last, length_of, IsHeader, IsFragment, IsRecord, IsTooLong}
 use Rattle.record_mark.specs.Joining.{Joining, Between, Header, Bytes, Whole, TooLong, ended, expecting, headed, join_next, HasJoined, EndsRecord}
@@ -11,6 +11,50 @@ pub record Carries (front body : List ℕ) : Type 0 where
   pub fragments : List (List ℕ)
   pub joined : Joins (IsFragment false) front fragments
   pub carried : body ≡ concat fragments
+
+-- they end in a part of a header
+at_header : (bytes front part body : List ℕ) → bytes ≡ front ++ part → 0 < length bytes
+    → Carries front body → length part < 4 → length body ≤ max_body
+    → HasJoined bytes (Header body part)
+at_header bytes front part body split some whole short fits = (
+  record {
+    fragments = whole.fragments;
+    front = front;
+    part = part;
+    got = [];
+    split = split;
+    begun = some;
+    joined = whole.joined;
+    cut = inl (short, refl);
+    carried = whole.carried ∙ sym (append-nil (concat whole.fragments));
+    fits = fits;
+  },
+  refl,
+  short,
+)
+
+-- the other way round
+before_header : (bytes body part : List ℕ) (h : HasJoined bytes (Header body part))
+    → Carries h.0.front body
+before_header bytes body part (o, is, short) = record {
+  fragments = o.fragments;
+  joined = o.joined;
+  carried =
+      let none : o.got ≡ [] =
+      elim o.cut [
+        | inl h ↦ h.1
+        | inr h ↦
+            absurd (omega (
+              arith,
+              short,
+              ap length is,
+              ap length h.3,
+              length-append h.0 o.got,
+              h.4.word,
+            ))
+      ] in
+      o.carried ∙ ap (λ got. concat o.fragments ++ got) none ∙ append-nil (concat o.fragments);
+}
 
 ended_leads : (last : Bool) (bytes front back carried before body : List ℕ) → bytes ≡ front ++ back
     → Carries front before → IsFragment last back carried → body ≡ before ++ carried
@@ -29,26 +73,24 @@ ended_leads true bytes front back carried before body split whole closes is fits
       fits = fits;
     }
 ended_leads false bytes front back carried before body split whole closes is fits =
-    record {
+    let some : 0 < length bytes =
+    omega (
+      arith,
+      simp length-append at (ap length split),
+      simp length-append at (ap length closes.1),
+      closes.2.word,
+    ) in
+    at_header bytes bytes [] body (sym (append-nil bytes)) some
+    (record {
       fragments = whole.fragments ++ carried ∷ [];
-      front = bytes;
-      split = sym (append-nil bytes);
-      begun = (omega (
-        arith,
-        simp length-append at (ap length split),
-        simp length-append at (ap length closes.1),
-        closes.2.word,
-      ));
       joined =
           subst (λ (b : List ℕ). Joins (IsFragment false) b (whole.fragments ++ carried ∷ []))
           (sym split) (Joins-snoc (IsFragment false) whole.fragments front back carried
           whole.joined closes);
-      short = omega arith;
       carried =
           is ∙ ap (λ (b : List ℕ). b ++ carried) whole.carried
           ∙ sym (concat-snoc whole.fragments carried);
-      fits = fits;
-    }
+    }) (omega arith) fits
 
 -- a header has come, and n bytes of its fragment are to come after got
 expecting_leads : (last : Bool) (n : ℕ) (bytes front header got before body : List ℕ)
@@ -60,18 +102,31 @@ expecting_leads last zero bytes front header got before body split whole heads i
     (split ∙ append_assoc front header got) whole
     (header, refl, record { word = heads.word; top = heads.top; count = heads.count ∙ omega arith })
     is (omega arith)
-expecting_leads last (suc left) bytes front header got before body split whole heads is fits =
-    record {
-      fragments = whole.fragments;
-      front = front;
-      header = header;
-      got = got;
-      split = split;
-      joined = whole.joined;
-      heads = heads;
-      carried = is ∙ ap (λ (b : List ℕ). b ++ got) whole.carried;
-      fits = fits;
-    }
+expecting_leads last (suc left) bytes front header got before body split whole heads is fits = (
+  record {
+    fragments = whole.fragments;
+    front = front;
+    part = header ++ got;
+    got = got;
+    split = split ∙ append_assoc front header got;
+    begun =
+        omega (
+          arith,
+          ap length split,
+          length-append (front ++ header) got,
+          length-append front header,
+          heads.word,
+        );
+    joined = whole.joined;
+    cut = inr (header, last, left, refl, heads, fits);
+    carried = is ∙ ap (λ (b : List ℕ). b ++ got) whole.carried;
+    fits = omega (arith, fits);
+  },
+  header,
+  refl,
+  heads,
+  fits,
+)
 
 headed_cases : (over : Bool) (bytes front header body : List ℕ)
     → nat_lt max_body (length body + length_of (number header)) ≡ over → bytes ≡ front ++ header
@@ -116,16 +171,8 @@ in_header body part bytes front byte split whole short fits =
     leads_within IsPart IsWord HasJoined EndsRecord (Header body) (headed body) (part ++ byte ∷ [])
     (bytes ++ byte ∷ [])
     (λ s h.
-    record {
-      fragments = whole.fragments;
-      front = front;
-      split = more ∙ ap (λ (b : List ℕ). front ++ b) h.0;
-      begun = omega (arith, length-append bytes (byte ∷ []));
-      joined = whole.joined;
-      short = h.1;
-      carried = whole.carried;
-      fits = fits;
-    })
+    at_header (bytes ++ byte ∷ []) front s body (more ∙ ap (λ (b : List ℕ). front ++ b) h.0)
+    (omega (arith, length-append bytes (byte ∷ []))) whole h.1 fits)
     (λ n h. headed_leads (bytes ++ byte ∷ []) front (part ++ byte ∷ []) body n more whole h fits)
     (word_next part byte) (word_leads part byte short)
 
@@ -135,22 +182,23 @@ join_leads bytes Between byte h =
     in_header [] [] bytes [] byte h (record { fragments = []; joined = refl; carried = refl })
     (omega arith) (omega arith)
 join_leads bytes (Header body part) byte h =
-    in_header body part bytes h.front byte h.split
-    (record { fragments = h.fragments; joined = h.joined; carried = h.carried }) h.short h.fits
-join_leads bytes (Bytes body last left) byte h =
-    expecting_leads last left (bytes ++ byte ∷ []) h.front h.header (h.got ++ byte ∷ [])
-    (concat h.fragments) (body ++ byte ∷ [])
-    (ap (λ (b : List ℕ). b ++ byte ∷ []) h.split
-    ∙ append_assoc (h.front ++ h.header) h.got (byte ∷ []))
-    (record { fragments = h.fragments; joined = h.joined; carried = refl })
+    in_header body part bytes h.0.front byte (h.0.split ∙ ap (λ b. h.0.front ++ b) h.1)
+    (before_header bytes body part h) h.2 h.0.fits
+join_leads bytes (Bytes body last left) byte (o, header, is, heads, fits) =
+    expecting_leads last left (bytes ++ byte ∷ []) o.front header (o.got ++ byte ∷ [])
+    (concat o.fragments) (body ++ byte ∷ [])
+    (ap (λ (b : List ℕ). b ++ byte ∷ [])
+    (o.split ∙ ap (λ b. o.front ++ b) is ∙ sym (append_assoc o.front header o.got))
+    ∙ append_assoc (o.front ++ header) o.got (byte ∷ []))
+    (record { fragments = o.fragments; joined = o.joined; carried = refl })
     (record {
-      word = h.heads.word;
-      top = h.heads.top;
-      count = h.heads.count ∙ omega (arith, length-append h.got (byte ∷ []));
+      word = heads.word;
+      top = heads.top;
+      count = heads.count ∙ omega (arith, length-append o.got (byte ∷ []));
     })
-    (ap (λ (b : List ℕ). b ++ byte ∷ []) h.carried
-    ∙ append_assoc (concat h.fragments) h.got (byte ∷ []))
-    (omega (arith, length-append body (byte ∷ []), h.fits))
+    (ap (λ (b : List ℕ). b ++ byte ∷ []) o.carried
+    ∙ append_assoc (concat o.fragments) o.got (byte ∷ []))
+    (omega (arith, length-append body (byte ∷ []), fits))
 
 -- what the machine has, its bytes are
 pub join_tells : (bytes : List ℕ)
@@ -260,25 +308,20 @@ pub joining_runs : (bytes : List ℕ) (s : Joining) → HasJoined bytes s
     → after join_next (Runs Between) bytes ≡ Runs s
 joining_runs bytes Between h = ap (after join_next (Runs Between)) h
 joining_runs bytes (Header body part) h =
-    later h.fragments bytes h.front part h.split h.begun h.joined
-    (omega (arith, h.fits, ap length h.carried))
-    ∙ nested_runs word_next join_next (Header (concat h.fragments)) (headed (concat h.fragments))
-    (λ s byte. refl) part [] part (word_runs part h.short)
-    ∙ ap (λ (b : List ℕ). Runs (Header b part)) (sym h.carried)
-joining_runs bytes (Bytes body last left) h =
-    let before : List ℕ = concat h.fragments in
-    let size = ap length h.carried ∙ length-append (concat h.fragments) h.got in
-    later h.fragments bytes h.front (h.header ++ h.got)
-    (h.split ∙ append_assoc h.front h.header h.got)
-    (omega (
-      arith,
-      ap length h.split ∙ length-append (h.front ++ h.header) h.got,
-      length-append h.front h.header,
-      h.heads.word,
-    )) h.joined (omega (arith, h.fits))
-    ∙ after-append join_next (Runs (Header before [])) h.header h.got
-    ∙ ap (λ r. after join_next r h.got) (header_runs before h.header h.heads.word
-    ∙ ap landed (headed_fits before h.header last (length h.got + suc left) h.heads
-    (omega (arith, h.fits))))
-    ∙ begun before last h.got (length h.got + suc left) (suc left) refl
-    ∙ ap (λ (b : List ℕ). Runs (Bytes b last left)) (sym h.carried)
+    let whole = before_header bytes body part h in
+    later whole.fragments bytes h.0.front part (h.0.split ∙ ap (λ b. h.0.front ++ b) h.1)
+    h.0.begun whole.joined (omega (arith, h.0.fits, ap length whole.carried))
+    ∙ nested_runs word_next join_next (Header (concat whole.fragments))
+    (headed (concat whole.fragments)) (λ s byte. refl) part [] part (word_runs part h.2)
+    ∙ ap (λ (b : List ℕ). Runs (Header b part)) (sym whole.carried)
+joining_runs bytes (Bytes body last left) (o, header, is, heads, fits) =
+    let before : List ℕ = concat o.fragments in
+    let size = ap length o.carried ∙ length-append (concat o.fragments) o.got in
+    later o.fragments bytes o.front (header ++ o.got) (o.split ∙ ap (λ b. o.front ++ b) is)
+    o.begun o.joined (omega (arith, fits))
+    ∙ after-append join_next (Runs (Header before [])) header o.got
+    ∙ ap (λ r. after join_next r o.got) (header_runs before header heads.word
+    ∙ ap landed (headed_fits before header last (length o.got + suc left) heads
+    (omega (arith, fits))))
+    ∙ begun before last o.got (length o.got + suc left) (suc left) refl
+    ∙ ap (λ (b : List ℕ). Runs (Bytes b last left)) (sym o.carried)

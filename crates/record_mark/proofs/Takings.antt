@@ -1,5 +1,6 @@
 -- What a joiner has taken, and where that leads the machine.
 use Rattle.record_mark.proofs.Common.{◌≡◌, inl, inr, ℕ, zero, suc, ◌+◌, ◌<◌, List, [], ◌++◌, take, drop, refl, sym, ap, subst, ◌∙◌, arith, take-add, Run, Runs, Stops, Stopped, after, IsUnfinished, HasBody, Joining, Between, Header, Bytes, Joined, Whole, TooLong, join_next, HasJoined, EndsRecord, Taking, Led, OutOfMemory, HasTaken, unbegun, IsWhole, IsRunning, joining_of, joined_body, body_of, led_on}
+use Rattle.record_mark.specs.RecordMark.{IsOpen}
 use Rattle.record_mark.proofs.Machines.{Tells, after-append}
 use Rattle.record_mark.proofs.Joins.{join_tells, record_stops, too_long_stops, joining_runs}
 
@@ -36,12 +37,34 @@ pub taken_further : (old new : Run Joining Joined) (bytes more : List ℕ) → H
 taken_further old new bytes more h known e =
     taken_by new (bytes ++ more) known (led_further old new bytes more h e)
 
+-- ---- an open record: the machine is in a header, or in a fragment's bytes
+
+-- the machine in an open record
+abbrev pub IsIn : List ℕ → Joining → Type 0
+IsIn body Between = ⊥
+IsIn body (Header other part) = other ≡ body
+IsIn body (Bytes other last left) = other ≡ body
+
+pub opened : (bytes body : List ℕ) (j : Joining) → IsIn body j → HasJoined bytes j
+    → IsOpen bytes body
+opened bytes body Between is h = absurd is
+opened bytes body (Header other part) is h = subst (IsOpen bytes) is h.0
+opened bytes body (Bytes other last left) is h = subst (IsOpen bytes) is h.0
+
+pub open_in : (bytes body : List ℕ) → IsOpen bytes body
+    → (j : Joining) × IsIn body j × HasJoined bytes j
+open_in bytes body o =
+    elim o.cut [
+      | inl h ↦ (Header body o.part, refl, (o, refl, h.0))
+      | inr h ↦ (Bytes body h.1 h.2, refl, (o, h.0, h.3, h.4, h.5))
+    ]
+
 -- what has a body is a record, or one that is not whole
 pub unfinished : (bytes : List ℕ) (s : Joining) → HasJoined bytes s
     → IsUnfinished bytes (joined_body s)
 unfinished bytes Between h = inl (h, refl)
-unfinished bytes (Header body part) h = inr (inl (part, h))
-unfinished bytes (Bytes body last left) h = inr (inr (last, left, h))
+unfinished bytes (Header body part) h = inr h.0
+unfinished bytes (Bytes body last left) h = inr h.0
 
 -- where a machine stands that took what is not whole
 pub record Standing (bytes body : List ℕ) : Type 0 where
@@ -49,12 +72,16 @@ pub record Standing (bytes body : List ℕ) : Type 0 where
   pub joined : HasJoined bytes joining
   pub carries : joined_body joining ≡ body
 
+carried_in : (body : List ℕ) (j : Joining) → IsIn body j → joined_body j ≡ body
+carried_in body Between h = absurd h
+carried_in body (Header other part) h = h
+carried_in body (Bytes other last left) h = h
+
 pub standing : (bytes body : List ℕ) → IsUnfinished bytes body → Standing bytes body
 standing bytes body (inl h) = record { joining = Between; joined = h.0; carries = sym h.1 }
-standing bytes body (inr (inl h)) =
-    record { joining = Header body h.0; joined = h.1; carries = refl }
-standing bytes body (inr (inr h)) =
-    record { joining = Bytes body h.0 h.1; joined = h.2; carries = refl }
+standing bytes body (inr h) =
+    let o = open_in bytes body h in
+    record { joining = o.0; joined = o.2; carries = carried_in body o.0 o.1 }
 
 -- the body that the machine has is that of the bytes
 pub has_body : (taking : Taking) (bytes body : List ℕ) → HasTaken taking bytes → HasBody bytes body

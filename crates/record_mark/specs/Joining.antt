@@ -1,8 +1,8 @@
 -- The machine that joins the fragments of one record (RFC 5531, section 11).
-use Rattle.std.specs.Prelude.{◌≡◌, ℕ, zero, suc, ◌+◌, Bool, true, false, List, [], ◌∷◌, ◌++◌, length, nat_lt, cond}
+use Rattle.std.specs.Prelude.{◌≡◌, ℕ, zero, suc, ◌+◌, ◌<◌, ◌≤◌, Bool, true, false, List, [], ◌∷◌, ◌++◌, length, nat_lt, cond}
 use Rattle.record_mark.specs.Machine.{Next, Goes, Ends, within}
 use Rattle.record_mark.specs.Word.{word_next}
-use Rattle.record_mark.specs.RecordMark.{max_body, is_last, length_of, IsRecord, IsTooLong, InHeader, InBytes}
+use Rattle.record_mark.specs.RecordMark.{max_body, is_last, length_of, IsHeader, IsOpen, IsRecord, IsTooLong}
 
 -- between records; in a header, after the body's bytes so far; or in a fragment's bytes, with how
 -- many are left after the next
@@ -37,11 +37,15 @@ join_next Between byte = within (Header []) (headed []) (word_next [] byte)
 join_next (Header body part) byte = within (Header body) (headed body) (word_next part byte)
 join_next (Bytes body last left) byte = expecting (body ++ byte ∷ []) last left
 
--- what the bytes of a record so far are, by where the machine stands (RFC 5531, section 11)
+-- What the bytes of a record so far are, by where the machine stands: none; or a record that is
+-- open, in a part of a header, or in a fragment's bytes, of which this many are left after the next
+-- (RFC 5531, section 11)
 abbrev pub HasJoined : List ℕ → Joining → Type 0
 HasJoined bytes Between = bytes ≡ []
-HasJoined bytes (Header body part) = InHeader bytes body part
-HasJoined bytes (Bytes body last left) = InBytes bytes body last left
+HasJoined bytes (Header body part) = (o : IsOpen bytes body) × (o.part ≡ part) × (length part < 4)
+HasJoined bytes (Bytes body last left) = (o : IsOpen bytes body) × (header : List ℕ)
+    × (o.part ≡ header ++ o.got) × IsHeader header last (length o.got + suc left)
+    × (length body + suc left ≤ max_body)
 
 -- what bytes are that end a record: whole, or too long (RFC 5531, section 11)
 abbrev pub EndsRecord : List ℕ → Joined → Type 0

@@ -58,34 +58,22 @@ pub record IsTooLong (bytes : List ℕ) (at : ℕ) : Type 0 where
   pub fits : at ≤ max_body
   pub passes : max_body < at + count
 
--- A record is begun, and ends in a part of a header, or before one (RFC 5531, section 11)
-pub record InHeader (bytes body part : List ℕ) : Type 0 where
+-- A record is begun and not whole: whole fragments, and a part of one more. This is a part of its
+-- header; or its header and the bytes that were got of those that it carries, of which more are
+-- left. The body's bytes so far (RFC 5531, section 11)
+pub record IsOpen (bytes body : List ℕ) : Type 0 where
   pub fragments : List (List ℕ)
   pub front : List ℕ
+  pub part : List ℕ
+  pub got : List ℕ
   pub split : bytes ≡ front ++ part
   pub begun : 0 < length bytes
   pub joined : Joins (IsFragment false) front fragments
-  pub short : length part < 4
-  pub carried : body ≡ concat fragments
-  pub fits : length body ≤ max_body
-
--- A record is begun, and after the next byte this many bytes are left of its last fragment here
--- (RFC 5531, section 11)
-pub record InBytes (bytes body : List ℕ) (last : Bool) (left : ℕ) : Type 0 where
-  pub fragments : List (List ℕ)
-  pub front : List ℕ
-  pub header : List ℕ
-  pub got : List ℕ
-  pub split : bytes ≡ front ++ header ++ got
-  pub joined : Joins (IsFragment false) front fragments
-  pub heads : IsHeader header last (length got + suc left)
+  pub cut : ((length part < 4) × (got ≡ []))
+      ⊎ ((header : List ℕ) × (last : Bool) × (left : ℕ) × (part ≡ header ++ got)
+      × IsHeader header last (length got + suc left) × (length body + suc left ≤ max_body))
   pub carried : body ≡ concat fragments ++ got
-  pub fits : length body + suc left ≤ max_body
-
--- a record that is begun and not whole, and the bytes of its body so far (RFC 5531, section 11)
-abbrev pub IsOpen : List ℕ → List ℕ → Type 0
-IsOpen bytes body = ((part : List ℕ) × InHeader bytes body part)
-    ⊎ ((last : Bool) × (left : ℕ) × InBytes bytes body last left)
+  pub fits : length body ≤ max_body
 
 -- none of a record's bytes, or some that are not all, and the bytes of its body so far (RFC 5531,
 -- section 11)

@@ -21,8 +21,8 @@ pub use Rattle.xdr3.specs.declared.reason.Reason.TheVariants.{BadEnum, Flavor, R
 pub use Rattle.xdr3.specs.declared.reason.Stop.{Stop}
 pub use Rattle.rpc_head.specs.Groups.{count_items, group_items}
 pub use Rattle.rpc_head.specs.MessageStart.{start_items}
-unfoldable pub use Rattle.rpc_head.specs.Messages.{call_layout, call_start, reply_layout, reply_start}
-unfoldable pub use Rattle.rpc_head.specs.Names.{head_names}
+unfoldable pub use Rattle.rpc_head.specs.Messages.{call_layout, start_of_type, reply_layout}
+unfoldable pub use Rattle.xdr3.specs.Item.{called}
 unfoldable pub use Rattle.rpc_head.specs.Shapes.{accept, deny, gids, message_start, reply_head, verifier}
 pub use Rattle.rpc_head.specs.declared.scans.call.Opening.{Opening}
 pub use Rattle.rpc_head.specs.declared.values.message_start.MessageStart.{MessageStart}

@@ -2,7 +2,7 @@
 use Rattle.std.proofs.Common.{inl, inr, ◌≡◌, ℕ, ◌+◌, ◌-◌, ◌*◌, ◌/◌, ◌<◌, ◌≤◌, Bool, true, false, cond, ltb, List, [], ◌∷◌, ◌++◌, length, take, drop, Ok, Err, refl, sym, ap, subst, ◌∙◌, arith}
 use Rattle.std.proofs.lemmas.Bool.{cases_lt, ne_eqb, ltb-false, lt-ltb, le-ltb}
 use Rattle.std.proofs.lemmas.List.{drop-drop, drop-take}
-use Rattle.rpc_head.proofs.Common.{big_number, GetError, Stop, Item, Word, Scans, Stops, MovesOn, View, Adds, moves_both, adds_joined, head_names, BadEnum, Flavor, RpcVersion, Short, number_at, reading, refused, run_at, word_at, Shape, ◌then◌, choose, is_any, is_listed, nothing, word, Opening}
+use Rattle.rpc_head.proofs.Common.{big_number, GetError, Stop, Item, Word, Scans, Stops, MovesOn, View, Adds, moves_both, adds_joined, called, BadEnum, Flavor, RpcVersion, Short, number_at, reading, refused, run_at, word_at, Shape, ◌then◌, choose, is_any, is_listed, nothing, word, Opening}
 use Rattle.byteorder.specs.Numbers.{big_from-take}
 use Rattle.xdr3.specs.declared.reason.GetError.TheVariants as errors
 use Rattle.xdr3.specs.declared.reason.Reason.{Reason}
@@ -10,7 +10,7 @@ use Rattle.xdr3.proofs.Lemmas.Reading.Bytes.{accept_ok, bind_ok, guard_ok, run_t
 use Rattle.rpc_head.specs.HeadScan.{ScansCallHead}
 use Rattle.rpc_head.specs.machinery.HeadEnds.{credential_of}
 use Rattle.rpc_head.specs.machinery.HeadRuns.{ScansOpening, opening_in, short_after}
-use Rattle.rpc_head.specs.Shapes.{call_head, credential, credential_flavors, rpc_versions, verifier}
+use Rattle.rpc_head.specs.Shapes.{call_head, credential, verifier}
 
 pub stops_at : (shape : Shape) (v : View) (stop : Stop) → reading shape v.body v.at ≡ Err stop
     → Stops shape v (errors.Stop stop)
@@ -66,7 +66,7 @@ later_stop name rest body at stop h e = rw (le-ltb (length body) (at + 4) h, e) 
 -- the first word that is not whole, after the RPC version
 after_version_short : (body : List ℕ) (at left : ℕ) → left + at ≡ length body → left < 16
     → reading
-    (word head_names.prog then word head_names.vers then word head_names.proc
+    (word (called "prog") then word (called "vers") then word (called "proc")
     then credential then verifier) body at
     ≡ Err (record { at = at + left / 4 * 4; reason = Short })
 unfolding credential
@@ -74,25 +74,25 @@ after_version_short body at left is few =
     let place = at + left / 4 * 4 in
     let last = credential then verifier in
     elim (cases_lt left 4) [
-      | inl lt ↦ one_short head_names.prog is_any BadEnum (λ n. nothing)
-          (word head_names.vers then word head_names.proc then last) body at (at + left / 4 * 4)
+      | inl lt ↦ one_short (called "prog") is_any BadEnum (λ n. nothing)
+          (word (called "vers") then word (called "proc") then last) body at (at + left / 4 * 4)
           (omega (arith, is, lt)) (omega (arith, lt))
-      | inr le ↦ later_stop head_names.prog
-          (word head_names.vers then word head_names.proc then last) body at
+      | inr le ↦ later_stop (called "prog")
+          (word (called "vers") then word (called "proc") then last) body at
           (record { at = at + left / 4 * 4; reason = Short }) (omega (arith, is, le)) (
           elim (cases_lt left 8) [
-            | inl lt ↦ one_short head_names.vers is_any BadEnum (λ n. nothing)
-                (word head_names.proc then last) body (at + 4) (at + left / 4 * 4)
+            | inl lt ↦ one_short (called "vers") is_any BadEnum (λ n. nothing)
+                (word (called "proc") then last) body (at + 4) (at + left / 4 * 4)
                 (omega (arith, is, lt)) (omega (arith, le, lt))
-            | inr le8 ↦ later_stop head_names.vers (word head_names.proc then last) body (at + 4)
+            | inr le8 ↦ later_stop (called "vers") (word (called "proc") then last) body (at + 4)
                 (record { at = at + left / 4 * 4; reason = Short }) (omega (arith, is, le8)) (
                 elim (cases_lt left 12) [
-                  | inl lt ↦ one_short head_names.proc is_any BadEnum (λ n. nothing) last body
+                  | inl lt ↦ one_short (called "proc") is_any BadEnum (λ n. nothing) last body
                       (at + 4 + 4) (at + left / 4 * 4) (omega (arith, is, lt))
                       (omega (arith, le8, lt))
-                  | inr le12 ↦ later_stop head_names.proc last body (at + 4 + 4)
+                  | inr le12 ↦ later_stop (called "proc") last body (at + 4 + 4)
                       (record { at = at + left / 4 * 4; reason = Short }) (omega (arith, is, le12))
-                      (one_short head_names.cred_flavor (is_listed credential_flavors) Flavor
+                      (one_short (called "cred_flavor") (is_listed (0 ∷ 1 ∷ [])) Flavor
                       (λ flavor. credential_of flavor) verifier body (at + 4 + 4 + 4)
                       (at + left / 4 * 4) (omega (arith, is, few)) (omega (arith, le12, few)))
                 ])
@@ -112,38 +112,38 @@ word_ends accepted other body n at to e =
     ap (λ (x : ℕ × ℕ). x.1) (g.1 ∙ taken.1)
 
 pub opening_short : (body : List ℕ) (n at to : ℕ)
-    → word_at (is_listed rpc_versions) RpcVersion body at ≡ Ok (n, to) → to ≤ length body
+    → word_at (is_listed (2 ∷ [])) RpcVersion body at ≡ Ok (n, to) → to ≤ length body
     → length body < at + 20
     → reading call_head body at ≡ Err (short_after to (length body - to))
 unfolding reading call_head
 opening_short body n at to e within few =
     let rest =
     after_version_short body to (length body - to) (omega (arith, within))
-    (omega (arith, few, within, word_ends (is_listed rpc_versions) RpcVersion body n at to e))
+    (omega (arith, few, within, word_ends (is_listed (2 ∷ [])) RpcVersion body n at to e))
     in
     rw (e, rest) refl
 
 pub version_stops : (body : List ℕ) (at : ℕ) (stop : Stop)
-    → word_at (is_listed rpc_versions) RpcVersion body at ≡ Err stop
+    → word_at (is_listed (2 ∷ [])) RpcVersion body at ≡ Err stop
     → reading call_head body at ≡ Err stop
 unfolding reading call_head
 version_stops body at stop e = rw e refl
 
 -- ---- the words up to the credential's flavor
 
-version_is : (n : ℕ) → n ≡ 2 → is_listed rpc_versions n ≡ true
+version_is : (n : ℕ) → n ≡ 2 → is_listed (2 ∷ []) n ≡ true
 version_is n is = rw is refl
 
-version_is_not : (n : ℕ) → (n ≡ 2 → ⊥) → is_listed rpc_versions n ≡ false
+version_is_not : (n : ℕ) → (n ≡ 2 → ⊥) → is_listed (2 ∷ []) n ≡ false
 version_is_not n other = rw (ne_eqb 2 n (λ is. other (sym is))) refl
 
-pub flavor_is : (n : ℕ) → n ≤ 1 → is_listed credential_flavors n ≡ true
+pub flavor_is : (n : ℕ) → n ≤ 1 → is_listed (0 ∷ 1 ∷ []) n ≡ true
 flavor_is n few = elim (cases_lt n 1) [
   | inl lt ↦ let is : n ≡ 0 = omega (arith, lt) in rw is refl
   | inr le ↦ let is : n ≡ 1 = omega (arith, le, few) in rw is refl
 ]
 
-pub flavor_is_not : (n : ℕ) → 1 < n → is_listed credential_flavors n ≡ false
+pub flavor_is_not : (n : ℕ) → 1 < n → is_listed (0 ∷ 1 ∷ []) n ≡ false
 flavor_is_not n more =
     rw (
       ne_eqb 0 n (λ is. absurd (omega (arith, is, more))),
@@ -157,14 +157,14 @@ version_refused v v1 run e other =
     let word =
     run_word 0 20 v.body run v.at v1.at v.at (v.at + 4) e (omega arith) (omega arith) refl in
     let refused_there =
-    run_refuses (is_listed rpc_versions) RpcVersion v.body (big_number 4 run) v.at (v.at + 4) word
+    run_refuses (is_listed (2 ∷ [])) RpcVersion v.body (big_number 4 run) v.at (v.at + 4) word
     (version_is_not (big_number 4 run) other) in
     stops_at call_head v (record { at = v.at; reason = RpcVersion })
     (version_stops v.body v.at (record { at = v.at; reason = RpcVersion }) refused_there)
 
 -- the words before the credential's flavor, and that word
 record IsNamed (v : View) (run : List ℕ) : Type 0 where
-  rpcvers : word_at (is_listed rpc_versions) RpcVersion v.body v.at ≡ Ok (2, v.at + 4)
+  rpcvers : word_at (is_listed (2 ∷ [])) RpcVersion v.body v.at ≡ Ok (2, v.at + 4)
   prog : word_at is_any BadEnum v.body (v.at + 4) ≡ Ok (big_number 4 (drop 4 run), v.at + 8)
   vers : word_at is_any BadEnum v.body (v.at + 8) ≡ Ok (big_number 4 (drop 8 run), v.at + 12)
   proc : word_at is_any BadEnum v.body (v.at + 12) ≡ Ok (big_number 4 (drop 12 run), v.at + 16)
@@ -184,7 +184,7 @@ named v v1 run e is =
     in
     record {
       rpcvers =
-          run_accepts (is_listed rpc_versions) RpcVersion v.body 2 v.at (v.at + 4)
+          run_accepts (is_listed (2 ∷ [])) RpcVersion v.body 2 v.at (v.at + 4)
           (rpcvers ∙ ap (λ (n : ℕ). Ok (n, v.at + 4)) is) refl;
       prog =
           run_accepts is_any BadEnum v.body (big_number 4 (drop 4 run)) (v.at + 4) (v.at + 8) prog
@@ -207,7 +207,7 @@ unfolding reading call_head credential opening_in
 flavor_refused v v1 run e is more =
     let w = named v v1 run e is in
     let flavor =
-    run_refuses (is_listed credential_flavors) Flavor v.body (big_number 4 (drop 16 run))
+    run_refuses (is_listed (0 ∷ 1 ∷ [])) Flavor v.body (big_number 4 (drop 16 run))
     (v.at + 16) (v.at + 20) w.flavor (flavor_is_not (big_number 4 (drop 16 run)) more) in
     stops_at call_head v (record { at = v.at + 16; reason = Flavor })
     (rw (w.rpcvers, w.prog, w.vers, w.proc, flavor) refl)
@@ -225,20 +225,20 @@ pub run_size_is : (size : ℕ) (body run : List ℕ) (at to : ℕ) → run_at si
 run_size_is size body run at to e = (run_takes size body run at to e).len_is
 
 passed_words : (a0 a1 b c0 c1 d0 d1 f0 f1 : ℕ) → a0 ≡ a1 → c0 ≡ c1 → d0 ≡ d1 → f0 ≡ f1
-    → (Word head_names.rpcvers a0 ∷ Word head_names.prog b ∷ Word head_names.vers c0
-    ∷ Word head_names.proc d0 ∷ Word head_names.cred_flavor f0 ∷ [])
-    ≡ (Word head_names.rpcvers a1 ∷ Word head_names.prog b ∷ Word head_names.vers c1
-    ∷ Word head_names.proc d1 ∷ Word head_names.cred_flavor f1 ∷ [])
+    → (Word (called "rpcvers") a0 ∷ Word (called "prog") b ∷ Word (called "vers") c0
+    ∷ Word (called "proc") d0 ∷ Word (called "cred_flavor") f0 ∷ [])
+    ≡ (Word (called "rpcvers") a1 ∷ Word (called "prog") b ∷ Word (called "vers") c1
+    ∷ Word (called "proc") d1 ∷ Word (called "cred_flavor") f1 ∷ [])
 passed_words a0 a1 b c0 c1 d0 d1 f0 f1 a c d f = cc
 
 pub opening_scans : {V : Type 0} (stands : V → List Item → Type 0) (run : List ℕ) (v0 v1 : View)
     (s0 s1 : V) → run_at 20 v0.body v0.at ≡ Ok (run, v1.at) → MovesOn v0 v1
     → big_number 4 (drop 0 run) ≡ 2 → (opening_in run).flavor ≤ 1
-    → Adds stands s0 s1 (Word head_names.rpcvers (big_number 4 run)
-    ∷ Word head_names.prog (big_number 4 (drop 4 run))
-    ∷ Word head_names.vers (big_number 4 (drop 4 (drop 4 run)))
-    ∷ Word head_names.proc (big_number 4 (drop 4 (drop 4 (drop 4 run))))
-    ∷ Word head_names.cred_flavor (big_number 4 (drop 4 (drop 4 (drop 4 (drop 4 run)))))
+    → Adds stands s0 s1 (Word (called "rpcvers") (big_number 4 run)
+    ∷ Word (called "prog") (big_number 4 (drop 4 run))
+    ∷ Word (called "vers") (big_number 4 (drop 4 (drop 4 run)))
+    ∷ Word (called "proc") (big_number 4 (drop 4 (drop 4 (drop 4 run))))
+    ∷ Word (called "cred_flavor") (big_number 4 (drop 4 (drop 4 (drop 4 (drop 4 run)))))
     ∷ [])
     → ScansOpening stands (opening_in run) v0 v1 s0 s1
 unfolding opening_in
@@ -246,7 +246,7 @@ opening_scans stands run v0 v1 s0 s1 e moves is few a =
     let w = named v0 v1 run e is in
     let end : v0.at + 20 ≡ v1.at = run_ends 20 v0.body run v0.at v1.at e in
     let flavor =
-    run_accepts (is_listed credential_flavors) Flavor v0.body (big_number 4 (drop 16 run))
+    run_accepts (is_listed (0 ∷ 1 ∷ [])) Flavor v0.body (big_number 4 (drop 16 run))
     (v0.at + 16) (v0.at + 20) w.flavor (flavor_is (big_number 4 (drop 16 run)) few) in
     let d8 : drop 4 (drop 4 run) ≡ drop 8 run = drop-drop 4 4 run in
     let d12 : drop 4 (drop 4 (drop 4 run)) ≡ drop 12 run = ap (drop 4) d8 ∙ drop-drop 4 8 run in
@@ -283,22 +283,22 @@ head_scanned stands opening v0 v1 v2 v3 s0 s1 s2 s3 o c v =
     let third : reading verifier v0.body v2.at ≡ Ok (v.0, v3.at) =
     subst (λ (body : List ℕ). reading verifier body v2.at ≡ Ok (v.0, v3.at)) body2 v.1 in
     let items =
-    Word head_names.rpcvers 2 ∷ Word head_names.prog opening.id.prog
-    ∷ Word head_names.vers opening.id.vers ∷ Word head_names.proc opening.id.proc_no
-    ∷ Word head_names.cred_flavor opening.flavor ∷ (c.0 ++ v.0) in (
-      Word head_names.rpcvers 2 ∷ Word head_names.prog opening.id.prog
-          ∷ Word head_names.vers opening.id.vers ∷ Word head_names.proc opening.id.proc_no
-          ∷ Word head_names.cred_flavor opening.flavor ∷ (c.0 ++ v.0),
+    Word (called "rpcvers") 2 ∷ Word (called "prog") opening.id.prog
+    ∷ Word (called "vers") opening.id.vers ∷ Word (called "proc") opening.id.proc_no
+    ∷ Word (called "cred_flavor") opening.flavor ∷ (c.0 ++ v.0) in (
+      Word (called "rpcvers") 2 ∷ Word (called "prog") opening.id.prog
+          ∷ Word (called "vers") opening.id.vers ∷ Word (called "proc") opening.id.proc_no
+          ∷ Word (called "cred_flavor") opening.flavor ∷ (c.0 ++ v.0),
       rw (o.rpcvers, o.prog, o.vers, o.proc, o.flavor, second, third) refl,
       refl,
       moves_both v0 v1 v3 o.moves (moves_both v1 v2 v3 c.2 v.2),
       adds_joined stands s0 s1 s3
-          (Word head_names.rpcvers 2 ∷ Word head_names.prog opening.id.prog
-          ∷ Word head_names.vers opening.id.vers ∷ Word head_names.proc opening.id.proc_no
-          ∷ Word head_names.cred_flavor opening.flavor ∷ []) (c.0 ++ v.0)
-          (Word head_names.rpcvers 2 ∷ Word head_names.prog opening.id.prog
-          ∷ Word head_names.vers opening.id.vers ∷ Word head_names.proc opening.id.proc_no
-          ∷ Word head_names.cred_flavor opening.flavor ∷ (c.0 ++ v.0)) o.adds
+          (Word (called "rpcvers") 2 ∷ Word (called "prog") opening.id.prog
+          ∷ Word (called "vers") opening.id.vers ∷ Word (called "proc") opening.id.proc_no
+          ∷ Word (called "cred_flavor") opening.flavor ∷ []) (c.0 ++ v.0)
+          (Word (called "rpcvers") 2 ∷ Word (called "prog") opening.id.prog
+          ∷ Word (called "vers") opening.id.vers ∷ Word (called "proc") opening.id.proc_no
+          ∷ Word (called "cred_flavor") opening.flavor ∷ (c.0 ++ v.0)) o.adds
           (adds_joined stands s1 s2 s3 c.0 v.0 (c.0 ++ v.0) c.3 v.3 refl) refl,
     )
 

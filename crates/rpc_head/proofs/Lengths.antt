@@ -1,5 +1,5 @@
 -- How many bytes the body of a credential has.
-use Rattle.rpc_head.proofs.Common.{◌≡◌, ℕ, ◌+◌, ◌*◌, List, [], ◌∷◌, ◌++◌, length, replicate, arith, flat_map, count_items, group_items, head_names}
+use Rattle.rpc_head.proofs.Common.{◌≡◌, ℕ, ◌+◌, ◌*◌, List, [], ◌∷◌, ◌++◌, length, replicate, arith, flat_map, count_items, group_items, called}
 use Rattle.std.proofs.lemmas.List.{length-append, length-replicate}
 use Rattle.xdr3.specs.Item.{Item, Opaque, Text, Word, followed_by, residue, word_bytes, zero_spelling, zero_spelling_of}
 use Rattle.xdr3.proofs.Lemmas.Shapes.Walks.{length-zero_spelling}
@@ -31,13 +31,13 @@ pub body_length : (s : AuthSys)
 unfolding followed_by
 body_length s =
     let front : List Item =
-    Word head_names.stamp s.stamp ∷ Opaque Text head_names.machinename s.machinename.now
-    ∷ Word head_names.uid s.uid ∷ Word head_names.gid s.gid ∷ [] in
-    let name = zero_spelling_of (Opaque Text head_names.machinename s.machinename.now) in
+    Word (called "stamp") s.stamp ∷ Opaque Text (called "machinename") s.machinename.now
+    ∷ Word (called "uid") s.uid ∷ Word (called "gid") s.gid ∷ [] in
+    let name = zero_spelling_of (Opaque Text (called "machinename") s.machinename.now) in
     omega (
       arith,
       length-zero_spelling front (count_items (groups_of s.gids)),
       length-append name (word_bytes s.uid ++ (word_bytes s.gid ++ [])),
-      opaque_length head_names.machinename s.machinename.now,
+      opaque_length (called "machinename") s.machinename.now,
       groups_length (groups_of s.gids),
     )

@@ -1,6 +1,5 @@
 pub mod Common
 pub mod Lengths
-pub mod Limits
 pub mod Messages
 pub mod MessageStartLemmas
 pub mod HeadScanLemmas

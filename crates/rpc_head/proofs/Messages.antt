@@ -1,5 +1,5 @@
 -- A message is read as its parts are: its first two words, its head, and what the head chooses.
-use Rattle.rpc_head.proofs.Common.{◌≡◌, ℕ, Bool, true, false, cond, List, [], ◌∷◌, ◌++◌, Ok, Err, refl, sym, ap, subst, ◌∙◌, Stop, Item, Word, head_names, BadEnum, RpcVersion, ◌>>=◌, number_at, reading, refused, word_at, MessageStart, start_items}
+use Rattle.rpc_head.proofs.Common.{◌≡◌, ℕ, Bool, true, false, cond, List, [], ◌∷◌, ◌++◌, Ok, Err, refl, sym, ap, subst, ◌∙◌, Stop, Item, Word, called, BadEnum, RpcVersion, ◌>>=◌, number_at, reading, refused, word_at, MessageStart, start_items}
 use Rattle.xdr3.specs.Layout.{Layout, after, exactly, reading_layout}
 use Rattle.xdr3.specs.Shape.{Shape, ◌then◌, both, choose, is_any, is_listed, listed, nothing, word}
 use Rattle.xdr3.specs.View.{word_of}
@@ -7,8 +7,8 @@ use Rattle.xdr3.proofs.Lemmas.Reading.Bytes.{accept_ok, bind_ok, ok_is}
 use Rattle.xdr3.proofs.Lemmas.Reading.Linked.{with_front}
 use Rattle.rpc_head.specs.declared.values.call.ProcId.{ProcId}
 use Rattle.rpc_head.specs.HeadScan.{procedure_in_head, success_in_head}
-use Rattle.rpc_head.specs.Messages.{call_layout, call_start, has_results, procedure_in, reply_layout, reply_start}
-use Rattle.rpc_head.specs.Shapes.{call_head, credential, message_start, message_types, reply_head, rpc_versions, verifier}
+use Rattle.rpc_head.specs.Messages.{call_layout, start_of_type, has_results, procedure_in, reply_layout}
+use Rattle.rpc_head.specs.Shapes.{call_head, credential, message_start, reply_head, verifier}
 
 -- ---- the first two words
 
@@ -47,18 +47,18 @@ one_read name accepted body at z e =
 types_narrowed : (fewer body : List ℕ) (s : MessageStart) (at to : ℕ)
     → reading message_start body at ≡ Ok (start_items s, to)
     → is_listed fewer (word_of s.is_reply) ≡ true
-    → reading (word head_names.xid then listed head_names.mtype fewer) body at
+    → reading (word (called "xid") then listed (called "mtype") fewer) body at
     ≡ Ok (start_items s, to)
 unfolding message_start reading
 types_narrowed fewer body s at to e is =
     let z =
-    both_read (word head_names.xid) (listed head_names.mtype message_types) body at
+    both_read (word (called "xid")) (listed (called "mtype") (0 ∷ 1 ∷ [])) body at
     (start_items s, to) e in
-    let x = one_read head_names.xid is_any body at z.0 z.2 in
-    let y = one_read head_names.mtype (is_listed message_types) body z.0.1 z.1 z.3 in
-    let whole : (Word head_names.xid x.0.0 ∷ Word head_names.mtype y.0.0 ∷ [], y.0.1)
+    let x = one_read (called "xid") is_any body at z.0 z.2 in
+    let y = one_read (called "mtype") (is_listed (0 ∷ 1 ∷ [])) body z.0.1 z.1 z.3 in
+    let whole : (Word (called "xid") x.0.0 ∷ Word (called "mtype") y.0.0 ∷ [], y.0.1)
     ≡ (start_items s, to) =
-    ap (λ (v : List Item × ℕ). (Word head_names.xid x.0.0 ∷ v.0, v.1)) y.2
+    ap (λ (v : List Item × ℕ). (Word (called "xid") x.0.0 ∷ v.0, v.1)) y.2
     ∙ ap (λ (v : List Item × ℕ). (v.0 ++ z.1.0, z.1.1)) x.2 ∙ z.4 in
     let mtype : y.0.0 ≡ word_of s.is_reply = cc (ap (λ (v : List Item × ℕ). v.0) whole) in
     let accepted : is_listed fewer y.0.0 ≡ true =
@@ -66,19 +66,19 @@ types_narrowed fewer body s at to e is =
     let place : z.0.1 ≡ x.0.1 = sym (ap (λ (v : List Item × ℕ). v.1) x.2) in
     let narrow =
     subst (λ p. word_at (is_listed fewer) BadEnum body p ≡ Ok y.0) place
-    (word_narrowed message_types fewer body y.0.0 z.0.1 y.0.1 y.1 accepted) in
+    (word_narrowed (0 ∷ 1 ∷ []) fewer body y.0.0 z.0.1 y.0.1 y.1 accepted) in
     rw (x.1, narrow) (ap (λ (v : List Item × ℕ). Ok v) whole)
 
 pub call_started : (body : List ℕ) (s : MessageStart) (at to : ℕ)
     → reading message_start body at ≡ Ok (start_items s, to) → s.is_reply ≡ false
-    → reading call_start body at ≡ Ok (start_items s, to)
-unfolding call_start
+    → reading (start_of_type 0) body at ≡ Ok (start_items s, to)
+unfolding start_of_type
 call_started body s at to e is = types_narrowed (0 ∷ []) body s at to e (rw is refl)
 
 pub reply_started : (body : List ℕ) (s : MessageStart) (at to : ℕ)
     → reading message_start body at ≡ Ok (start_items s, to) → s.is_reply ≡ true
-    → reading reply_start body at ≡ Ok (start_items s, to)
-unfolding reply_start
+    → reading (start_of_type 1) body at ≡ Ok (start_items s, to)
+unfolding start_of_type
 reply_started body s at to e is = types_narrowed (1 ∷ []) body s at to e (rw is refl)
 
 -- ---- whole messages
@@ -123,32 +123,32 @@ unfolding reading call_head
 procedure_read body xs more at to e =
     let last = credential then verifier in
     let n =
-    bind_ok (word_at (is_listed rpc_versions) RpcVersion body at)
+    bind_ok (word_at (is_listed (2 ∷ [])) RpcVersion body at)
     (λ n.
     reading
-    (word head_names.prog then word head_names.vers then word head_names.proc then last)
-    body n.1 >>= λ l. Ok (Word head_names.rpcvers n.0 ∷ l.0, l.1)) (xs, to) e in
+    (word (called "prog") then word (called "vers") then word (called "proc") then last)
+    body n.1 >>= λ l. Ok (Word (called "rpcvers") n.0 ∷ l.0, l.1)) (xs, to) e in
     let m =
     bind_ok
     (reading
-    (word head_names.prog then word head_names.vers then word head_names.proc then last)
-    body n.0.1) (λ l. Ok (Word head_names.rpcvers n.0.0 ∷ l.0, l.1)) (xs, to) n.2 in
-    let all = ok_is (Word head_names.rpcvers n.0.0 ∷ m.0.0, m.0.1) (xs, to) m.2 in
+    (word (called "prog") then word (called "vers") then word (called "proc") then last)
+    body n.0.1) (λ l. Ok (Word (called "rpcvers") n.0.0 ∷ l.0, l.1)) (xs, to) n.2 in
+    let all = ok_is (Word (called "rpcvers") n.0.0 ∷ m.0.0, m.0.1) (xs, to) m.2 in
     let prog =
-    then_word head_names.prog (word head_names.vers then word head_names.proc then last) body n.0.1
+    then_word (called "prog") (word (called "vers") then word (called "proc") then last) body n.0.1
     m.0 m.1 in
     let vers =
-    then_word head_names.vers (word head_names.proc then last) body prog.2 prog.1 prog.3 in
-    let proc = then_word head_names.proc last body vers.2 vers.1 vers.3 in
-    let are : Word head_names.rpcvers n.0.0 ∷ Word head_names.prog prog.0
-    ∷ Word head_names.vers vers.0 ∷ Word head_names.proc proc.0 ∷ proc.1.0 ≡ xs =
+    then_word (called "vers") (word (called "proc") then last) body prog.2 prog.1 prog.3 in
+    let proc = then_word (called "proc") last body vers.2 vers.1 vers.3 in
+    let are : Word (called "rpcvers") n.0.0 ∷ Word (called "prog") prog.0
+    ∷ Word (called "vers") vers.0 ∷ Word (called "proc") proc.0 ∷ proc.1.0 ≡ xs =
     ap
     (λ (l : List Item).
-    Word head_names.rpcvers n.0.0 ∷ Word head_names.prog prog.0
-    ∷ Word head_names.vers vers.0 ∷ l) (sym proc.4)
-    ∙ ap (λ (l : List Item). Word head_names.rpcvers n.0.0 ∷ Word head_names.prog prog.0 ∷ l)
+    Word (called "rpcvers") n.0.0 ∷ Word (called "prog") prog.0
+    ∷ Word (called "vers") vers.0 ∷ l) (sym proc.4)
+    ∙ ap (λ (l : List Item). Word (called "rpcvers") n.0.0 ∷ Word (called "prog") prog.0 ∷ l)
     (sym vers.4)
-    ∙ ap (λ (l : List Item). Word head_names.rpcvers n.0.0 ∷ l) (sym prog.4)
+    ∙ ap (λ (l : List Item). Word (called "rpcvers") n.0.0 ∷ l) (sym prog.4)
     ∙ ap (λ (v : List Item × ℕ). v.0) all in
     subst (λ (l : List Item). procedure_in_head (l ++ more) ≡ procedure_in_head l) are refl
 
@@ -159,8 +159,8 @@ pub call_read : (arguments : ProcId → Layout) (body : List ℕ) (s : MessageSt
     ≡ with_front (start_items s ++ xs) (reading_layout (arguments (procedure_in_head xs)) body end)
 unfolding call_layout
 call_read arguments body s xs at head end start is read =
-    layout_read call_start call_head (λ items. arguments (procedure_in items)) body (start_items s)
-    xs at head end (call_started body s at head start is) read
+    layout_read (start_of_type 0) call_head (λ items. arguments (procedure_in items)) body
+    (start_items s) xs at head end (call_started body s at head start is) read
 
 pub call_head_refused : (arguments : ProcId → Layout) (body : List ℕ) (s : MessageStart)
     (stop : Stop) (at head : ℕ) → reading message_start body at ≡ Ok (start_items s, head)
@@ -168,8 +168,8 @@ pub call_head_refused : (arguments : ProcId → Layout) (body : List ℕ) (s : M
     → reading_layout (call_layout arguments) body at ≡ Err stop
 unfolding call_layout
 call_head_refused arguments body s stop at head start is read =
-    head_refused call_start call_head (λ items. arguments (procedure_in items)) body (start_items s)
-    stop at head (call_started body s at head start is) read
+    head_refused (start_of_type 0) call_head (λ items. arguments (procedure_in items)) body
+    (start_items s) stop at head (call_started body s at head start is) read
 
 -- ---- replies
 
@@ -181,8 +181,9 @@ pub reply_read : (results : Layout) (body : List ℕ) (s : MessageStart) (xs : L
     (reading_layout (cond (success_in_head xs) results (exactly nothing)) body end)
 unfolding reply_layout
 reply_read results body s xs at head end start is read =
-    layout_read reply_start reply_head (λ items. cond (has_results items) results (exactly nothing))
-    body (start_items s) xs at head end (reply_started body s at head start is) read
+    layout_read (start_of_type 1) reply_head
+    (λ items. cond (has_results items) results (exactly nothing)) body (start_items s) xs at head
+    end (reply_started body s at head start is) read
 
 pub reply_head_refused : (results : Layout) (body : List ℕ) (s : MessageStart) (stop : Stop)
     (at head : ℕ) → reading message_start body at ≡ Ok (start_items s, head) → s.is_reply ≡ true
@@ -190,6 +191,6 @@ pub reply_head_refused : (results : Layout) (body : List ℕ) (s : MessageStart)
     → reading_layout (reply_layout results) body at ≡ Err stop
 unfolding reply_layout
 reply_head_refused results body s stop at head start is read =
-    head_refused reply_start reply_head
+    head_refused (start_of_type 1) reply_head
     (λ items. cond (has_results items) results (exactly nothing)) body (start_items s) stop at
     head (reply_started body s at head start is) read

@@ -1,5 +1,5 @@
 -- The user and the groups of a caller, which are read as runs.
-use Rattle.rpc_head.proofs.Common.{IfErr, OnOk, big_number, GetError, Item, Word, Scans, Stops, MovesOn, View, Adds, adds_joined, short_after, head_names, gids}
+use Rattle.rpc_head.proofs.Common.{IfErr, OnOk, big_number, GetError, Item, Word, Scans, Stops, MovesOn, View, Adds, adds_joined, short_after, called, gids}
 use Rattle.std.proofs.Common.{inl, inr, ◌≡◌, ℕ, zero, suc, ◌+◌, ◌-◌, ◌*◌, ◌/◌, ◌<◌, ◌≤◌, true, false, List, [], ◌∷◌, ◌++◌, length, take, drop, replicate, Result, Ok, Err, refl, sym, ap, subst, ◌∙◌, arith}
 use Rattle.std.proofs.lemmas.Bool.{cases_lt, le-leb, lt-leb, lt-ltb}
 use Rattle.std.proofs.lemmas.List.{drop-drop, take-replicate}
@@ -15,7 +15,7 @@ use Rattle.rpc_head.proofs.HeadRunLemmas.{later_stop, one_short, run_accepts, ru
 
 -- ---- the groups
 
-fields_shape : (n : ℕ) (g : PlainField) → shape_of g ≡ word head_names.group
+fields_shape : (n : ℕ) (g : PlainField) → shape_of g ≡ word (called "group")
     → run_shape (replicate n g) ≡ group_words n
 fields_shape zero g is = refl
 fields_shape (suc n) g is = let more = fields_shape n g is in rw (is, more) refl
@@ -24,7 +24,7 @@ fields_size : (n : ℕ) (g : PlainField) → width g ≡ 4 → run_size (replica
 fields_size zero g is = refl
 fields_size (suc n) g is = let more = fields_size n g is in omega (arith, is, more)
 
-pub groups_shape : (n : ℕ) (g : PlainField) → n ≤ 16 → shape_of g ≡ word head_names.group
+pub groups_shape : (n : ℕ) (g : PlainField) → n ≤ 16 → shape_of g ≡ word (called "group")
     → run_shape (take n (replicate 16 g)) ≡ group_words n
 groups_shape n g few is = ap run_shape (take-replicate n 16 g few) ∙ fields_shape n g is
 
@@ -43,12 +43,12 @@ glue_same (Ok x) f g same =
 glue_same (Err stop) f g same = refl
 
 times_reads : (n : ℕ) (body : List ℕ) (at : ℕ)
-    → reading (group_words n) body at ≡ times_at (reading (word head_names.group)) n body at
+    → reading (group_words n) body at ≡ times_at (reading (word (called "group"))) n body at
 unfolding reading glue
 times_reads zero body at = refl
 times_reads (suc n) body at =
-    glue_same (reading (word head_names.group) body at) (λ k. reading (group_words n) body k)
-    (λ k. times_at (reading (word head_names.group)) n body k) (λ k. times_reads n body k)
+    glue_same (reading (word (called "group")) body at) (λ k. reading (group_words n) body k)
+    (λ k. times_at (reading (word (called "group"))) n body k) (λ k. times_reads n body k)
 
 -- ---- the user, the group and the number of groups
 
@@ -103,16 +103,16 @@ owner_short v few within =
     let left = length v.body - v.at in
     stops_at owner v (short_after v.at (length v.body - v.at)) (
     elim (cases_lt (length v.body - v.at) 4) [
-      | inl lt ↦ one_short head_names.uid is_any BadEnum (λ n. nothing)
-          (word head_names.gid then gids) v.body v.at (v.at + (length v.body - v.at) / 4 * 4)
+      | inl lt ↦ one_short (called "uid") is_any BadEnum (λ n. nothing)
+          (word (called "gid") then gids) v.body v.at (v.at + (length v.body - v.at) / 4 * 4)
           (omega (arith, lt, within)) (omega (arith, lt))
-      | inr le ↦ later_stop head_names.uid (word head_names.gid then gids) v.body v.at
+      | inr le ↦ later_stop (called "uid") (word (called "gid") then gids) v.body v.at
           (short_after v.at (length v.body - v.at)) (omega (arith, le, within)) (
           elim (cases_lt (length v.body - v.at) 8) [
-            | inl lt ↦ one_short head_names.gid is_any BadEnum (λ n. nothing) gids v.body (v.at + 4)
+            | inl lt ↦ one_short (called "gid") is_any BadEnum (λ n. nothing) gids v.body (v.at + 4)
                 (v.at + (length v.body - v.at) / 4 * 4) (omega (arith, lt, within))
                 (omega (arith, le, lt))
-            | inr le8 ↦ later_stop head_names.gid gids v.body (v.at + 4)
+            | inr le8 ↦ later_stop (called "gid") gids v.body (v.at + 4)
                 (short_after v.at (length v.body - v.at)) (omega (arith, le8, within))
                 (gids_short v.body (v.at + 4 + 4) (v.at + (length v.body - v.at) / 4 * 4)
                 (omega (arith, few, within)) (omega (arith, few, within, le8)))
@@ -122,9 +122,9 @@ owner_short v few within =
 pub owner_scans : {V : Type 0} (stands : V → List Item → Type 0) (run : List ℕ) (v0 v1 v2 : View)
     (s0 s1 s2 : V) → run_at 12 v0.body v0.at ≡ Ok (run, v1.at) → MovesOn v0 v1
     → big_number 4 (drop 8 run) ≤ 16
-    → Adds stands s0 s1 (Word head_names.uid (big_number 4 run)
-    ∷ Word head_names.gid (big_number 4 (drop 4 run))
-    ∷ Word head_names.gids (big_number 4 (drop 4 (drop 4 run))) ∷ [])
+    → Adds stands s0 s1 (Word (called "uid") (big_number 4 run)
+    ∷ Word (called "gid") (big_number 4 (drop 4 run))
+    ∷ Word (called "gids") (big_number 4 (drop 4 (drop 4 run))) ∷ [])
     → Scans stands (group_words (big_number 4 (drop 8 run))) (v1, s1) (v2, s2)
     → Scans stands owner (v0, s0) (v2, s2)
 unfolding Scans reading owner gids
@@ -141,26 +141,26 @@ owner_scans stands run v0 v1 v2 s0 s1 s2 e moves few a y =
     (λ (body : List ℕ).
     reading (group_words (big_number 4 (drop 8 run))) body v1.at ≡ Ok (y.0, v2.at))
     moves.same_body y.1 in
-    let parts : times_at (reading (word head_names.group)) (big_number 4 (drop 8 run)) v0.body v1.at
+    let parts : times_at (reading (word (called "group"))) (big_number 4 (drop 8 run)) v0.body v1.at
     ≡ Ok (y.0, v2.at) = sym (times_reads (big_number 4 (drop 8 run)) v0.body v1.at) ∙ there in
     let d8 : drop 4 (drop 4 run) ≡ drop 8 run = drop-drop 4 4 run in
-    let passed : Adds stands s0 s1 (Word head_names.uid (big_number 4 run)
-    ∷ Word head_names.gid (big_number 4 (drop 4 run))
-    ∷ Word head_names.gids (big_number 4 (drop 8 run)) ∷ []) =
+    let passed : Adds stands s0 s1 (Word (called "uid") (big_number 4 run)
+    ∷ Word (called "gid") (big_number 4 (drop 4 run))
+    ∷ Word (called "gids") (big_number 4 (drop 8 run)) ∷ []) =
     subst
     (λ (x : List ℕ).
-    Adds stands s0 s1 (Word head_names.uid (big_number 4 run)
-    ∷ Word head_names.gid (big_number 4 (drop 4 run))
-    ∷ Word head_names.gids (big_number 4 x) ∷ [])) d8 a in (
-      Word head_names.uid (big_number 4 run) ∷ Word head_names.gid (big_number 4 (drop 4 run))
-          ∷ Word head_names.gids (big_number 4 (drop 8 run)) ∷ y.0,
+    Adds stands s0 s1 (Word (called "uid") (big_number 4 run)
+    ∷ Word (called "gid") (big_number 4 (drop 4 run))
+    ∷ Word (called "gids") (big_number 4 x) ∷ [])) d8 a in (
+      Word (called "uid") (big_number 4 run) ∷ Word (called "gid") (big_number 4 (drop 4 run))
+          ∷ Word (called "gids") (big_number 4 (drop 8 run)) ∷ y.0,
       rw (w.uid, w.gid, count, parts) refl,
       moves_both v0 v1 v2 moves y.2,
       adds_joined stands s0 s1 s2
-          (Word head_names.uid (big_number 4 run) ∷ Word head_names.gid (big_number 4 (drop 4 run))
-          ∷ Word head_names.gids (big_number 4 (drop 8 run)) ∷ []) y.0
-          (Word head_names.uid (big_number 4 run) ∷ Word head_names.gid (big_number 4 (drop 4 run))
-          ∷ Word head_names.gids (big_number 4 (drop 8 run)) ∷ y.0) passed y.3 refl,
+          (Word (called "uid") (big_number 4 run) ∷ Word (called "gid") (big_number 4 (drop 4 run))
+          ∷ Word (called "gids") (big_number 4 (drop 8 run)) ∷ []) y.0
+          (Word (called "uid") (big_number 4 run) ∷ Word (called "gid") (big_number 4 (drop 4 run))
+          ∷ Word (called "gids") (big_number 4 (drop 8 run)) ∷ y.0) passed y.3 refl,
     )
 
 pub groups_stop : (run : List ℕ) (v0 v1 : View) (error : GetError)
@@ -178,7 +178,7 @@ groups_stop run v0 v1 error e moves few h = λ stop is.
     subst
     (λ (body : List ℕ). reading (group_words (big_number 4 (drop 8 run))) body v1.at ≡ Err stop)
     moves.same_body (h stop is) in
-    let cut : times_at (reading (word head_names.group)) (big_number 4 (drop 8 run)) v0.body v1.at
+    let cut : times_at (reading (word (called "group"))) (big_number 4 (drop 8 run)) v0.body v1.at
     ≡ Err stop = sym (times_reads (big_number 4 (drop 8 run)) v0.body v1.at) ∙ there in
     rw (w.uid, w.gid, count, cut) refl
 
@@ -187,9 +187,9 @@ groups_stop run v0 v1 error e moves few h = λ stop is.
 pub owner_scanned : {V X : Type 0} (stands : V → List Item → Type 0) (run : List ℕ)
     (v0 v1 v2 : View) (s0 s1 s2 : V) (r : Result X GetError)
     → run_at 12 v0.body v0.at ≡ Ok (run, v1.at) → MovesOn v0 v1 → big_number 4 (drop 8 run) ≤ 16
-    → Adds stands s0 s1 (Word head_names.uid (big_number 4 run)
-    ∷ Word head_names.gid (big_number 4 (drop 4 run))
-    ∷ Word head_names.gids (big_number 4 (drop 4 (drop 4 run))) ∷ [])
+    → Adds stands s0 s1 (Word (called "uid") (big_number 4 run)
+    ∷ Word (called "gid") (big_number 4 (drop 4 run))
+    ∷ Word (called "gids") (big_number 4 (drop 4 (drop 4 run))) ∷ [])
     → OnOk r (Scans stands (group_words (big_number 4 (drop 8 run))) (v1, s1) (v2, s2))
     → OnOk r (Scans stands owner (v0, s0) (v2, s2))
 owner_scanned stands run v0 v1 v2 s0 s1 s2 (Ok x) e moves few a h =
@@ -208,12 +208,12 @@ owner_stopped run v0 v1 (Err error) e moves few h = groups_stop run v0 v1 error 
 pub whole_scans : {V X : Type 0} (stands : V → List Item → Type 0) (v0 v1 : View) (s0 s1 : V)
     (r : Result X GetError) → OnOk r (Scans stands owner (v0, s0) (v1, s1))
     → OnOk r
-    (Scans stands (word head_names.uid then word head_names.gid then gids) (v0, s0) (v1, s1))
+    (Scans stands (word (called "uid") then word (called "gid") then gids) (v0, s0) (v1, s1))
 unfolding owner
 whole_scans stands v0 v1 s0 s1 r h = h
 
 pub whole_stops : {X : Type 0} (v0 : View) (r : Result X GetError) → IfErr r (λ e. Stops owner v0 e)
-    → IfErr r (λ e. Stops (word head_names.uid then word head_names.gid then gids) v0 e)
+    → IfErr r (λ e. Stops (word (called "uid") then word (called "gid") then gids) v0 e)
 unfolding owner
 whole_stops v0 r h = h
 

@@ -1,14 +1,13 @@
 -- Messages worked by hand: how their bytes are laid out.
 use Rattle.std.specs.Prelude.{◌≡◌, ℕ, ◌==◌, if◌then◌else◌, List, [], ◌∷◌, ◌++◌, Ok, codes}
 use Rattle.xdr3.specs.declared.reason.Reason.TheVariants.{BadEnum}
-use Rattle.xdr3.specs.Item.{Item, Handle, Opaque, Rest, Text, Var, Word}
+use Rattle.xdr3.specs.Item.{Item, Handle, Opaque, Rest, Text, Var, Word, called}
 use Rattle.xdr3.specs.Examples.{words}
 use Rattle.xdr3.specs.Layout.{Layout, exactly, rest, reading_layout}
 use Rattle.xdr3.specs.Reading.{refused}
 use Rattle.xdr3.specs.Shape.{nothing, opaque}
 use Rattle.rpc_head.specs.declared.values.call.ProcId.{ProcId}
 use Rattle.rpc_head.specs.Messages.{call_layout, reply_layout}
-use Rattle.rpc_head.specs.Names.{head_names}
 
 -- a file handle in procedure 1, nothing in any other
 abbrev pub handle_in_one : ProcId → Layout
@@ -18,11 +17,11 @@ handle_in_one id =
 -- the items of a call of procedure number in version 3 of program 100003, from xid 7 to proc
 abbrev pub call_to : ℕ → List Item → List Item
 call_to number more =
-    Word head_names.xid 7 ∷ Word head_names.mtype 0 ∷ Word head_names.rpcvers 2
-    ∷ Word head_names.prog 100003 ∷ Word head_names.vers 3 ∷ Word head_names.proc number ∷ more
+    Word (called "xid") 7 ∷ Word (called "mtype") 0 ∷ Word (called "rpcvers") 2
+    ∷ Word (called "prog") 100003 ∷ Word (called "vers") 3 ∷ Word (called "proc") number ∷ more
 
 abbrev pub no_verifier : List Item → List Item
-no_verifier more = Word head_names.verf_flavor 0 ∷ Opaque Var head_names.verf_body [] ∷ more
+no_verifier more = Word (called "verf_flavor") 0 ∷ Opaque Var (called "verf_body") [] ∷ more
 
 abbrev pub plain_call : ℕ → List ℕ
 plain_call number = words (7 ∷ 0 ∷ 2 ∷ 100003 ∷ 3 ∷ number ∷ 0 ∷ 0 ∷ 0 ∷ 0 ∷ [])
@@ -36,23 +35,23 @@ system_call =
 pub record Calls : Type 0 where
   pub no_arguments : reading_layout (call_layout handle_in_one) (plain_call 0) 0
       ≡ Ok (
-        call_to 0 (Word head_names.cred_flavor 0 ∷ Opaque Var head_names.cred_body []
+        call_to 0 (Word (called "cred_flavor") 0 ∷ Opaque Var (called "cred_body") []
             ∷ no_verifier []),
         40,
       )
   pub one_argument : reading_layout (call_layout handle_in_one) (plain_call 1
       ++ words (1 ∷ 4278190080 ∷ [])) 0
       ≡ Ok (
-        call_to 1 (Word head_names.cred_flavor 0 ∷ Opaque Var head_names.cred_body []
+        call_to 1 (Word (called "cred_flavor") 0 ∷ Opaque Var (called "cred_body") []
             ∷ no_verifier (Opaque Handle (codes "fh") (255 ∷ []) ∷ [])),
         48,
       )
   pub by_system : reading_layout (call_layout handle_in_one) system_call 0
       ≡ Ok (
-        call_to 0 (Word head_names.cred_flavor 1 ∷ Word head_names.cred_length 28
-            ∷ Word head_names.stamp 1 ∷ Opaque Text head_names.machinename (97 ∷ 98 ∷ [])
-            ∷ Word head_names.uid 0 ∷ Word head_names.gid 0 ∷ Word head_names.gids 1
-            ∷ Word head_names.group 9 ∷ no_verifier []),
+        call_to 0 (Word (called "cred_flavor") 1 ∷ Word (called "cred_length") 28
+            ∷ Word (called "stamp") 1 ∷ Opaque Text (called "machinename") (97 ∷ 98 ∷ [])
+            ∷ Word (called "uid") 0 ∷ Word (called "gid") 0 ∷ Word (called "gids") 1
+            ∷ Word (called "group") 9 ∷ no_verifier []),
         68,
       )
   pub no_reply : reading_layout (call_layout handle_in_one) (words (7 ∷ 1 ∷ 0 ∷ 0 ∷ 0 ∷ 0 ∷ [])) 0
@@ -63,44 +62,44 @@ abbrev pub reply_of : List ℕ → List ℕ
 reply_of numbers = words (7 ∷ 1 ∷ numbers) ++ 1 ∷ 2 ∷ []
 
 abbrev pub reply_to : List Item → List Item
-reply_to more = Word head_names.xid 7 ∷ Word head_names.mtype 1 ∷ more
+reply_to more = Word (called "xid") 7 ∷ Word (called "mtype") 1 ∷ more
 
 pub record Replies : Type 0 where
   pub success : reading_layout (reply_layout (rest (codes "rest"))) (reply_of (0 ∷ 0 ∷ 0 ∷ 0
       ∷ [])) 0
       ≡ Ok (
-        reply_to (Word head_names.reply_stat 0
-            ∷ no_verifier (Word head_names.accept_stat 0 ∷ Rest (codes "rest") (1 ∷ 2 ∷ [])
+        reply_to (Word (called "reply_stat") 0
+            ∷ no_verifier (Word (called "accept_stat") 0 ∷ Rest (codes "rest") (1 ∷ 2 ∷ [])
             ∷ [])),
         26,
       )
   pub system_error : reading_layout (reply_layout (rest (codes "rest"))) (reply_of (0 ∷ 0 ∷ 0 ∷ 5
       ∷ [])) 0
       ≡ Ok (
-        reply_to (Word head_names.reply_stat 0
-            ∷ no_verifier (Word head_names.accept_stat 5 ∷ [])),
+        reply_to (Word (called "reply_stat") 0
+            ∷ no_verifier (Word (called "accept_stat") 5 ∷ [])),
         24,
       )
   pub program_mismatch : reading_layout (reply_layout (rest (codes "rest"))) (reply_of (0 ∷ 0 ∷ 0
       ∷ 2 ∷ 3 ∷ 3 ∷ [])) 0
       ≡ Ok (
-        reply_to (Word head_names.reply_stat 0
-            ∷ no_verifier (Word head_names.accept_stat 2 ∷ Word head_names.low 3
-            ∷ Word head_names.high 3 ∷ [])),
+        reply_to (Word (called "reply_stat") 0
+            ∷ no_verifier (Word (called "accept_stat") 2 ∷ Word (called "low") 3
+            ∷ Word (called "high") 3 ∷ [])),
         32,
       )
   pub version_mismatch : reading_layout (reply_layout (rest (codes "rest"))) (reply_of (1 ∷ 0 ∷ 0
       ∷ 0 ∷ [])) 0
       ≡ Ok (
-        reply_to (Word head_names.reply_stat 1 ∷ Word head_names.reject_stat 0
-            ∷ Word head_names.low 0 ∷ Word head_names.high 0 ∷ []),
+        reply_to (Word (called "reply_stat") 1 ∷ Word (called "reject_stat") 0
+            ∷ Word (called "low") 0 ∷ Word (called "high") 0 ∷ []),
         24,
       )
   pub authentication_error : reading_layout (reply_layout (rest (codes "rest"))) (reply_of (1 ∷ 1
       ∷ 0 ∷ [])) 0
       ≡ Ok (
-        reply_to (Word head_names.reply_stat 1 ∷ Word head_names.reject_stat 1
-            ∷ Word head_names.auth_stat 0 ∷ []),
+        reply_to (Word (called "reply_stat") 1 ∷ Word (called "reject_stat") 1
+            ∷ Word (called "auth_stat") 0 ∷ []),
         20,
       )
   pub no_call : reading_layout (reply_layout (rest (codes "rest"))) (words (7 ∷ 0 ∷ 0 ∷ 0 ∷ 0 ∷ 0

@@ -1,4 +1,3 @@
-pub mod Names
 pub mod Shapes
 pub mod Gids
 pub mod Groups

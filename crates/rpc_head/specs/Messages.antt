@@ -1,35 +1,34 @@
 -- How whole messages are laid out (RFC 5531, section 9).
-use Rattle.std.specs.Prelude.{Bool, ◌==◌, ◌&&◌, if◌then◌else◌, List, [], ◌∷◌}
-use Rattle.xdr3.specs.Item.{Item}
+use Rattle.std.specs.Prelude.{ℕ, Bool, ◌==◌, ◌&&◌, if◌then◌else◌, List, [], ◌∷◌}
+use Rattle.xdr3.specs.Item.{Item, called}
 use Rattle.xdr3.specs.Layout.{Layout, after, exactly, word_in}
 use Rattle.xdr3.specs.Shape.{Shape, ◌then◌, listed, nothing, word}
 use Rattle.rpc_head.specs.declared.values.call.ProcId.{ProcId}
-use Rattle.rpc_head.specs.Names.{head_names}
 use Rattle.rpc_head.specs.Shapes.{call_head, reply_head}
 
--- an mtype is CALL (0) in a call and REPLY (1) in a reply (RFC 5531, section 9)
-unfoldable pub call_start : Shape
-call_start = word head_names.xid then listed head_names.mtype (0 ∷ [])
+-- rpc_msg up to its mtype: CALL (0) in a call, REPLY (1) in a reply (RFC 5531, section 9)
+unfoldable pub start_of_type : ℕ → Shape
+start_of_type mtype = word (called "xid") then listed (called "mtype") (mtype ∷ [])
 
-unfoldable pub reply_start : Shape
-reply_start = word head_names.xid then listed head_names.mtype (1 ∷ [])
-
--- a call's items begin with xid, mtype, rpcvers, prog, vers and proc
+-- a call's items begin with xid, mtype, rpcvers, prog, vers and proc (RFC 5531, section 9)
 abbrev pub procedure_in : List Item → ProcId
 procedure_in items =
     record { prog = word_in items 3; vers = word_in items 4; proc_no = word_in items 5 }
 
--- a call, whose procedure chooses how its arguments are laid out
+-- a call, whose procedure chooses how its arguments are laid out (RFC 5531, section 9)
 unfoldable pub call_layout : (ProcId → Layout) → Layout
-call_layout arguments = after (call_start then call_head) (λ items. arguments (procedure_in items))
+call_layout arguments =
+    after (start_of_type 0 then call_head) (λ items. arguments (procedure_in items))
 
 -- An accepted reply's items begin with xid, mtype, reply_stat, verf_flavor, verf_body and
--- accept_stat. Results follow where reply_stat is MSG_ACCEPTED (0) and accept_stat is SUCCESS (0).
+-- accept_stat. Results follow if reply_stat is MSG_ACCEPTED (0) and accept_stat is SUCCESS (0) (RFC
+-- 5531, section 9).
 abbrev pub has_results : List Item → Bool
 has_results items = (word_in items 2 == 0) && (word_in items 5 == 0)
 
--- a reply, with these results after an accepted success and nothing after any other head
+-- a reply, with these results after an accepted success and nothing after any other head (RFC 5531,
+-- section 9)
 unfoldable pub reply_layout : Layout → Layout
 reply_layout results =
-    after (reply_start then reply_head)
+    after (start_of_type 1 then reply_head)
     (λ items. if has_results items then results else exactly nothing)

@@ -3,9 +3,7 @@ use Rattle.capture3.specs.Observed.{Observed, Gave}
 use Rattle.capture3.proofs.Lemmas.Reader.ObservedLemmas.{gave_on, plainly_heard, prefix_of_observed, shown_of_all}
 use Rattle.std.specs.declared.hash.BuildHasher as BuildHasher
 use Rattle.std.specs.declared.hash.Hasher as Hasher
-use Rattle.std.specs.Prelude.{Result}
-use Rattle.capture3.specs.ReadEntries.{KeepsOrPasses}
-use Rattle.uses.proofs.Common.{◌≡◌, ◌⊎◌, inl, inr, ℕ, Option, Some, None, Ok, Err, List, [], ◌∷◌, ◌++◌, subst, sym, refl, Adds, Item, Entry, OnRefused, items_of, failure_of, source_of, StandsFor}
+use Rattle.uses.proofs.Common.{◌≡◌, ℕ, Option, Some, None, Ok, Err, List, [], ◌∷◌, ◌++◌, subst, refl, Adds, Item, Entry, OnRefused, items_of, source_of, StandsFor}
 use Rattle.capture3.specs.declared.reader.entries.Entries.{Entries}
 use Rattle.capture3.specs.declared.fault.Error.{Error}
 use Rattle.capture3.specs.declared.fault.Error.TheVariants as errors
@@ -84,27 +82,3 @@ module _ {R S H : Type 0} {builds : BuildHasher.Ghosts S H} {hashes : Hasher.Gho
     refused T errors.Read bytes tells step = tt
     refused T errors.Write bytes tells step = tt
     refused T errors.Memory bytes tells step = tt
-
-    -- a call that lends calls as values may have passed over one for want of memory
-    pub refused_read : {Q : Type 0} (T : Type 0) (error : Error) (bytes : List ℕ)
-        → first.left ≡ Some bytes
-        → HandsOutGiven observed Is old new so_far.given so_far.handed (Err error)
-        ⊎ ((◌≡◌ {A = Result (Option X) Error} (Err error) (Err errors.Memory)) × Q)
-        → OnRefused {X = T} (Err error) (FirstFault bytes)
-    refused_read T error bytes tells (inl step) = refused T error bytes tells step
-    refused_read T error bytes tells (inr (memory, q)) =
-        let same : error ≡ errors.Memory = cc in
-        subst (λ e. OnRefused {X = T} (Err e) (FirstFault bytes)) (sym same) tt
-
--- ---- what a call leaves that lends calls as values
-
-pub handed : {P Q X : Type 0} (next : X)
-    → P ⊎ ((◌≡◌ {A = Result X Error} (Ok next) (Err errors.Memory)) × Q) → P
-handed next (inl p) = p
-handed next (inr (memory, q)) = absurd (cc)
-
-pub going_on : {R S H X : Type 0} {builds : BuildHasher.Ghosts S H} {hashes : Hasher.Ghosts H}
-    {old new : Entries R S H builds hashes} {x : X} → KeepsOrPasses old new (Ok x)
-    → failure_of new ≡ None
-going_on (inl kept) = kept.going
-going_on (inr (memory, before, after)) = after

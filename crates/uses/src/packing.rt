@@ -1,6 +1,6 @@
 //! Two streams in memory packed into a capture.
 
-ghost use Rattle.std.specs.Prelude.{IfOk, List, [], ◌∷◌};
+ghost use Rattle.std.specs.Prelude.{IfOk, [], ◌∷◌};
 ghost use Rattle.packing3.specs.Packing.{HasWrittenCapture, sink_of};
 
 use canon3::Sink;

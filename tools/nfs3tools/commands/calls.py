@@ -36,7 +36,7 @@ The last line has the counts of tools/verdicts, and the line before it how many 
 listed. Connections that are not judged whole are told on standard error, with the reasons. --json
 and --csv print the same for programs.
 
-The recordings are taken as by tools/from_pcap (--port, --no-midstream, --whole-records, --filter,
+The recordings are taken as by tools/from_pcap (--port, --filter,
 patterns in quotes for the parts of one recording); `-` is standard input. The status is 0 if that
 of tools/verdicts is, whatever is listed. It is 1 to 3 as there; --allow-losses and
 --allow-not-checked are the same.
@@ -45,10 +45,8 @@ from __future__ import annotations
 
 import argparse
 import contextlib
-import csv
 import fnmatch
 import ipaddress
-import json
 import os
 import re
 import sys
@@ -58,21 +56,20 @@ from functools import partial
 
 from ..comparison.values.long_values import bytes_of
 from ..exchanges.kept import Exchange, Kept, call_of, host_of
-from ..judgement.seen import count_unanswered, kept_in
 from ..judgement.tallies import milliseconds
 from ..judgement.verdict import (
-    VERSION, Verdict, counts_after, is_row, named, object_of, status_of, sums_of, tell_notes)
+    VERSION, Verdict, count_unanswered, is_row, kept_in, members_of, named, status_of, sums_of,
+    tell_notes)
 from ..judgement.window import ALL, DAY, add_window, window_of
 from ..recordings.coverage import PROCEDURES
 from ..recordings.selection import count, plural
 from ..recordings.taken import Taken
-from ..reporting.messages import add_judging, allowed_of, options_of, parser_of, run
+from ..reporting.messages import add_recordings, allowed_of, parser_of, run
+from ..reporting.rows import add_forms, form_of
 from ..shared.layouts import BY_NAME, RAW
 from ..shared.printed import escaped, printable
-from ..shared.programs import program_path
-from ..shared.screens import (
-    GAP, NARROWEST, Colour, Screen, add_colour, add_width, screen_of)
-from .verdicts import CONNECTIONS_AT_ONCE, Judge
+from ..shared.screens import GAP, NARROWEST, Colour, Screen, add_width, screen_of
+from .verdicts import Judge, judge_of
 
 HEADS = ('time', 'ms', 'frame', 'conn', 'call', 'answer')
 RIGHT = 4  # columns that are set to the right
@@ -281,52 +278,17 @@ def tell_of_times(found: Listed, chosen: argparse.Namespace) -> None:
 
 # --- For programs ---
 
-def values_of(one: Exchange, recording: str) -> tuple[object, ...]:
-    """The values of COLUMNS; of the replies an object for each."""
-    part = one.part
-    replies = [{'record': reply.record, 'frame': reply.frame or None, 'answer': words}
-               for reply, words in zip(one.answered, one.answers)]
+def values_of(one: Exchange, recording: str, is_line: bool) -> Sequence[object]:
+    """The values of COLUMNS; of the replies an object for each. In a line there is their number,
+    and names have spaces between them."""
+    part, names, replies = one.part, one.other_names, [
+        {'record': reply.record, 'frame': reply.frame or None, 'answer': words}
+        for reply, words in zip(one.answered, one.answers)]
     return (escaped(recording), part.number, one.record, part.client, part.server,
             one.frame or None, one.time or None, one.latency, one.asked.user, one.procedure,
-            one.path, one.other_path, one.other_names, one.asked.words, len(one.again),
-            one.earlier, one.later, one.answer, one.waited, one.is_error, replies)
-
-
-class Json:
-    """An object with the exchanges, and at its end what tools/verdicts has."""
-
-    def __init__(self) -> None:
-        self.before = ''
-        sys.stdout.write(f'{{"version": {VERSION}, "calls": [')
-
-    def add(self, found: Listed) -> None:
-        for one in found.exchanges():
-            values = dict(zip(COLUMNS, values_of(one, found.recording)))
-            sys.stdout.write(f'{self.before}\n{json.dumps(values)}')
-            self.before = ','
-
-    def end(self, verdicts: list[Verdict]) -> None:
-        rest = json.dumps({'counts': counts_after(verdicts).members(),
-                           'verdicts': [*map(object_of, verdicts)]}, indent=1)
-        sys.stdout.write(f'\n],{rest[1:]}\n')
-
-
-class Csv:
-    """A line for each exchange, in which the number of the replies stands for them; the counts go
-    to standard error."""
-
-    def __init__(self) -> None:
-        self.writer = csv.writer(sys.stdout, lineterminator='\n')
-        self.writer.writerow(COLUMNS)
-
-    def add(self, found: Listed) -> None:
-        for one in found.exchanges():
-            *values, replies = values_of(one, found.recording)
-            values[COLUMNS.index('other_names')] = ' '.join(one.other_names)
-            self.writer.writerow([*values, len(typing.cast(list[object], replies))])
-
-    def end(self, verdicts: list[Verdict]) -> None:
-        print(sums_of(verdicts), file=sys.stderr)
+            one.path, one.other_path, ' '.join(names) if is_line else names, one.asked.words,
+            len(one.again), one.earlier, one.later, one.answer, one.waited, one.is_error,
+            len(replies) if is_line else replies)
 
 
 class Text:
@@ -341,10 +303,9 @@ class Text:
         print_lines(found, self.screen)
         self.number, self.all = self.number + len(found.wanted), self.all + len(found.kept)
 
-    def end(self, verdicts: list[Verdict]) -> None:
+    def end(self) -> None:
         print(count(self.all, 'exchange') if self.number == self.all
               else f'{self.number:,} of {count(self.all, "exchange")}')
-        print(sums_of(verdicts))
 
 
 # --- The command ---
@@ -382,7 +343,6 @@ def user_id(word: str) -> int:
 
 def words_of(words: list[str]) -> argparse.Namespace:
     parser = parser_of(__doc__, 'calls')
-    parser.add_argument('recordings', metavar='RECORDING|CAPTURE', nargs='+')
     parser.add_argument('--errors', action='store_true',
                         help='lists calls whose reply is no success, or that got none')
     parser.add_argument('--no-reply', action='store_true',
@@ -399,32 +359,34 @@ def words_of(words: list[str]) -> argparse.Namespace:
                         help='lists calls of the client with this address')
     parser.add_argument('--sort', choices=['time', 'latency'], default='time',
                         help='the order of the lines; by latency the longest is first')
-    form = parser.add_mutually_exclusive_group()
-    form.add_argument('--json', action='store_true', help='prints JSON')
-    form.add_argument('--csv', action='store_true', help='prints comma-separated values')
+    add_forms(parser)
     parser.add_argument('--utc', action='store_true',
                         help='prints the time of day (UTC) of each call')
     add_window(parser)
     add_width(parser)
-    add_colour(parser)
-    add_judging(parser)
+    add_recordings(parser)
     return parser.parse_args(words)
 
 
 def main(words: list[str]) -> int:
     chosen, verdicts = words_of(words), list[Verdict]()
-    judge = Judge(program_path(chosen.program), options_of(chosen), CONNECTIONS_AT_ONCE, True,
-                  counts_unanswered=False)
-    form: Json | Csv | Text
-    form = (Json() if chosen.json else Csv() if chosen.csv
-            else Text(len(chosen.recordings) == 1, screen_of(chosen.color, chosen.width)))
+    judge, form = judge_of(chosen), form_of(chosen, VERSION, 'calls', COLUMNS)
+    text = Text(len(chosen.recordings) == 1, screen_of(chosen.color, chosen.width))
     for recording in chosen.recordings:
         found = listed(judge, recording, chosen, verdicts)
         with contextlib.closing(found.kept):
-            form.add(found)
+            if form:
+                form.add(values_of(one, recording, chosen.csv) for one in found.exchanges())
+            else:
+                text.add(found)
             tell_of_times(found, chosen)
     tell_verdicts(verdicts)
-    form.end(verdicts)
+    if form:
+        form.end(members_of(verdicts))
+    else:
+        text.end()
+    if not chosen.json:
+        print(sums_of(verdicts), file=sys.stderr if form else sys.stdout)
     return status_of(verdicts, allowed_of(chosen))
 
 

@@ -88,16 +88,16 @@ from ..comparison.verdict.ignored import ignored_of, without
 from ..comparison.verdict.orders import Choices, NothingToCompare
 from ..comparison.verdict.report import Report
 from ..comparison.verdict.trial import Trial
+from ..pages import compared as pages
+from ..pages.compared import Content, Recorded
+from ..pages.markup import encoded
 from ..recordings.coverage import Allowed
-from ..recordings.parts import files_of
+from ..recordings.parts import files_in, files_of
 from ..recordings.selection import Options
 from ..recordings.taken import NotTaken, Taken, take
-from ..reporting import pages, telling
-from ..reporting.markup import encoded
+from ..reporting import telling
 from ..reporting.messages import (
-    REFUSED, add_judging, advice_on, allowed_of, ended,
-    options_of, parser_of, run)
-from ..reporting.pages import Content, Recorded
+    REFUSED, add_judging, advice_on, allowed_of, ended, lines_of, options_of, parser_of, run)
 from ..reporting.reports import json_of, json_of_parts, junit_of, junit_of_error, junit_of_parts
 from ..shared.outputs import check_output, held, printed_beside, try_outputs, write_file
 from ..shared.printed import escaped
@@ -160,12 +160,7 @@ def words_of(words: list[str]) -> argparse.Namespace:
 
 def tell(name: str, taken: Taken) -> None:
     """Prints what is missing from a recording, and what is left out of it."""
-    lines = [*taken.notes,
-             *(f'connection {connection.number} {note}' for connection in taken.connections
-               for note in connection.notes),
-             *(f'left out: {line}' for line in taken.left_out),
-             *(f'{remark.word}: {remark.reason}' for remark in taken.remarks)]
-    for line in lines:
+    for line in lines_of(taken, has_taken=False):
         print(f'{escaped(name)}: {line}', file=sys.stderr)
 
 
@@ -230,7 +225,7 @@ def taken_of(name: str, options: Options) -> Taken:
 def compared_runs(words: argparse.Namespace, stack: ExitStack) -> int:
     program = program_path(words.program)
     names = [words.first, words.second]
-    inputs = [file for name in names for file in files_of(name)]
+    inputs = files_in(names)
     try_all(words, inputs)
     with held():
         folder = Path(stack.enter_context(tempfile.TemporaryDirectory(prefix='nfs3canon')))
@@ -284,7 +279,7 @@ def compared_whole(words: argparse.Namespace, whole: Whole, choices: Choices, lo
           *whole.lines_of_counts(), sep='\n', flush=True)
     if words.accept_new:
         compared = said.found.whole or Compared()
-        recordings = [file for name in whole.names for file in files_of(name)]
+        recordings = files_in(whole.names)
         write_file(words.accept_new, [file_of(compared.findings, compared.mask)], recordings)
     explain(words, whole, line, report, said.found.compared, is_good)
     return is_good
@@ -378,7 +373,7 @@ def write_error(words: argparse.Namespace, message: str) -> None:
     if words.junit:
         names = [words.first, words.second]
         write_file(words.junit, [junit_of_error(names, message)],
-                   [file for name in names for file in files_of(name)])
+                   files_in(names))
 
 
 def main(words: list[str]) -> int:

@@ -24,7 +24,7 @@ Printed are a line for each record of OUT, which says where it was, with its fra
 `nfs3canon check` says of OUT. That is `ok`, or the reason for which the message was refused before.
 If OUT is a recording, tools/verdicts judges it.
 
-A recording is taken as by tools/from_pcap (--midstream, --whole-records, --filter, a pattern in
+A recording is taken as by tools/from_pcap (--port, --filter, a pattern in
 quotes for the parts of one recording). OUT is written beside its name, and gets it once it is
 whole. It is refused if it is an input or begins as a recording; an older capture is replaced. If
 OUT is `-` it is standard output, and the lines are printed on standard error. The status is 0 if

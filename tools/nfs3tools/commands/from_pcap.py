@@ -1,7 +1,6 @@
 """Makes a capture out of a recording of packets, as tcpdump and Wireshark write them.
 
-    tools/from_pcap [--port PORT,..] [--no-midstream] [--whole-records] [--filter FILTER]
-                    RECORDING OUT
+    tools/from_pcap [--port PORT,..] [--filter FILTER] RECORDING OUT
 
 RECORDING is a file of pcap or pcapng, or `-` for standard input. It may be compressed by gzip, xz
 or bzip2, and by zstd if the program `zstd` is there:
@@ -22,8 +21,7 @@ is left out, with the reason. So is each byte that is recorded and not taken.
 A stream whose beginning was not recorded begins at the first position from which record follows
 record up to its end or to missing bytes. After missing bytes it goes on in the same way. A record
 at its end that is cut is left out, unless its sender closed the stream there. The replies to calls
-that are missing are left out. --no-midstream leaves out connections whose beginning was not
-recorded, and ends a stream before missing bytes, after its last whole record.
+that are missing are left out.
 
 Tunnels whose header has a fixed form are taken apart: MPLS, PPPoE, IP in IP, GRE, VXLAN and Geneve.
 What is in others is not known, and how many frames they are is told.

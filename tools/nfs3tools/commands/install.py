@@ -8,8 +8,6 @@ Under the prefix there are
     share/nfs3canon/tools/                       the tools
     share/nfs3canon/{CHANGELOG.md,LICENSE-*}     the version, and the licences
     share/nfs3canon/docs/schemas/                the schemas of JSON
-    share/nfs3canon/installed                    what was put there, which `--remove` takes away
-                                                 again
     share/man/man1/                              the manual pages
     share/bash-completion/completions/, share/zsh/site-functions/, share/fish/vendor_completions.d/
                                                  completions; bash and fish look for them under the
@@ -28,9 +26,8 @@ from functools import partial
 from pathlib import Path
 
 from ..reporting.messages import parser_of, run
-from ..shared.installed import Installed, Made
 from ..shared.names import installed_name
-from ..shared.outputs import Refused
+from ..shared.outputs import PERMISSIONS, Refused, named, write_beside
 from ..shared.printed import escaped
 from ..shared.programs import Missing, made_programs, path_beside
 from ..shared.version import TOP, version
@@ -86,7 +83,6 @@ esac
 [ -z "$text" ] || printf '%s\\n' "$text" >&2
 exit "$status"
 '''
-LIST = f'{HOME}/installed'
 # The folders from which the links and the launchers find others
 FOUND_FROM = ('bin', 'share', HOME, f'{HOME}/tools', 'libexec', PROGRAMS_HOME)
 EXECUTABLE, ELF = 0o100, b'\x7fELF'
@@ -168,9 +164,9 @@ def named_in_page(found: re.Match[str]) -> str:
         name.upper() if found['tool'].isupper() else name)
 
 
-def install(prefix: Path, program: Path, is_listed: bool = True) -> None:
-    """Copies all files under a prefix. Each is made beside its name, and they get their names once
-    all are whole; so nothing has changed if that fails, and a program that runs goes on.
+def install(prefix: Path, program: Path) -> None:
+    """Copies all files under a prefix. Each gets its name once it is whole, so a program that runs
+    goes on.
 
     Raises `Missing` if a program is not there, `Refused` for a prefix that no program takes, and
     `OSError`.
@@ -178,19 +174,36 @@ def install(prefix: Path, program: Path, is_listed: bool = True) -> None:
     if not is_utf8(prefix):
         raise Refused(f'{escaped(str(prefix))} is not UTF-8, and no program runs under such a name')
     refuse_links(prefix)
-    copied = list(files(program))
-    with Made(prefix) as made:
-        for source, place in copied:
-            is_run = source.stat().st_mode & EXECUTABLE
-            made.write(place, content_of(source, place),
-                       FOR_ALL_TO_RUN if is_run else FOR_ALL_TO_READ)
-        for name in PROGRAMS:
-            made.write(f'bin/{name}', launcher().encode(), FOR_ALL_TO_RUN)
-        for place, target in links():
-            made.link(place, target)
-        if is_listed:
-            made.list_in(Installed(prefix, LIST))
-        made.give_names()
+    for source, place in list(files(program)):
+        is_run = source.stat().st_mode & EXECUTABLE
+        put(prefix / place, content_of(source, place),
+            FOR_ALL_TO_RUN if is_run else FOR_ALL_TO_READ)
+    for name in PROGRAMS:
+        put(prefix / 'bin' / name, launcher().encode(), FOR_ALL_TO_RUN)
+    for place, target in links():
+        put_link(prefix / place, target)
+
+
+def put(path: Path, content: bytes, mode: int = FOR_ALL_TO_READ) -> None:
+    """Writes a file, with the same permissions under every umask. It takes the place of a link."""
+    make_folder(path.parent)
+    with named(str(path)):
+        write_beside(str(path), [content], mode)
+
+
+def put_link(path: Path, target: str) -> None:
+    """Makes a symbolic link, in place of what has its name."""
+    make_folder(path.parent)
+    path.unlink(missing_ok=True)
+    path.symlink_to(target)
+
+
+def make_folder(folder: Path) -> None:
+    """Makes a folder and those above it. The umask plays no part, and a bit that a folder hands on
+    to those in it stays."""
+    for new in reversed([one for one in (folder, *folder.parents) if not one.is_dir()]):
+        new.mkdir()
+        new.chmod(new.stat().st_mode & ~PERMISSIONS | FOR_ALL_TO_RUN)
 
 
 def launcher() -> str:
@@ -227,20 +240,10 @@ def program_of(asked: argparse.Namespace) -> Path:
 
 def main(words: list[str]) -> int:
     parser = parser_for('install', 'Puts the programs, the tools, manual pages and completions '
-                        'under PREFIX. If that fails, nothing is changed there.',
-                        'PREFIX', str(Path.home() / '.local'))
-    parser.add_argument('--remove', action='store_true', help='takes away what was put under '
-                        'PREFIX, and leaves what was changed since')
+                        'under PREFIX.', 'PREFIX', str(Path.home() / '.local'))
     asked = parser.parse_args(words)
-    named = escaped(str(asked.target))
-    if asked.remove:
-        for place in Installed(asked.target, LIST).remove():
-            print('left, since it is not as it was installed: '
-                  f'{escaped(str(asked.target / place))}')
-        print(f'removed nfs3canon from {named}')
-        return 0
     install(asked.target, program_of(asked))
-    print(f'installed nfs3canon {version()} under {named}')
+    print(f'installed nfs3canon {version()} under {escaped(str(asked.target))}')
     return 0
 
 

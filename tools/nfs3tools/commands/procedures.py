@@ -28,7 +28,7 @@ cent for bytes and latencies. --json and --csv write all tables. --html writes a
 with the tables that are printed and a time line of the latencies of each recording: a dot for each
 call, with its path and its frame.
 
-The recordings are taken as by tools/from_pcap (--port, --no-midstream, --whole-records, --filter,
+The recordings are taken as by tools/from_pcap (--port, --filter,
 patterns in quotes for the parts of one recording); `-` is standard input. FILE is written beside
 its name, and gets it once it is whole. It is refused if it is an input, or begins as a recording or
 a capture. The status is 0 if that of tools/verdicts is, and 1 to 3 as there; --allow-losses and
@@ -48,25 +48,24 @@ from collections import Counter
 from collections.abc import Iterator, Sequence
 from functools import partial
 
-from ..judgement.seen import Seen, count_unanswered, kept_in, seen_in
 from ..judgement.tallies import Tallies, Tally, in_order, milliseconds, sum_of, tallies_of
 from ..judgement.verdict import (
-    VERSION, Verdict, colour_of, counts_after, is_row, named, object_of as object_of_verdict,
-    status_of, sums_of, tell_notes)
+    VERSION, Verdict, colour_of, count_unanswered, is_row, kept_in, members_of, named, status_of,
+    sums_of, tell_notes)
 from ..judgement.window import add_window, window_of
-from ..judgement.verdict_page import Content, Table as ShownTable, page, row_of_cells, said_of
-from ..recordings.parts import files_of
+from ..pages.judged import Content, Table as ShownTable, as_printed, page, said_of
+from ..pages.markup import encoded
+from ..pages.seen import Seen, seen_in, verdicts_in
+from ..recordings.parts import files_in
 from ..recordings.selection import plural
 from ..recordings.taken import Taken
-from ..reporting.markup import encoded
-from ..reporting.messages import add_judging, allowed_of, options_of, parser_of, run
-from ..shared.outputs import printed_beside, try_outputs, write_file
+from ..reporting.messages import add_recordings, allowed_of, parser_of, run
+from ..shared.outputs import writing
 from ..shared.places import Place
 from ..shared.printed import escaped, printable
-from ..shared.programs import program_path
 from ..shared.screens import (
-    Colour, Screen, Styled, add_colour, add_width, is_as_wide, lines_of, panels, screen_of)
-from .verdicts import CONNECTIONS_AT_ONCE, Judge
+    Colour, Screen, Styled, add_width, is_as_wide, lines_of, panels, screen_of)
+from .verdicts import Judge, judge_of
 
 PARTS = (0.5, 0.99, 1)  # of the latencies: the median, the 99th percentile, and the longest
 COUNTS = ('calls', 'again', 'replies', 'unanswered', 'call_bytes', 'reply_bytes')
@@ -116,13 +115,11 @@ def sorted_by(column: str, names: list[str], *several: Tallies) -> list[str]:
 
 
 class Counted(typing.NamedTuple):
-    """A recording with its verdicts, the tables of its connections, that of all of them, and what
-    a page shows besides."""
-    recording: str
-    verdicts: list[Verdict]
+    """A recording with its verdicts and what a page shows besides, the tables of its connections,
+    and that of all of them."""
+    seen: Seen
     tables: list[Table]
     in_all: Table
-    seen: Seen
 
 
 def total_of(tallies: Tallies) -> Tally:
@@ -151,8 +148,8 @@ def counted(judge: Judge, recording: str, chosen: argparse.Namespace) -> Counted
                 seen.append(seen_in(kept, taken, recording, verdicts, window))
     verdicts = judge.verdicts(recording, look)
     in_all = Table(recording, None, sum_of(table.tallies for table in tables))
-    return Counted(recording, verdicts, tables, in_all,
-                   (seen or [Seen(recording, verdicts)])[0]._replace(verdicts=verdicts))
+    shown = (seen or [Seen(recording, verdicts)])[0]._replace(verdicts=verdicts)
+    return Counted(shown, tables, in_all)
 
 
 # --- What is printed ---
@@ -234,13 +231,13 @@ def print_tables(found: Sequence[Counted], is_total: bool, column: str, screen: 
         for table in [] if is_total else one.tables:
             assert table.verdict
             print_table(title_of(table.verdict, screen), table, column, screen)
-        for verdict in one.verdicts:
+        for verdict in one.seen.verdicts:
             if is_row(verdict) and (verdict.state == 'error' or verdict.connection is None):
                 print('\n' + title_of(verdict, screen))
-        title = printable(f'{escaped(one.recording)} in all: {sums_of(one.verdicts)}')
+        title = printable(f'{escaped(one.seen.recording)} in all: {sums_of(one.seen.verdicts)}')
         print_table('\n'.join(screen.wrapped(title, 0)), one.in_all, column, screen)
     if len(found) > 1:
-        sums = sums_of([verdict for one in found for verdict in one.verdicts])
+        sums = sums_of(verdicts_in(one.seen for one in found))
         print_table(f'all recordings: {sums}', in_all_of(found), column, screen)
 
 
@@ -252,11 +249,11 @@ def in_all_of(found: Sequence[Counted]) -> Table:
 def print_beside(first: Counted, second: Counted, column: str, screen: Screen) -> None:
     """Prints two recordings in one table."""
     for name, one in zip('AB', (first, second)):
-        for verdict in one.verdicts:
+        seen, told = one.seen, told_of_clock(total_of(one.in_all.tallies))
+        for verdict in seen.verdicts:
             if is_row(verdict) and verdict.state != 'ok':
                 print(printable(f'{named(verdict)}: {verdict.message}'))
-        told = told_of_clock(total_of(one.in_all.tallies))
-        title = printable(f'{name}: {escaped(one.recording)}: {sums_of(one.verdicts)}{told}')
+        title = printable(f'{name}: {escaped(seen.recording)}: {sums_of(seen.verdicts)}{told}')
         print(*screen.wrapped(title, 0), sep='\n')
     print_rows_beside(rows_beside(first, second, column, screen), screen)
 
@@ -320,7 +317,7 @@ def page_of(found: Sequence[Counted], chosen: argparse.Namespace) -> Iterator[st
     """The page: the tables that are printed, and a time line for each recording."""
     whole, of_each = list[ShownTable](), list[list[ShownTable]]()
     if chosen.beside:
-        whole = [shown_of('A: {} | B: {}'.format(*(escaped(one.recording) for one in found)),
+        whole = [shown_of('A: {} | B: {}'.format(*(escaped(one.seen.recording) for one in found)),
                           rows_beside(found[0], found[1], chosen.sort, ON_PAGE))]
     elif len(found) > 1:
         whole = [shown('all recordings', in_all_of(found), chosen.sort)]
@@ -341,9 +338,9 @@ def shown(title: str, table: Table, column: str) -> ShownTable:
 
 def shown_of(title: str, styled: Sequence[Styled]) -> ShownTable:
     """The same of rows, with the errors beside the counts."""
-    heads, *rows = (beside_calls(row.cells) for row in styled)
-    numbers = [at for at, head in enumerate(heads) if head in HEADS[1:-1]]
-    return ShownTable(title, heads, [row_of_cells(row, numbers) for row in rows], numbers)
+    rows = [row._replace(cells=beside_calls(row.cells)) for row in styled]
+    numbers = [at for at, head in enumerate(rows[0].cells) if head in HEADS[1:-1]]
+    return as_printed(title, rows, numbers)
 
 
 # --- What is written ---
@@ -371,11 +368,10 @@ def whose(table: Table) -> dict[str, typing.Any]:
 def json_of(found: Sequence[Counted], column: str) -> bytes:
     """The verdicts, as tools/verdicts writes them, and the tables; of each the last object of its
     procedures is the sum."""
-    verdicts = [verdict for one in found for verdict in one.verdicts]
+    verdicts = verdicts_in(one.seen for one in found)
     tables = [{**whose(table), 'procedures': [object_of(*row) for row in table.rows(column)]}
               for one in found for table in (*one.tables, one.in_all)]
-    whole = {'version': VERSION, 'counts': counts_after(verdicts).members(),
-             'verdicts': [*map(object_of_verdict, verdicts)], 'tables': tables}
+    whole = {'version': VERSION, **members_of(verdicts), 'tables': tables}
     return json.dumps(whole, indent=1).encode() + b'\n'
 
 
@@ -398,7 +394,6 @@ def csv_of(found: Sequence[Counted], column: str) -> bytes:
 
 def words_of(words: list[str]) -> argparse.Namespace:
     parser = parser_of(__doc__, 'procedures')
-    parser.add_argument('recordings', metavar='RECORDING|CAPTURE', nargs='+')
     parser.add_argument('--beside', action='store_true',
                         help='prints two recordings side by side, with what changed')
     parser.add_argument('--total', action='store_true', help='prints no tables of connections')
@@ -410,8 +405,7 @@ def words_of(words: list[str]) -> argparse.Namespace:
                         help='writes a page for a browser, with the tables and latencies')
     add_window(parser)
     add_width(parser)
-    add_colour(parser)
-    add_judging(parser)
+    add_recordings(parser)
     chosen = parser.parse_args(words)
     if chosen.beside and len(chosen.recordings) != 2:
         parser.error('--beside takes two recordings')
@@ -420,26 +414,18 @@ def words_of(words: list[str]) -> argparse.Namespace:
 
 def main(words: list[str]) -> int:
     chosen = words_of(words)
-    inputs = [file for recording in chosen.recordings for file in files_of(recording)]
-    outputs = [chosen.json, chosen.csv, chosen.html]
-    try_outputs(outputs, inputs)
-    judge = Judge(program_path(chosen.program), options_of(chosen), CONNECTIONS_AT_ONCE, True,
-                  counts_unanswered=False)
-    found = [counted(judge, recording, chosen) for recording in chosen.recordings]
-    verdicts = [verdict for one in found for verdict in one.verdicts]
-    tell_notes(verdicts)
-    with printed_beside(outputs):
+    with writing(files_in(chosen.recordings), (chosen.json, lambda: [json_of(found, chosen.sort)]),
+                 (chosen.csv, lambda: [csv_of(found, chosen.sort)]),
+                 (chosen.html, lambda: encoded(page_of(found, chosen)))):
+        judge = judge_of(chosen)
+        found = [counted(judge, recording, chosen) for recording in chosen.recordings]
+        verdicts = verdicts_in(one.seen for one in found)
+        tell_notes(verdicts)
         screen = screen_of(chosen.color, chosen.width)
         if chosen.beside:
             print_beside(found[0], found[1], chosen.sort, screen)
         else:
             print_tables(found, chosen.total, chosen.sort, screen)
-    if chosen.json:
-        write_file(chosen.json, [json_of(found, chosen.sort)], inputs)
-    if chosen.csv:
-        write_file(chosen.csv, [csv_of(found, chosen.sort)], inputs)
-    if chosen.html:
-        write_file(chosen.html, encoded(page_of(found, chosen)), inputs)
     return status_of(verdicts, allowed_of(chosen))
 
 

@@ -20,7 +20,7 @@ from ..shared.printed import escaped, printable
 from ..shared.programs import Died, Missing
 from ..shared.version import TOP, version
 from .install import (
-    EXECUTABLE, FOR_ALL_TO_READ, FOR_ALL_TO_RUN, OF_A_LINK, install, parser_for, program_of)
+    EXECUTABLE, FOR_ALL_TO_READ, FOR_ALL_TO_RUN, OF_A_LINK, install, parser_for, program_of, put)
 
 # The time of each file in a release, so that the same sources give the same bytes.
 RELEASED = 0
@@ -76,7 +76,7 @@ def package(folder: Path, program: Path) -> Path:
     archive = folder / f'nfs3canon_{version()}_amd64.deb'
     with tempfile.TemporaryDirectory(prefix='nfs3canon') as place:
         tree, made = Path(place) / 'tree', Path(place) / 'made.deb'
-        install(tree / 'usr', program, is_listed=False)
+        install(tree / 'usr', program)
         arrange(tree)
         describe(tree)
         words = [PACKAGER, '--root-owner-group', '-Zxz', '--build', str(tree), str(made)]
@@ -108,15 +108,6 @@ def describe(tree: Path) -> None:
     put(tree / 'DEBIAN/prerm', PRERM.encode(), FOR_ALL_TO_RUN)
 
 
-def put(path: Path, content: bytes, mode: int = FOR_ALL_TO_READ) -> None:
-    """Writes a file in a tree, whose permissions are the same under every umask."""
-    for folder in reversed([one for one in path.parents if not one.exists()]):
-        folder.mkdir()
-        folder.chmod(FOR_ALL_TO_RUN)
-    path.write_bytes(content)
-    path.chmod(mode)
-
-
 # --- The tar file ---
 
 def release(folder: Path, program: Path) -> Path:
@@ -125,7 +116,7 @@ def release(folder: Path, program: Path) -> Path:
     name = f'nfs3canon-{version()}-linux-x86_64'
     archive = folder / f'{name}.tar.xz'
     with tempfile.TemporaryDirectory(prefix='nfs3canon') as place, tempfile.TemporaryFile() as file:
-        install(Path(place) / name, program, is_listed=False)
+        install(Path(place) / name, program)
         with tarfile.open(fileobj=file, mode='w:xz') as tar:
             for path in sorted(Path(place).rglob('*')):
                 tar.add(path, path.relative_to(place), recursive=False, filter=entry)

@@ -30,7 +30,7 @@ The status is 0 only if every call of NFS and MOUNT version 3 that is recorded w
 valid. --allow-losses also allows what is in part and what is left out, --allow-not-checked what is
 not checked. A connection that shows no call changes no status.
 
-The recordings are taken as by `tools/from_pcap` (--port, --no-midstream, --whole-records, --filter,
+The recordings are taken as by `tools/from_pcap` (--port, --filter,
 patterns in quotes for the parts of one recording); `-` is standard input. --junit writes the
 verdicts as JUnit XML, as Jenkins and GitLab take it, and --json as an object with the counts and an
 object for each row and for each note on a recording. --html writes a page for a browser: the
@@ -60,30 +60,29 @@ import signal
 import sys
 import time
 import typing
-import xml.etree.ElementTree
 from functools import partial
+from xml.etree.ElementTree import SubElement
 
 from ..judgement.following import Form, follow
-from ..judgement.seen import Seen, kept_in, seen_in
 from ..judgement.unanswered import Unanswered, open_calls
 from ..judgement.verdict import (
-    HEADS, VERSION, Verdict, colour_of, counts_after, error_of, is_row, object_of, of_covered,
-    row_of, status_of, sums_of, tell_notes, told, verdict_of)
-from ..judgement.verdict_page import Content, page, table_of
+    COVERED, HEADS, VERSION, Verdict, colour_of, counts_after, error_of, is_row, kept_in,
+    object_of, of_covered, row_of, status_of, sums_of, tell_notes, told, verdict_of)
+from ..pages.judged import Content, page, table_of
+from ..pages.markup import encoded
+from ..pages.seen import Seen, seen_in, verdicts_in
 from ..recordings.coverage import Allowed, named as named_calls
-from ..recordings.parts import files_of
+from ..recordings.parts import files_in, files_of
 from ..recordings.selection import Options
 from ..recordings.taken import NotTaken, Taken, TakenConnection, take
-from ..reporting.markup import encoded
+from ..reporting.junit import Suite
 from ..reporting.messages import (
-    add_judging, advice_on, allowed_of, options_of,
-    parser_of, run, words_of)
-from ..shared.outputs import STANDARD_OUTPUT, printed_beside, try_outputs, write_file
+    add_recordings, advice_on, allowed_of, options_of, parser_of, run, words_of)
+from ..shared.outputs import STANDARD_OUTPUT, writing
 from ..shared.places import Place, parse_fault
 from ..shared.printed import escaped, printable
 from ..shared.programs import CHECKED, Died, FilterRefused, Missing, program_path, run_program
-from ..shared.screens import (
-    Screen, Styled, add_colour, is_as_wide, lines_of, positive, screen_of)
+from ..shared.screens import Screen, Styled, is_as_wide, lines_of, positive, screen_of
 
 CONNECTIONS_AT_ONCE = 32  # of a recording
 Look = typing.Callable[[Taken, list[Verdict]], object]
@@ -168,6 +167,12 @@ class Judge(typing.NamedTuple):
                         position=str(fault.place), reason=fault.reason)]
 
 
+def judge_of(chosen: argparse.Namespace) -> Judge:
+    """The judge of a tool that judges one recording after the other, and counts by itself."""
+    return Judge(program_path(chosen.program), options_of(chosen), CONNECTIONS_AT_ONCE, True,
+                 counts_unanswered=False)
+
+
 def with_unanswered(verdicts: list[Verdict], taken: Taken) -> list[Verdict]:
     """Returns the verdicts on connections with the numbers of their calls without a reply."""
     unanswered, counted = Unanswered(), list[Verdict]()
@@ -184,7 +189,6 @@ def with_unanswered(verdicts: list[Verdict], taken: Taken) -> list[Verdict]:
 
 def main(words: list[str]) -> int:
     parser = parser_of(__doc__, 'verdicts')
-    parser.add_argument('recordings', metavar='RECORDING|CAPTURE', nargs='+')
     parser.add_argument('-q', '--quiet', action='store_true',
                         help='prints no row of what is ok, and no heads')
     parser.add_argument('--junit', metavar='FILE', help='writes the verdicts as JUnit XML')
@@ -194,8 +198,7 @@ def main(words: list[str]) -> int:
     parser.add_argument('-j', metavar='N', type=positive, help='judges N recordings at once')
     parser.add_argument('--follow', action='store_true', help='judges one recording while it is '
                         'made, and prints each verdict at once')
-    add_colour(parser)
-    add_judging(parser)
+    add_recordings(parser)
     chosen = parser.parse_args(words)
     if chosen.follow:
         return followed(parser, chosen)
@@ -218,28 +221,25 @@ def judged_all(chosen: argparse.Namespace) -> int:
     """Judges all recordings, and prints and writes what was found."""
     recordings_at_once = chosen.j or os.cpu_count() or 1
     at_once = max(1, min(CONNECTIONS_AT_ONCE, recordings_at_once // len(chosen.recordings)))
-    inputs = [file for recording in chosen.recordings for file in files_of(recording)]
-    outputs = [chosen.junit, chosen.json, chosen.html]
-    try_outputs(outputs, inputs)
-    judge = Judge(program_path(chosen.program), options_of(chosen), at_once,
-                  len(chosen.recordings) == 1)
-    try:
-        seen = list(judged(judge.seen if chosen.html else judge.unseen, chosen.recordings,
-                           recordings_at_once))
-    except concurrent.futures.BrokenExecutor as broken:
-        raise OSError(
-            'a process that judged a recording was killed, as when memory runs out') from broken
-    verdicts = [verdict for one in seen for verdict in one.verdicts]
-    with printed_beside(outputs):
+    allowed, inputs = allowed_of(chosen), files_in(chosen.recordings)
+    with writing(inputs, (chosen.junit, lambda: [junit_of(verdicts, allowed)]),
+                 (chosen.json, lambda: [json_of(verdicts)]),
+                 (chosen.html, lambda: page_of(seen, allowed))):
+        judge = Judge(program_path(chosen.program), options_of(chosen), at_once,
+                      len(chosen.recordings) == 1)
+        try:
+            seen = list(judged(judge.seen if chosen.html else judge.unseen, chosen.recordings,
+                               recordings_at_once))
+        except concurrent.futures.BrokenExecutor as broken:
+            raise OSError('a process that judged a recording was killed, as when memory runs '
+                          'out') from broken
+        verdicts = verdicts_in(seen)
         print_table(verdicts, chosen.quiet, screen_of(chosen.color))
-    if chosen.junit:
-        write_file(chosen.junit, [junit_of(verdicts, allowed_of(chosen))], inputs)
-    if chosen.json:
-        write_file(chosen.json, [json_of(verdicts)], inputs)
-    if chosen.html:
-        content = Content(seen, allowed_of(chosen), [table_of(seen)], (), True)
-        write_file(chosen.html, encoded(page(content)), inputs)
-    return status_of(verdicts, allowed_of(chosen))
+    return status_of(verdicts, allowed)
+
+
+def page_of(seen: list[Seen], allowed: Allowed) -> typing.Iterator[bytes]:
+    return encoded(page(Content(seen, allowed, [table_of(seen)], (), True)))
 
 
 def judged(judge: typing.Callable[[str], Seen], recordings: list[str],
@@ -295,35 +295,22 @@ def rows_of(verdicts: list[Verdict], has_heads: bool, screen: Screen) -> typing.
 def junit_of(verdicts: list[Verdict], allowed: Allowed) -> bytes:
     """The verdicts as JUnit XML: a suite with a test case for each, the counts as its properties,
     and the notes on whole recordings as its output."""
-    element = xml.etree.ElementTree.SubElement
-    suites = xml.etree.ElementTree.Element('testsuites')
-    cases = [verdict for verdict in verdicts if verdict.state != 'note']
-    found = [tag_of(verdict, allowed) for verdict in cases]
-    suite = element(suites, 'testsuite', name='nfs3canon', tests=str(len(cases)),
-                    failures=str(found.count('failure')),
-                    errors=str(found.count('error')), skipped=str(found.count('skipped')),
-                    time=f'{sum(verdict.seconds for verdict in verdicts):.3f}')
-    properties = element(suite, 'properties')
     counts = counts_after(verdicts)
-    for name, value in [*counts.numbers().items(), ('raw', named_calls(counts.raw))]:
-        element(properties, 'property', name=name, value=str(value))
-    for verdict, tag in zip(cases, found):
-        case = element(suite, 'testcase', classname=escaped(verdict.recording),
-                       name=name_of(verdict),
-                       time=f'{verdict.seconds:.3f}')
-        is_word = verdict.state in ('in part', 'left out', 'not checked')
-        if tag:
-            element(case, tag, {'type': verdict.state} if is_word and tag == 'failure' else {},
-                    message=printable(verdict.message))
+    suite = Suite('nfs3canon', [*counts.numbers().items(), ('raw', named_calls(counts.raw))])
+    for verdict in (verdict for verdict in verdicts if verdict.state != 'note'):
+        is_word, tag = verdict.state in COVERED, tag_of(verdict, allowed)
+        case = suite.add(escaped(verdict.recording), name_of(verdict), tag,
+                         printable(verdict.message),
+                         attributes={'type': verdict.state} if is_word and tag == 'failure' else {},
+                         time=f'{verdict.seconds:.3f}')
         told = [verdict.message] * is_word + verdict.notes
         if told and tag != 'skipped':
-            element(case, 'system-out').text = '\n'.join(map(printable, told))
+            SubElement(case, 'system-out').text = '\n'.join(map(printable, told))
     notes = [printable(f'{escaped(verdict.recording)}: {verdict.message}') for verdict in verdicts
              if verdict.state == 'note']
     if notes:
-        element(suite, 'system-out').text = '\n'.join(notes)
-    return bytes(xml.etree.ElementTree.tostring(suites, encoding='utf-8',
-                                                xml_declaration=True)) + b'\n'
+        SubElement(suite.suite, 'system-out').text = '\n'.join(notes)
+    return suite.written(time=f'{sum(verdict.seconds for verdict in verdicts):.3f}')
 
 
 def tag_of(verdict: Verdict, allowed: Allowed) -> str | None:

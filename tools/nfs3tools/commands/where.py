@@ -5,7 +5,7 @@
     nfs3canon check CAPTURE 2>&1 | tools/where RECORDING
 
 RECORDING is what `tools/from_pcap` made the capture of; its options have to be the same here
-(--midstream, --whole-records, --filter), since they decide on the numbers of connections and
+(--port, --filter), since they decide on the numbers of connections and
 records. If RECORDING is `-`, POSITION has to be an argument.
 
 POSITION is a line of `check` or `same` (`connection 1 server record 7 byte 24: BadEnum`,

@@ -28,7 +28,10 @@ class Answering:
 
     def __init__(self) -> None:
         self.said = array('q')  # a hash of what each call says
-        self.firsts = dict[int, int]()  # the first call with each xid
+        # Most clients count up: xids of the first calls, and how many there are. Of other xids, the
+        # first call with each.
+        self.begin, self.counted = 0, 0
+        self.firsts = dict[int, int]()
         # The calls with an xid that are no retransmissions, if several have it: those that wait for
         # a reply, and all of them by what they say.
         self.several: dict[int, deque[int]] = {}
@@ -39,8 +42,12 @@ class Answering:
         that was sent first."""
         at = len(self.said)
         self.said.append(hash(said))
-        first = self.firsts.setdefault(xid, at)
-        if first == at:
+        if at == self.counted and (not at or xid == self.begin + at):
+            self.begin, self.counted = xid - at, at + 1
+            return None
+        first = self.first(xid)
+        if first is None:
+            self.firsts[xid] = at
             return None
         different = self.different[xid]
         different.setdefault(self.said[first], first)
@@ -50,11 +57,18 @@ class Answering:
         self.several.setdefault(xid, deque([first])).append(at)
         return None
 
+    def first(self, xid: int) -> int | None:
+        """Returns the first call with an xid."""
+        at = xid - self.begin
+        return at if 0 <= at < self.counted else self.firsts.get(xid)
+
     def reply(self, xid: int) -> int:
         """Takes a reply, and returns the call that it answers."""
         owners = self.several.get(xid)
         if owners is None:
-            return self.firsts[xid]
+            first = self.first(xid)
+            assert first is not None, xid
+            return first
         return owners.popleft() if len(owners) > 1 else owners[0]
 
 

@@ -18,10 +18,12 @@ from .listing import ITEM
 
 LONGEST = 1_000  # characters of a name or a text
 KEPT_AT_MOST = 1_024  # texts that are made once
+ASKED_AT_MOST = 128  # the same of calls: a client asks the same again soon
 WIDTH = 7  # of GETATTR and SETATTR, and of names that are shorter
 HEAD = re.compile(r' mtype=0 rpcvers=2 prog=\d+ vers=\d+ proc=\d+ cred_flavor=\d+ '
                   r'(?:cred_body=\w*|cred_length=\d+ stamp=\d+ machinename="[^"]*" uid=(\d+) '
                   r'gid=\d+ gids=\d+(?: group=\d+)*) verf_flavor=0 verf_body=\w*')
+OBJECT = re.compile(r' (?:fh=([^ ]*)(?: name="([^"]*)")?|dirpath="([^"]*)")')
 # The arguments besides handles and names, by procedures. Some names stand for several items.
 ARGUMENTS = {'NFSPROC3_SETATTR': '{sattr}{guard}', 'NFSPROC3_ACCESS': '{access}',
              'NFSPROC3_READ': '{offset}+{count}',
@@ -44,6 +46,7 @@ OF_TWO = ('NFSPROC3_RENAME', 'NFSPROC3_LINK')
 LISTING = ('NFSPROC3_READDIR', 'NFSPROC3_READDIRPLUS')
 SPLIT = re.compile(r'\\(?:x[0-9a-f]?)?$')  # the beginning of a byte that is spelled by its digits
 NAMED = {'access', 'committed', 'how', 'mode', 'stable', 'type'}  # items whose numbers have names
+SEVERAL = {'sattr', 'guard', 'device', 'end', 'target'}  # what stands for several items
 NOT_READ = 'accepted'  # what is said of results that are not read
 
 
@@ -64,18 +67,20 @@ class Asked(NamedTuple):
     words: str = ''
 
 
+@functools.lru_cache(ASKED_AT_MOST)
 def asked_in(procedure: str, said: str) -> Asked:
     """Returns what a call asks. Of a raw call that is nothing but its user."""
     head, user = head_of(procedure, said)
     if procedure == RAW.name:
         return Asked(user)
-    items = ITEM.findall(said, len(head))
+    handle, entry, end = object_at(said, len(head))
+    if procedure in OF_TWO:
+        return Asked(user, handle, entry, *object_at(said, end)[:2])
     template = ARGUMENTS.get(procedure)
-    words = '' if template is None else template.format_map(Told(items)).strip()
-    handle, entry = object_in(items)
-    if procedure not in OF_TWO:
-        return Asked(user, handle, entry, None, None, words)
-    return Asked(user, handle, entry, *object_in(items[1 if entry is None else 2:]), words)
+    if template is None:
+        return Asked(user, handle, entry)
+    words = told(template, ITEM.findall(said, end)).strip()
+    return Asked(user, handle, entry, None, None, words)
 
 
 # The last head of each procedure, and its user: most calls have that of the one before.
@@ -94,34 +99,43 @@ def head_of(procedure: str, said: str) -> tuple[str, int | None]:
     return found
 
 
-def object_in(items: list[tuple[str, str]]) -> tuple[str | None, str | None]:
-    """The handle with which some arguments begin, and the name that follows it; or a whole path."""
-    if not items or items[0][0] != 'fh':
-        return None, text_of(items[0][1]) if items and items[0][0] == 'dirpath' else None
-    has_name = len(items) > 1 and items[1][0] == 'name'
-    return items[0][1], text_of(items[1][1]) if has_name else None
+def object_at(said: str, begin: int) -> tuple[str | None, str | None, int]:
+    """Returns the handle with which some arguments begin, and the name that follows it, or a whole
+    path; and where the other arguments begin."""
+    found = OBJECT.match(said, begin)
+    if found is None:
+        return None, None, begin
+    handle, name, path = found.groups()
+    entry = name if handle is not None else path
+    return handle, None if entry is None else cut(entry), found.end()
 
 
-class Told(dict[str, str]):
-    """The items of a call or of a reply, as they are told."""
+def told(template: str, items: Iterable[tuple[str, str]]) -> str:
+    """Returns a template with the items of a call or of a reply as they are told."""
+    values = dict(items)
+    for name in not_plain(template):
+        values[name] = (number_named(name, values[name]) if name in NAMED
+                        else of_several(name, values))
+    return template.format_map(values)
 
-    def __init__(self, items: Iterable[tuple[str, str]]) -> None:
-        super().__init__(items)
-        for name in NAMED & self.keys():
-            self[name] = number_named(name, self[name])
 
-    def __missing__(self, name: str) -> str:
-        if name == 'sattr':
-            return ''.join(f' {word}' for word in settings_in(self))
-        if name == 'guard':
-            return ' guarded' if self['check'] == '1' else ''
-        if name == 'device':
-            return ' {spec1}:{spec2}'.format_map(self) if 'spec1' in self else ''
-        if name == 'end':
-            return ' eof' if self['eof'] == '1' else ''
-        if name == 'target':
-            return text_of(self['path'])
-        raise KeyError(name)
+@functools.cache
+def not_plain(template: str) -> list[str]:
+    """Returns the names in a template of what is not told as its item spells it."""
+    return [name for name in re.findall(r'{(\w+)}', template) if name in NAMED | SEVERAL]
+
+
+def of_several(name: str, values: Mapping[str, str]) -> str:
+    """Returns what a name in a template stands for that is not that of an item."""
+    if name == 'sattr':
+        return ''.join(f' {word}' for word in settings_in(values))
+    if name == 'guard':
+        return ' guarded' if values['check'] == '1' else ''
+    if name == 'device':
+        return ' {spec1}:{spec2}'.format_map(values) if 'spec1' in values else ''
+    if name == 'end':
+        return ' eof' if values['eof'] == '1' else ''
+    return cut(values['path'].strip('"'))
 
 
 @functools.lru_cache(KEPT_AT_MOST)
@@ -130,16 +144,15 @@ def number_named(name: str, value: str) -> str:
     return meaning_of(name, value, VALUES.get(name)).removeprefix('NF3')
 
 
-def text_of(value: str) -> str:
-    """The text of a value in quotes, of a long one the beginning."""
-    text = value.strip('"')
+def cut(text: str) -> str:
+    """Returns a text, of a long one the beginning."""
     return text if len(text) <= LONGEST else SPLIT.sub('', text[:LONGEST]) + '..'
 
 
 def settings_in(items: Mapping[str, str]) -> Iterator[str]:
     """The attributes that a call sets."""
     if items.get('set_mode') == '1':
-        yield items['mode']
+        yield number_named('mode', items['mode'])
     for name in ('uid', 'gid', 'size'):
         if items.get('set_' + name) == '1':
             yield f'{name} {items[name]}'
@@ -167,7 +180,7 @@ def answer_in(procedure: str, said: str) -> str:
 @functools.lru_cache(KEPT_AT_MOST)
 def result_of(template: str, values: tuple[str, ...]) -> str:
     """What a success says, by names of items each with its value."""
-    return 'OK ' + template.format_map(Told(zip(values[::2], values[1::2])))
+    return 'OK ' + told(template, zip(values[::2], values[1::2]))
 
 
 def entries_in(said: str) -> str:

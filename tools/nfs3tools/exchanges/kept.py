@@ -12,7 +12,7 @@ from __future__ import annotations
 import re
 from array import array
 from collections import defaultdict
-from collections.abc import Iterable, Mapping, Sequence
+from collections.abc import Mapping, Sequence
 from functools import cached_property
 from typing import NamedTuple
 
@@ -26,7 +26,7 @@ from .objects import LISTING, MAKING, RENAMING, TEACHING, UNKNOWN, Move, Paths, 
 from .stored import Texts, Values, without_long
 
 UNTIMED = -1 << 63  # stands for no latency
-HANDLE = re.compile(r' (fh)=(\w*)')
+HANDLE = re.compile(r' (fh)=([^ ]*)')
 
 
 class Part(NamedTuple):
@@ -83,7 +83,7 @@ class Exchange:
 
     @property
     def latency(self) -> int | None:
-        latency = self.kept.latencies[self.at]
+        latency = self.kept.latency(self.at)
         return None if latency == UNTIMED else latency
 
     @property
@@ -210,13 +210,13 @@ class Exchange:
 
 def call_of(one: Exchange) -> str:
     """A call with its paths and its other arguments."""
-    words, path = [short_name(one.procedure)], one.path
+    asked, words, path = one.asked, [short_name(one.procedure)], one.path
     if path is not None:
         words.append(path)
-    if one.asked.other is not None:
+    if asked.other is not None:
         words.append(f'-> {one.other_path}')
-    if one.asked.words:
-        words.append(one.asked.words)
+    if asked.words:
+        words.append(asked.words)
     if one.again:
         words.append(f'(sent {len(one.again) + 1} times)')
     if one.at in one.kept.earlier:
@@ -230,7 +230,6 @@ class Kept:
     parts, starts, part_of: the connections, the first exchange of each, and that of each exchange
     names, kinds: the procedures, and that of each exchange
     records, xids, frames, times, sizes: of each call
-    latencies: nanoseconds to the first reply
     again: retransmissions, by exchanges
     errors: the errors of replies, by exchanges
     """
@@ -248,14 +247,14 @@ class Kept:
         self.listed_names = list[str]()  # those of the listing
         self.part_of, self.records, self.xids = array('I'), array('I'), array('I')
         self.sizes = array('I')
-        self.frames, self.times, self.latencies = array('Q'), array('q'), array('q')
+        self.frames, self.times = array('Q'), array('q')
         self.again, self.errors = dict[int, list[Sent]](), dict[int, list[str]]()
-        self.said = array('q')  # a hash of what each call says
+        self.said = list[Sequence[int]]()  # hashes of what the calls of each connection say
         # Calls that were sent again on a later connection, both ways, and when all ended.
         self.later, self.earlier = dict[int, int](), dict[int, int]()
         self.ended = 0
         # The first reply of each, from 1 in the order of all replies, 0 for none; and more.
-        self.firsts, self.further = array('Q'), dict[int, list[int]]()
+        self.firsts, self.further = array('I'), dict[int, list[int]]()
         # Of each reply.
         self.reply_records, self.reply_sizes = array('I'), array('I')
         self.reply_frames, self.reply_times = array('Q'), array('q')
@@ -265,6 +264,8 @@ class Kept:
 
     def close(self) -> None:
         self.spool.close()
+        if self.values and self.values.file:
+            self.values.file.close()
 
     def take(self, program: str, connection: TakenConnection, is_refused: bool) -> None:
         """Takes the exchanges of a connection, up to its fault if the program refuses it.
@@ -280,7 +281,7 @@ class Kept:
         call, reply = reading.call, reading.reply
         for line, completion in listed_of(program, connection, is_refused):
             (call if is_call(line) else reply)(line, completion)
-        self.said.extend(reading.said())
+        self.said.append(reading.said())
 
     def link(self) -> None:
         """Finds the calls that were sent again on a later connection of the same client and server:
@@ -291,19 +292,33 @@ class Kept:
                 several[host_of(part.client), part.server].append(number)
         for numbers in several.values():
             last = dict[int, int]()  # the last call with each xid
-            for own in map(self.exchanges_of, numbers):
+            for number in numbers if len(numbers) > 1 else ():
+                own = self.exchanges_of(number)
                 xids = self.xids[own.start:own.stop]
                 if not last.keys().isdisjoint(xids):
                     self.link_calls(own, last)
-                last.update(zip(xids, own))
+                if number != numbers[-1]:
+                    last.update(zip(xids, own))
 
     def link_calls(self, own: range, last: Mapping[int, int]) -> None:
         """Links the calls of a connection with those that were sent before."""
         for at in own:
             before = last.get(self.xids[at])
             if before is not None and self.frames[before] <= self.frames[at] and (
-                    self.kinds[before] == self.kinds[at] and self.said[before] == self.said[at]):
+                    self.kinds[before] == self.kinds[at]) and (
+                    self.said_by(before) == self.said_by(at)):
                 self.earlier[at], self.later[before] = before, at
+
+    def said_by(self, at: int) -> int:
+        """Returns a hash of what a call says."""
+        number = self.part_of[at]
+        return self.said[number][at - self.starts[number]]
+
+    def latency(self, at: int) -> int:
+        """Returns the nanoseconds to the first reply, `UNTIMED` if they are not known."""
+        first, sent = self.firsts[at], self.times[at]
+        answered = self.reply_times[first - 1] if first and sent else 0
+        return answered - sent if answered else UNTIMED
 
     def is_unanswered(self, at: int) -> bool:
         """Whether a call got no reply on its connection, and neither did the same one on an earlier
@@ -356,17 +371,17 @@ class Kept:
     def in_order(self, by_latency: bool) -> list[int]:
         """Returns the numbers of the exchanges by time, or with the longest latency first."""
         if by_latency:
-            return sorted(range(len(self)), key=self.latencies.__getitem__, reverse=True)
+            return sorted(range(len(self)), key=self.latency, reverse=True)
         return sorted(range(len(self)), key=self.times.__getitem__)
 
     @property
     def backward(self) -> int:
         """How many latencies are negative, since the clock went back."""
-        return sum(UNTIMED < latency < 0 for latency in self.latencies)
+        return sum(UNTIMED < self.latency(at) < 0 for at in range(len(self)))
 
     @property
     def has_latencies(self) -> bool:
-        return any(latency != UNTIMED for latency in self.latencies)
+        return any(self.latency(at) != UNTIMED for at in range(len(self)))
 
 
 def has_all_replies(connection: TakenConnection) -> bool:
@@ -386,7 +401,7 @@ class Reading:
 
     def __init__(self, kept: Kept, paths: Paths) -> None:
         self.kept, self.paths = kept, paths
-        self.rule, self.owners = Answering(), array('Q')  # the exchange of each call
+        self.rule, self.owners = Answering(), array('I')  # the exchange of each call
         self.number = len(kept.parts) - 1
         self.cut = kept.values.cut if kept.values else without_long
 
@@ -410,21 +425,24 @@ class Reading:
         kept.sizes.append(size)
         kept.frames.append(frame)
         kept.times.append(time)
-        kept.latencies.append(UNTIMED)
         kept.firsts.append(0)
         if kept.has_texts:
             kept.asking.append(self.cut(text))
 
-    def said(self) -> Iterable[int]:
+    def said(self) -> Sequence[int]:
         """Returns a hash of what the call of each exchange says."""
         said = self.rule.said
         if len(self.kept) - self.kept.starts[-1] == len(said):
             return said  # none was sent again
-        return dict(zip(self.owners, said)).values()
+        return array('q', dict(zip(self.owners, said)).values())
 
     def kind_of(self, listed: str, text: str) -> int:
         """Returns the number of a call's procedure."""
-        kept, name = self.kept, name_of_call(listed, text)
+        kept = self.kept
+        number = kept.numbers.get(listed)  # none is there for raw calls, which have other names
+        if number is not None:
+            return number
+        name = name_of_call(listed, text)
         number = kept.numbers.setdefault(name, len(kept.names))
         if number == len(kept.names):
             kept.names.append(name)
@@ -448,8 +466,6 @@ class Reading:
             kept.further.setdefault(at, []).append(number)
         else:
             kept.firsts[at] = number + 1
-            if time and kept.times[at]:
-                kept.latencies[at] = time - kept.times[at]
         error = error_in(name, text)
         if error:
             kept.errors.setdefault(at, []).append(error)

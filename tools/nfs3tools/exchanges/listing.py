@@ -18,7 +18,7 @@ from ..shared.programs import lines_of_program
 from .answering import Answering
 from .stored import Value, Values
 
-ITEM = re.compile(r' (\w+)=("[^"]*"|\S*)')
+ITEM = re.compile(r' ([^=]+)=("[^"]*"|[^ ]*)')
 NUMBERS = re.compile(r' ?mtype=0 rpcvers=2 prog=(\d+) vers=(\d+) proc=(\d+) ')
 REFUSED = 2  # the status of `show` after a fault
 

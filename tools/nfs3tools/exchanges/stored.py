@@ -34,6 +34,13 @@ class Long:
     def __str__(self) -> str:
         return f'SHA-256 {self.digest}, {self.size} bytes'
 
+    def __len__(self) -> int:
+        return self.size
+
+    def __getitem__(self, part: slice) -> bytes:
+        """Returns a slice as that of bytes."""
+        return self.read(*part.indices(self.size)[:2])
+
     def read(self, begin: int, end: int) -> bytes:
         """Returns the bytes from one place up to another, or up to the end."""
         return os.pread(self.file.fileno(), max(0, min(end, self.size) - begin),
@@ -93,6 +100,8 @@ class Values:
 def begin_of_long(text: str) -> int | None:
     """Returns where the long value of some items begins, if there is one. Data and raw bytes are
     long, which are the last item of a message."""
+    if len(text) <= KEPT_AT_MOST:
+        return None
     begin = text.rfind('=') + 1
     return begin if len(text) - begin > KEPT_AT_MOST and text[-1] != '"' else None
 
@@ -109,7 +118,6 @@ class Texts:
     def __init__(self, spool: Spool) -> None:
         self.stored, self.begins, self.size = Stored(spool), array('Q', [0]), 0
         self.waiting = list[str]()  # are not stored yet
-        self.waiting_size = 0
         # Bytes that were read, where they begin, and where the last text ended.
         self.block, self.at, self.end = b'', 0, 0
 
@@ -119,14 +127,13 @@ class Texts:
     def append(self, text: str) -> None:
         self.waiting.append(text)
         self.size += len(text)
-        self.waiting_size += len(text)
         self.begins.append(self.size)
-        if self.waiting_size > READ_AT_ONCE:
+        if self.size - self.stored.size > READ_AT_ONCE:
             self.store()
 
     def store(self) -> None:
         self.stored.append(''.join(self.waiting).encode('latin-1'))
-        self.waiting, self.waiting_size = [], 0
+        self.waiting = []
 
     def __getitem__(self, number: int) -> str:
         begin, end = self.begins[number], self.begins[number + 1]

@@ -190,14 +190,6 @@ class Open:
                     return False
         return True
 
-    def is_over(self, midstream: bool) -> bool:
-        """Whether nothing that comes can be of use: without --midstream after bytes that are
-        missing for good, or if the beginning is."""
-        streams = self.connection.streams
-        return self.size > KEPT_AT_MOST or not midstream and (
-            any(stream.runs and (stream.runs[0].gap or len(stream.runs) > 1) for stream in streams)
-            or self.size >= FIRST_SIZE and not any(stream.is_begin for stream in streams))
-
     def client_stream(self, client: TakenStream) -> Streamed:
         """The stream of a section, after the calls that have no reply in earlier ones."""
         if self.carried is None:
@@ -262,11 +254,9 @@ class Following:
     def grown(self, one: Open) -> None:
         """Gives a connection its number with its first bytes, and judges it if its section has
         grown enough."""
-        if not one.number and any(stream.stored.size
-                                  and (self.options.midstream or stream.is_begin)
-                                  for stream in one.connection.streams):
+        if not one.number and any(stream.stored.size for stream in one.connection.streams):
             self.give_number(one)
-        if one.is_over(self.options.midstream):
+        if one.size > KEPT_AT_MOST:
             self.end(one.connection.number)
         elif one.size >= one.next_size:
             self.judge(one)
@@ -315,8 +305,7 @@ class Following:
         is_begun = all(stream.is_begin for stream in one.connection.streams if stream.stored.size)
         if one.lacks or not one.number or not is_begun and one.size < FIRST_SIZE:
             return
-        selected = select(one.connection, self.options._replace(whole_records=False), one.known,
-                          goes_on=True)
+        selected = select(one.connection, one.known, goes_on=True)
         streams = streams_of(one.connection, selected)
         for stream, kept in zip(streams, selected.kept):
             cut_to_whole(stream, kept)
@@ -365,7 +354,7 @@ class Following:
             return
         for stream in one.connection.streams:
             stream.finish()
-        selected = select(one.connection, self.options, one.known)
+        selected = select(one.connection, one.known)
         if not one.number and any(kept.ranges for kept in selected.kept):
             self.give_number(one)
         verdict = self.verdict(one, selected)
@@ -401,8 +390,7 @@ class Following:
         self.say(verdict)
         one.connection.strays = []
         self.taken += verdict.connection is not None
-        is_lasting = verdict.state in ('refused', 'error') or (
-            not self.options.midstream and verdict.state == 'in part')
+        is_lasting = verdict.state in ('refused', 'error')
         self.forget(one, not is_lasting and not verdict.message.endswith(NO_RPC))
 
     def forget(self, one: Open, is_told: bool) -> None:

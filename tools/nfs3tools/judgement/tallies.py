@@ -138,7 +138,7 @@ def count_exchange(kept: Kept, at: int, tally: Tally, recording: str) -> None:
     tally.reply_bytes += sum(map(kept.reply_sizes.__getitem__, replies))
     tally.unanswered += not replies and (at not in kept.earlier or kept.is_unanswered(at))
     tally.errors.update(kept.errors.get(at, ()))
-    latency = kept.latencies[at]
+    latency = kept.latency(at)
     if latency != UNTIMED:
         tally.latencies.append(latency)
         if tally.longest is None or latency > tally.longest.latency:

@@ -1,12 +1,15 @@
-"""Verdicts on connections: what the program's answer says of one, and the row that is printed of
-it."""
+"""Verdicts on connections: what the program's answer says of one, the exchanges of those that were
+judged, and the row that is printed of one."""
 from __future__ import annotations
 
 import re
 import sys
 import typing
+from collections import Counter
 from collections.abc import Iterable, Mapping, Sequence
 
+from ..exchanges.kept import Kept
+from ..exchanges.stored import Values
 from ..recordings.coverage import (
     Allowed, Called, Counts, Covered, Word, called_in, counts_of, of_connection)
 from ..recordings.selection import BEGUN_BEFORE, count
@@ -19,6 +22,7 @@ from ..shared.screens import Colour, Screen
 NOT_ALL_OK = 1
 VERSION = 2  # of the forms of JSON with verdicts; the first was a list of them
 HEADS = ('recording', 'connection', 'client', 'server', 'calls', 'replies', 'verdict')
+COVERED = ('in part', 'left out', 'not checked')  # states of what is not judged whole
 State = typing.Literal['ok', 'refused', 'in part', 'left out', 'not checked', 'error', 'note']
 LEFT_OUT = re.compile(r'left out: (\S+) and (\S+): ')
 COUNTS = re.compile(r'ok connections=1 calls=(\d+) replies=(\d+) handles=\d+\n')
@@ -59,7 +63,7 @@ class Verdict(typing.NamedTuple):
 
     def is_good(self, allowed: Allowed) -> bool:
         """Whether the status may be 0 beside it."""
-        if self.state in ('in part', 'left out', 'not checked'):
+        if self.state in COVERED:
             return Covered(typing.cast(Word, self.state), missing=self.missing, lacks=self.lacks,
                            shows_calls=self.shows_calls).is_good(allowed)
         return self.state in ('ok', 'note')
@@ -162,6 +166,39 @@ def object_of(verdict: Verdict) -> dict[str, object]:
                frames=[frame._asdict() for frame in verdict.frames],
                seconds=round(verdict.seconds, 3))
     return row
+
+
+def members_of(verdicts: Sequence[Verdict]) -> dict[str, object]:
+    """What all forms of JSON have of verdicts: the counts, and an object for each."""
+    return {'counts': counts_after(verdicts).members(), 'verdicts': [*map(object_of, verdicts)]}
+
+
+# --- Exchanges ---
+
+def kept_in(program: str, taken: Taken, verdicts: Iterable[Verdict],
+            values: Values | None = None, has_texts: bool = True) -> Kept:
+    """Returns the exchanges of the connections that were judged, as `Kept` is to keep them.
+
+    Raises `Died` and `OSError`.
+    """
+    kept = Kept(values, has_texts)
+    states = {verdict.connection: verdict.state for verdict in verdicts}
+    for connection in taken.connections:
+        state = states.get(connection.number, 'error')
+        if state != 'error':
+            kept.take(program, connection, state == 'refused')
+    kept.ended = taken.ended
+    kept.link()
+    return kept
+
+
+def count_unanswered(kept: Kept, verdicts: list[Verdict]) -> None:
+    """Gives the verdicts on connections the numbers of their calls without a reply."""
+    unanswered = Counter(kept.parts[kept.part_of[at]].number
+                         for at, first in enumerate(kept.firsts)
+                         if not first and kept.is_unanswered(at))
+    verdicts[:] = [verdict._replace(unanswered=unanswered[verdict.connection or 0])
+                   for verdict in verdicts]
 
 
 # --- What is printed ---

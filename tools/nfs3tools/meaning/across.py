@@ -2,146 +2,134 @@
 change of its object says nothing of the order of both, and is not asked."""
 from __future__ import annotations
 
-from .alone import unlike
-from .content import Content, Part
-from .names import Names, made_under_a_new_name
-from .objects import UNSURE, Find, Object, Objects, Unstable
-from .recorded import NEVER, OF_NAMES, Exchange, Finding, Recorded, Source, in_frame
-from .values import attributes, before, bytes_in, seconds, size_of
+from ..exchanges.values import attributes, seconds
+from .alone import broken, unlike_made
+from .names import Names
+from .objects import END, Content, Object, Objects, Part
+from .recorded import NEVER, OF_CONTENT, REMOVES, UNCHECKED, Exchange, Recorded
+from .rules import Findings, Source
 
-UNSTABLE, UNCHECKED = 0, 0
+UNSTABLE = 0
+Verifier = tuple[str, str, str]  # its server, what it is, and its digits
 
 
 class Across:
-    """Takes exchanges, and finds which of them cannot both be right.
+    """Takes exchanges, and finds which of them cannot both be right. Rules about clients are asked
+    if all connections were judged whole."""
 
-    is_whole: whether all connections were judged whole, so that rules about clients are asked
-    reads, bytes, beside: the READs whose data were compared, their bytes, and the READs that were
-        not since a change was beside them
-    """
-
-    def __init__(self, recorded: Recorded, find: Find, is_whole: bool) -> None:
-        self.recorded, self.find, self.is_whole = recorded, find, is_whole
-        self.objects = Objects(recorded, find)
+    def __init__(self, recorded: Recorded, findings: Findings, is_whole: bool) -> None:
+        self.recorded, self.findings, self.is_whole = recorded, findings, is_whole
+        self.objects = Objects(findings)
         self.names = Names(self.objects)
-        self.verifiers: dict[str, tuple[str, Source | None]] = {}
-        self.reads = self.bytes = self.beside = 0
+        self.verifiers = dict[str, tuple[Verifier, Source]]()
+        self.ways = {'WRITE': self.write, 'READ': self.read, 'SETATTR': self.set_size,
+                     'CREATE': self.create, 'COMMIT': self.commit}
 
     def take(self, one: Exchange) -> None:
         """Takes an exchange whose call was accepted. None before it has a later end."""
-        told = [it for it in one.told if it.handle]
-        for it in told:
-            self.objects.observe(one, it.handle or '', it)
-        if one.end < NEVER:
-            takes = {'WRITE': self.write, 'READ': self.read, 'SETATTR': self.set_attributes,
-                     'CREATE': self.create, 'COMMIT': self.commit}.get(one.procedure)
-            if takes:
-                takes(one)
+        self.objects.shown, several = set(), [told for told in one.told if told.handle]
+        for told in several:
+            self.objects.observe(one, told)
+        if one.source.end < NEVER:
+            if one.procedure in self.ways and (one.is_ok or one.procedure in OF_CONTENT):
+                self.ways[one.procedure](one, self.objects.at(one, one.call['fh']))
             if one.server not in self.recorded.insensitive:
                 self.names.take(one)
-        if one.procedure in OF_NAMES and (one.is_ok or one.status in UNSURE):
-            self.objects.relinked = max(self.objects.relinked, one.end)
-        for it in told:
-            self.objects.settle(one, it.handle or '', it.now)
+        if one.procedure in REMOVES and one.is_done:
+            self.objects.relinked[one.server] = one.source.end
+        for told in several:
+            self.objects.settle(one, told)
 
     def end(self) -> None:
-        """Finds what counts only once all exchanges are taken."""
-        self.objects.end()
+        """Finds what counts only once all exchanges are taken. UNSTABLE data are committed before
+        their connection ends, if no file is removed."""
         self.names.end()
-        for known in self.objects.known.values() if self.is_whole else ():
-            for left in known.unstable:
-                self.find(Finding('not-committed', left.source.number,
-                                  f'bytes {left.first:,} to {left.last:,}'))
+        kept, several = self.recorded.kept, self.objects.known.values() if self.is_whole else ()
+        for known, left in ((known, left) for known in several for left in known.unstable):
+            if left.source and self.objects.relinked[known.key[0]] < left.source.begin \
+                    and kept.parts[kept.part_of[left.source.number]].has_all_replies:
+                self.findings.add('not-committed', left.source,
+                                  f'bytes {left.begin:,} to {left.end:,}')
 
-    # --- Data ---
-
-    def write(self, one: Exchange) -> None:
-        known, first = self.objects.at(one, one.call['fh']), one.call['offset']
-        last = first + one.call['count']
-        is_alone = not any(change.meets(first, last)
-                           for change in self.recorded.beside(one, one.call['fh']))
+    def write(self, one: Exchange, known: Object) -> None:
+        """Takes what was written, and that it is not committed."""
         if not one.is_ok:
-            known.content.put(Part(first, last))
+            known.content.put(Part(one.first, one.last))
             return
-        data = one.call['data']
-        last = first + min(size_of(data), one.reply['count'])
-        known.content.put(Part(first, last, data if is_alone else None, first,
-                               one.source._replace(frame=one.begin)))
         self.write_time(one, known)
-        self.same_verifier(one)
+        verifier = self.verifier_of(one)
+        is_alone = not any(change.meets(one.first, one.last) for change in one.beside())
+        data, last = one.call['data'], one.first + min(len(one.call['data']), one.reply['count'])
+        is_unstable = one.reply['committed'] == UNSTABLE and one.first < last
+        # (the frame of the call has the data)
+        part = Part(one.first, last, one.source._replace(frame=one.source.begin),
+                    data if is_alone else None, one.first, verifier if is_unstable else None)
+        known.content.put(part)
         known.unstable = [left for left in known.unstable
-                          if not first <= left.first <= left.last <= last]
-        if one.reply['committed'] == UNSTABLE and first < last:
-            known.unstable.append(Unstable(one.source, one.reply['verf'], first, last))
+                          if not one.first <= left.begin <= left.end <= last]
+        known.unstable += [part] * is_unstable
 
     def write_time(self, one: Exchange, known: Object) -> None:
         """WRITE that moves mtime moves ctime as well."""
-        after, was = attributes(one.reply, 'obj.after.'), before(one.reply, 'obj.') or known.seen
+        (_, after, before), seen = one.told[0], known.seen
+        was, source = before or seen and seen.now, seen and seen.source
         if after and was and one.call['count'] and after.ctime < after.mtime != was.mtime \
-                and self.recorded.is_quiet(one, one.call['fh']):
-            text = (f'mtime is {seconds(after.mtime)}, {in_frame(known.source)} it was '
+                and one.is_quiet():
+            text = (f'mtime is {seconds(after.mtime)}, {source or "before"} it was '
                     f'{seconds(was.mtime)}, and ctime is {seconds(after.ctime)}')
-            self.find(Finding('write-ctime', one.number, text, known.source))
+            self.findings.add('write-ctime', one.source, text, source)
 
-    def read(self, one: Exchange) -> None:
+    def read(self, one: Exchange, known: Object) -> None:
         """READ returns what was written or read before."""
-        if not one.is_ok:
+        looked, data = self.findings.looked, one.reply['data'][:]
+        if one.call['fh'] not in self.objects.shown or known.is_blind:
+            looked.beside += 1
             return
-        known = self.objects.at(one, one.call['fh'])
-        if 'obj.type' not in one.reply or known.is_blind \
-                or not self.recorded.is_quiet(one, one.call['fh']):
-            self.beside += 1
-            return
-        first, kept = one.call['offset'], one.reply['data']
-        data = bytes_in(kept, 0, size_of(kept))
-        found, compared = known.content.unlike(first, data)
-        self.reads, self.bytes = self.reads + (compared > 0), self.bytes + compared
-        if found:
-            source = found.part.source
-            text = (f'byte {found.at:,} is {data[found.at - first]:02x}, {in_frame(source)} it was '
-                    f'{found.was:02x}, with the same mtime and size')
-            self.objects.doubt(known, source.frame if source else 0,
-                               Finding('read-data', one.number, text, source))
-        known.content.put(Part(first, first + len(data), kept, first, one.source))
+        at, part, compared = known.content.unlike(one.first, data)
+        looked.reads, looked.bytes = looked.reads + (compared > 0), looked.bytes + compared
+        if part and part.data and part.source:
+            was = part.data[at - part.at:at - part.at + 1][0]
+            text = (f'byte {at:,} is {data[at - one.first]:02x}, {part.source} it was {was:02x}, '
+                    'with the same mtime and size')
+            self.objects.find(one, known, 'read-data', text, part.source, part.verifier)
+        known.content.put(Part(one.first, one.first + len(data), one.source, one.reply['data'],
+                               one.first))
 
-    def set_attributes(self, one: Exchange) -> None:
+    def set_size(self, one: Exchange, known: Object) -> None:
+        """SETATTR of a size forgets the bytes behind it."""
         size = one.call.get('set.size')
-        if size is None:
-            return
-        known = self.objects.at(one, one.call['fh'])
-        known.unstable = [left for left in known.unstable if left.first < size]
-        if one.is_ok and self.recorded.is_quiet(one, one.call['fh']):
-            known.content.cut(size)
-        elif one.is_ok or one.status in UNSURE:
-            known.content = Content()
+        if size is not None and one.is_done:
+            known.unstable = [left for left in known.unstable if left.begin < size]
+            known.content.put(Part(size if one.is_ok and one.is_quiet() else 0, END))
 
-    def create(self, one: Exchange) -> None:
-        if not one.is_ok or one.call['how'] != UNCHECKED:
+    def create(self, one: Exchange, _: Object) -> None:
+        """UNCHECKED CREATE makes a file, or cuts one."""
+        if one.call['how'] != UNCHECKED:
             return
         made = attributes(one.reply, 'obj.')
-        if made and made_under_a_new_name(one, self.objects):
-            for text in unlike(one, made, self.recorded):
-                self.find(Finding('made-attributes', one.number, text))
+        for rule, text in broken(unlike_made(one, made)) if made and self.names.is_new(one) else ():
+            self.findings.add(rule, one.source, text)
         if one.call.get('set.size') == 0 and 'fh' in one.reply:
             known = self.objects.at(one, one.reply['fh'])
             known.content, known.unstable = Content(), []
 
-    def commit(self, one: Exchange) -> None:
+    def commit(self, one: Exchange, known: Object) -> None:
         """Data whose WRITE ended before are committed, if the verifier is the same."""
-        if not one.is_ok:
-            return
-        self.same_verifier(one)
-        known, first = self.objects.at(one, one.call['fh']), one.call['offset']
-        last = first + one.call['count'] if one.call['count'] else NEVER
+        verifier = self.verifier_of(one)
+        last = one.last if one.call['count'] else END
         known.unstable = [left for left in known.unstable
-                          if left.first < first or left.last > last
-                          or left.source.end >= one.begin or left.verifier != one.reply['verf']]
+                          if left.begin < one.first or left.end > last
+                          or left.source and left.source.end >= one.source.begin
+                          or left.verifier != verifier]
 
-    def same_verifier(self, one: Exchange) -> None:
-        verifier = one.reply['verf']
-        known, source = self.verifiers.get(one.server, (verifier, None))
+    def verifier_of(self, one: Exchange) -> Verifier:
+        """Returns the verifier of a reply, which stays. Data under one that is another now may be
+        lost."""
+        verifier = one.server, 'verifier', one.reply['verf']
+        known, source = self.verifiers.setdefault(one.server, (verifier, one.source))
         if known != verifier:
-            text = f'verf is {verifier}, {in_frame(source)} it was {known}'
-            self.find(Finding('verifier', one.number, text, source))
-        if known != verifier or source is None:
+            text = f'verf is {verifier[2]}, {source} it was {known[2]}'
+            self.findings.add('verifier', one.source, text, source)
+            self.findings.denied.add(known)
             self.verifiers[one.server] = verifier, one.source
+        return verifier

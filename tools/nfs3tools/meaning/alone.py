@@ -1,229 +1,192 @@
-"""The rules about one exchange: a reply against its call. Each yields what is wrong."""
+"""The rules about one exchange: a reply against its call. Each function yields whether a rule is
+broken, its name, and how."""
 from __future__ import annotations
 
-from collections import defaultdict
-from collections.abc import Callable, Iterator
+from collections.abc import Callable, Iterable, Iterator
+from itertools import chain
 
-from .recorded import MAKES, OF_NAMES, Exchange, Recorded
-from .values import Attributes, Values, attributes, before, length_of, seconds, size_of
+from ..exchanges.values import Attributes, Values, attributes, seconds, size_of_entry
+from .recorded import (
+    DIRECTORY, EXCLUSIVE, GUARDED, LINK, LISTINGS, MAKES, OF_NAMES, REGULAR, UNCHECKED, Exchange)
 
-Check = Callable[[Exchange, Recorded], Iterator[str]]
-REGULAR, DIRECTORY, LINK = 1, 2, 5
+Asked = Iterator[tuple[object, str, str]]
 TYPES = {'CREATE': REGULAR, 'MKDIR': DIRECTORY, 'SYMLINK': LINK}
-LISTINGS = ('READDIR', 'READDIRPLUS')
-NOT_SYNC, EXCLUSIVE, UNCHECKED, GUARDED = 10002, 2, 0, 1
-PERMISSIONS = 0o777  # a server may leave out the other bits of a mode
+NOT_SYNC = 10002
 SECOND = 10**9  # nanoseconds
-# The rules of each procedure, with those that failures are put to as well.
-OF_SUCCESS = defaultdict[str, list[tuple[str, Check]]](list)
-OF_ALL = defaultdict[str, list[tuple[str, Check]]](list)
+STEP = 2  # seconds of a server's times
+PERMISSIONS, OF_OTHERS = 0o777, 0o077  # a server may leave out the other bits of a mode
+NOT_SET = 0xffffffff  # a uid or gid that stays as it is
+# Rules that a change breaks which comes between the data of a READ and its attributes.
+BESIDE = ('read-eof', 'read-past-end')
 
 
-def checks(name: str, *procedures: str, of_failures: bool = False) -> Callable[[Check], Check]:
-    """Makes a function the check of a rule, for these procedures or for all."""
-    def add(check: Check) -> Check:
-        for procedure in procedures or ('',):
-            (OF_ALL if of_failures else OF_SUCCESS)[procedure].append((name, check))
-        return check
-    return add
-
-
-def broken_by(one: Exchange, recorded: Recorded) -> Iterator[tuple[str, str]]:
+def broken_by(one: Exchange) -> Iterator[tuple[str, str]]:
     """Iterates over the rules that an exchange breaks, each with how."""
-    rules = OF_ALL[''] + OF_ALL[one.procedure]
-    for name, check in rules + OF_SUCCESS[one.procedure] if one.is_ok else rules:
-        for text in check(one, recorded):
-            yield name, text
+    of_reply = CHECKS.get(one.procedure, ()) if one.is_ok else ()
+    checks = (of_attributes, *OF_ANY_STATUS.get(one.procedure, ()), *of_reply)
+    return broken(chain.from_iterable(check(one) for check in checks))
+
+
+def broken(asked: Asked) -> Iterator[tuple[str, str]]:
+    return ((rule, text) for is_broken, rule, text in asked if is_broken)
 
 
 # --- Data ---
 
-@checks('read-count-asked', 'READ')
-@checks('write-count-asked', 'WRITE')
-def count_asked(one: Exchange, recorded: Recorded) -> Iterator[str]:
-    if one.reply['count'] > one.call['count']:
-        yield f'count {one.reply["count"]} of {one.call["count"]}'
+def of_data(one: Exchange) -> Asked:
+    """Asks how much a WRITE has, or the reply to a READ."""
+    values = one.call if one.procedure == 'WRITE' else one.reply
+    count, size = values['count'], len(values['data'])
+    yield (count != size, f'{one.procedure.lower()}-count-data',
+           f'count {count}, data of {size} bytes')
 
 
-@checks('read-count-data', 'READ')
-def read_count(one: Exchange, recorded: Recorded) -> Iterator[str]:
-    if one.reply['count'] != size_of(one.reply['data']):
-        yield f'count {one.reply["count"]}, data of {size_of(one.reply["data"])} bytes'
+def of_count(one: Exchange) -> Asked:
+    count, most = one.reply['count'], one.call['count']
+    yield count > most, f'{one.procedure.lower()}-count-asked', f'count {count} of {most}'
 
 
-@checks('write-count-data', 'WRITE', of_failures=True)
-def write_count(one: Exchange, recorded: Recorded) -> Iterator[str]:
-    if one.call['count'] != size_of(one.call['data']):
-        yield f'count {one.call["count"]}, data of {size_of(one.call["data"])} bytes'
+def of_read(one: Exchange) -> Asked:
+    size, eof, end = one.reply.get('obj.size'), one.reply['eof'], one.first + one.reply['count']
+    if size is not None and one.is_quiet():
+        yield (one.call['count'] and (end >= size) != bool(eof), 'read-eof',
+               f'eof {eof} at {end} of {size} bytes')
+        yield one.first < end > size, 'read-past-end', f'bytes to {end} of {size}'
 
 
-@checks('read-eof', 'READ')
-def read_eof(one: Exchange, recorded: Recorded) -> Iterator[str]:
-    size, end = one.reply.get('obj.size'), one.call['offset'] + one.reply['count']
-    if size is not None and one.call['count'] and (end >= size) != bool(one.reply['eof']) \
-            and recorded.is_quiet(one, one.call['fh']):
-        yield f'eof {one.reply["eof"]} at {end} of {size} bytes'
-
-
-@checks('read-past-end', 'READ')
-def read_past_end(one: Exchange, recorded: Recorded) -> Iterator[str]:
-    size, end = one.reply.get('obj.size'), one.call['offset'] + one.reply['count']
-    if size is not None and one.reply['count'] and end > size \
-            and recorded.is_quiet(one, one.call['fh']):
-        yield f'bytes to {end} of {size}'
-
-
-@checks('write-committed', 'WRITE')
-def committed(one: Exchange, recorded: Recorded) -> Iterator[str]:
-    if one.reply['committed'] < one.call['stable']:
-        yield f'committed {one.reply["committed"]}, asked for {one.call["stable"]}'
-
-
-@checks('write-size', 'WRITE')
-def write_size(one: Exchange, recorded: Recorded) -> Iterator[str]:
-    size, end = one.reply.get('obj.after.size'), one.call['offset'] + one.reply['count']
-    if size is not None and one.reply['count'] and size < end and one.end > one.begin \
-            and all(change.is_write for change in recorded.beside(one, one.call['fh'])):
-        yield f'size {size} after bytes to {end}'
+def of_write(one: Exchange) -> Asked:
+    size, end = one.reply.get('obj.after.size'), one.first + one.reply['count']
+    committed, stable = one.reply['committed'], one.call['stable']
+    yield (one.first < end and committed < stable, 'write-committed',
+           f'committed {committed}, asked for {stable}')
+    if size is not None and one.first < end > size and one.recorded.has_frames:
+        yield (all(change.written for change in one.beside()), 'write-size',
+               f'size {size} after bytes to {end}')
 
 
 # --- Attributes ---
 
-@checks('access-asked', 'ACCESS')
-def access_asked(one: Exchange, recorded: Recorded) -> Iterator[str]:
-    if one.reply['access'] & ~one.call['access']:
-        yield f'0x{one.reply["access"]:x} of 0x{one.call["access"]:x}'
-
-
-@checks('nsec', of_failures=True)
-def nanoseconds(one: Exchange, recorded: Recorded) -> Iterator[str]:
+def of_attributes(one: Exchange) -> Asked:
+    """Asks what holds for all attributes. An EXCLUSIVE CREATE may keep its verifier in the times
+    (section 3.3.8)."""
+    is_exclusive = one.call.get('how') == EXCLUSIVE
     for told in one.told:
-        for part in (told.now, told.before):
-            for name in ('atime_nsec', 'mtime_nsec', 'ctime_nsec'):
-                if part and getattr(part, name, 0) >= SECOND:
-                    yield f'{name} {getattr(part, name)}'
-
-
-@checks('mode-bits', of_failures=True)
-def mode_bits(one: Exchange, recorded: Recorded) -> Iterator[str]:
-    for told in one.told:
+        for part in told[1:]:
+            if part and max(part.atime[1], part.mtime[1], part.ctime[1]) >= SECOND:
+                times = map(seconds, (part.atime, part.mtime, part.ctime))
+                yield not is_exclusive, 'nsec', 'atime {}, mtime {}, ctime {}'.format(*times)
         if told.now and told.now.mode & ~0o7777:
-            yield f'mode 0{told.now.mode:o}'
+            yield True, 'mode-bits', f'mode 0{told.now.mode:o}'
 
 
-@checks('dir-type', 'LOOKUP', *LISTINGS, *OF_NAMES)
-def directory_type(one: Exchange, recorded: Recorded) -> Iterator[str]:
-    for owner in ('dir.type', 'dir.after.type'):
-        if one.reply.get(owner, DIRECTORY) != DIRECTORY:
-            yield f'type {one.reply[owner]}'
+def of_access(one: Exchange) -> Asked:
+    granted, asked = one.reply['access'], one.call['access']
+    yield granted & ~asked, 'access-asked', f'0x{granted:x} of 0x{asked:x}'
 
 
-@checks('made-type', *MAKES)
-def made_type(one: Exchange, recorded: Recorded) -> Iterator[str]:
-    asked = TYPES.get(one.procedure, one.call.get('type'))
-    if one.reply.get('obj.type', asked) != asked:
-        yield f'type {one.reply["obj.type"]}, asked for {asked}'
+def of_directory(one: Exchange) -> Asked:
+    for kind in map(one.reply.get, ('dir.type', 'dir.after.type')):
+        yield kind not in (None, DIRECTORY), 'dir-type', f'type {kind}'
 
 
-@checks('made-attributes', 'CREATE', 'MKDIR', 'MKNOD')
-def made_attributes(one: Exchange, recorded: Recorded) -> Iterator[str]:
+def of_made(one: Exchange) -> Asked:
+    """Asks what was made. An UNCHECKED CREATE may have found a file of its name."""
     made = attributes(one.reply, 'obj.')
-    if made and one.call.get('how', GUARDED) == GUARDED:
-        yield from unlike(one, made, recorded)
+    if made and one.call.get('how', GUARDED) != UNCHECKED:
+        yield from unlike_made(one, made)
 
 
-@checks('set-attributes', 'SETATTR')
-def set_attributes(one: Exchange, recorded: Recorded) -> Iterator[str]:
-    after = attributes(one.reply, 'obj.after.')
-    if after and recorded.is_quiet(one, one.call['fh']):
-        yield from unlike(one, after, recorded)
+def unlike_made(one: Exchange, made: Attributes) -> Asked:
+    """Asks whether all is as it was asked for. An ACL of the folder may take permissions from
+    groups and others, and who owns a new object is up to the server."""
+    kind, asked = TYPES.get(one.procedure, one.call.get('type')), one.call
+    yield made.type != kind, 'made-type', f'type {made.type}, asked for {kind}'
+    mode = asked.get('set.mode', made.mode) & (made.mode | ~OF_OTHERS)
+    if kind != LINK:
+        yield from unlike('made-attributes', asked, made, mode, ('size',))
 
 
-def unlike(one: Exchange, found: Attributes, recorded: Recorded) -> Iterator[str]:
-    """Iterates over the attributes that are other ones than a call asks for. A server may have
-    times in steps (FSINFO)."""
-    asked = {name[4:]: value for name, value in one.call.items() if name.startswith('set.')}
-    if 'mode' in asked and (asked['mode'] ^ found.mode) & PERMISSIONS:
-        yield f'mode 0{found.mode:o}, asked for 0{asked["mode"]:o}'
-    for name in ('uid', 'gid', 'size'):
-        if asked.get(name, getattr(found, name)) != getattr(found, name):
-            yield f'{name} {getattr(found, name)}, asked for {asked[name]}'
-    for name in ('atime', 'mtime'):
-        if name + '_sec' in asked:
-            wanted = asked[name + '_sec'] * SECOND + asked[name + '_nsec']
-            is_now = getattr(found, name + '_sec') * SECOND + getattr(found, name + '_nsec')
-            if abs(is_now - wanted) >= max(1, recorded.deltas.get(one.server, SECOND)):
-                yield f'{name} {seconds(is_now)}, asked for {seconds(wanted)}'
+def of_setting(one: Exchange) -> Asked:
+    """Asks what is set. A symbolic link has no mode."""
+    after, asked = one.told[0].now, one.call
+    if after and one.is_quiet():
+        mode = after.mode if after.type == LINK else asked.get('set.mode', after.mode)
+        yield from unlike('set-attributes', asked, after, mode, ('uid', 'gid', 'size'))
 
 
-@checks('guard', 'SETATTR', of_failures=True)
-def guard(one: Exchange, recorded: Recorded) -> Iterator[str]:
-    was = before(one.reply, 'obj.')
-    if 'guard.ctime_sec' not in one.call or not was or not recorded.is_quiet(one, one.call['fh']):
-        return
-    is_same = was.ctime == one.call['guard.ctime_sec'] * SECOND + one.call['guard.ctime_nsec']
-    if one.is_ok and not is_same or one.status == NOT_SYNC and is_same:
-        yield f'status {one.status}, and the ctime before is {"" if is_same else "not "}the guard'
+def unlike(rule: str, asked: Values, found: Attributes, mode: int,
+           names: tuple[str, ...]) -> Asked:
+    """Asks whether attributes are those of a call. A READ moves atime."""
+    yield ((mode ^ found.mode) & PERMISSIONS, rule,
+           f'mode 0{found.mode:o}, asked for 0{asked.get("set.mode", 0):o}')
+    for name in names:
+        value, wanted = getattr(found, name), asked.get(f'set.{name}', NOT_SET)
+        yield wanted not in (value, NOT_SET), rule, f'{name} {value}, asked for {wanted}'
+    time = asked.get('set.mtime', found.mtime)
+    yield (abs(found.mtime[0] - time[0]) > STEP, rule,
+           f'mtime {seconds(found.mtime)}, asked for {seconds(time)}')
+
+
+def of_guard(one: Exchange) -> Asked:
+    was, guard = one.told[0].before, one.call.get('guard.ctime')
+    if guard and was and one.is_quiet():
+        is_same = was.ctime == guard
+        yield (one.status == NOT_SYNC if is_same else one.is_ok, 'guard', f'status {one.status}, '
+               f'and the ctime before is {"" if is_same else "not "}the guard')
 
 
 # --- Directories and file systems ---
 
-@checks('entry-names', *LISTINGS)
-def entry_names(one: Exchange, recorded: Recorded) -> Iterator[str]:
-    seen = set[str]()
-    for name in (entry['name'] for entry in one.reply['entries']):
-        if name in seen or not name or '/' in name or '\\x00' in name:
-            yield f'"{name}"'
-        seen.add(name)
+def of_entry_names(one: Exchange) -> Asked:
+    """Asks the names of entries. One that moves meanwhile may be there twice."""
+    names = [entry['name'] for entry in one.reply['entries']]
+    again = {*repeated(names)} if one.is_alone() else ()
+    for at, name in enumerate(names):
+        is_none = not name or '/' in name or '\\x00' in name
+        yield is_none or at in again, 'entry-names', f'"{name}"'
 
 
-@checks('entry-cookies', *LISTINGS)
-def entry_cookies(one: Exchange, recorded: Recorded) -> Iterator[str]:
-    seen = {0, one.call['cookie']}
+def of_entries(one: Exchange) -> Asked:
+    entries, most = one.reply['entries'], one.call.get('maxcount', one.call.get('count'))
+    cookies = [entry['cookie'] for entry in entries]
+    for at in repeated((0, one.call['cookie'] or None, *cookies)):
+        yield True, 'entry-cookies', f'"{entries[at - 2]["name"]}" has cookie {cookies[at - 2]}'
+    yield not entries and not one.reply['eof'], 'entries-none', 'no entry, and no eof'
+    size = 4 + 84 * ('dir.type' in one.reply) + 8 + sum(map(size_of_entry, entries)) + 4 + 4
+    yield size > most, 'entries-size', f'{size} bytes of {most}'
+
+
+def repeated(values: Iterable[object]) -> Iterator[int]:
+    """Iterates over the numbers of values that are there before, from 0 on."""
+    seen = set[object]()
+    for at, value in enumerate(values):
+        if value in seen:
+            yield at
+        seen.add(value)
+
+
+def of_file_ids(one: Exchange) -> Asked:
+    """Asks the ids of entries. What is mounted on a directory has another one."""
     for entry in one.reply['entries']:
-        if entry['cookie'] in seen:
-            yield f'"{entry["name"]}" has cookie {entry["cookie"]}'
-        seen.add(entry['cookie'])
+        if entry.get('type', DIRECTORY) != DIRECTORY and entry['fsid'] == one.reply.get('dir.fsid'):
+            own, shown = entry['listed.fileid'], entry['fileid']
+            yield (own != shown, 'entry-fileid',
+                   f'"{entry["name"]}" is {own}, and {shown} by its attributes')
 
 
-@checks('entries-none', *LISTINGS)
-def no_entry(one: Exchange, recorded: Recorded) -> Iterator[str]:
-    if not one.reply['entries'] and not one.reply['eof']:
-        yield 'no entry, and no eof'
-
-
-@checks('entries-size', *LISTINGS)
-def entries_size(one: Exchange, recorded: Recorded) -> Iterator[str]:
-    head = 4 + 84 * ('dir.type' in one.reply) + 8
-    size = head + sum(map(size_of_entry, one.reply['entries'])) + 4 + 4
-    most = one.call.get('count', one.call.get('maxcount', 0))
-    if size > most:
-        yield f'{size} bytes of {most}'
-
-
-def size_of_entry(entry: Values) -> int:
-    """Returns how many bytes of XDR an entry has, with the word before it."""
-    size = 4 + 8 + 4 + (length_of(entry['name']) + 3) // 4 * 4 + 8
-    if 'listed.fileid' not in entry:
-        return size
-    handle = 4 + (len(entry['fh']) // 2 + 3) // 4 * 4 if 'fh' in entry else 0
-    return size + 8 + 84 * ('type' in entry) + handle
-
-
-@checks('entry-fileid', 'READDIRPLUS')
-def entry_file_ids(one: Exchange, recorded: Recorded) -> Iterator[str]:
-    for entry in one.reply['entries']:
-        if entry.get('fsid') is not None and entry['fsid'] == one.reply.get('dir.fsid') \
-                and entry['listed.fileid'] != entry['fileid'] and entry['name'] != '..':
-            yield (f'"{entry["name"]}" is {entry["listed.fileid"]}, '
-                   f'and {entry["fileid"]} by its attributes')
-
-
-@checks('fsinfo', 'FSINFO')
-def file_system(one: Exchange, recorded: Recorded) -> Iterator[str]:
+def of_limits(one: Exchange) -> Asked:
+    """Asks the sizes of READ and WRITE. A server that takes no WRITE may have none."""
     for way in ('rt', 'wt'):
         most, best, unit = (one.reply[way + name] for name in ('max', 'pref', 'mult'))
-        if not 0 < best <= most or not unit or best % unit:
-            yield f'{way}max {most}, {way}pref {best}, {way}mult {unit}'
-    if not one.reply['maxfilesize'] or not one.reply['dtpref']:
-        yield f'maxfilesize {one.reply["maxfilesize"]}, dtpref {one.reply["dtpref"]}'
+        yield (best > most or most and not unit, 'fsinfo',
+               f'{way}max {most}, {way}pref {best}, {way}mult {unit}')
+
+
+Checks = dict[str, tuple[Callable[[Exchange], Asked], ...]]
+OF_ANY_STATUS: Checks = {'WRITE': (of_data,), 'SETATTR': (of_guard,)}
+CHECKS: Checks = {
+    **dict.fromkeys(('LOOKUP', *OF_NAMES), (of_directory,)),
+    **dict.fromkeys(MAKES, (of_directory, of_made)),
+    **dict.fromkeys(LISTINGS, (of_directory, of_entry_names, of_entries, of_file_ids)),
+    'READ': (of_count, of_data, of_read), 'WRITE': (of_count, of_write),
+    'SETATTR': (of_setting,), 'ACCESS': (of_access,), 'FSINFO': (of_limits,)}

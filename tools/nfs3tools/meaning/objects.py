@@ -6,205 +6,241 @@ attributes of before has there.
 """
 from __future__ import annotations
 
-from collections.abc import Callable
-from typing import NamedTuple
+import bisect
+from collections import defaultdict
+from collections.abc import Hashable, Iterable
+from dataclasses import dataclass, field
+from typing import NamedTuple, Union
 
-from .content import Content
-from .recorded import (
-    MAKES, Exchange, Finding, Key, Recorded, Source, Told, handles_changed,
-    in_frame)
-from .values import Attributes, Before
+from ..exchanges.values import Attributes, Data, Time, seconds
+from .recorded import DIRECTORY, Exchange, Key, Told
+from .rules import Findings, Source
 
-# Errors after which a part may have been done: IO, NOSPC, DQUOT, SERVERFAULT and JUKEBOX.
-UNSURE = {5, 28, 69, 10006, 10008}
+END = 1 << 64  # no file is larger
 # Nanoseconds in which the clock of a server may stand: of one with parts of seconds, and without.
 TICK, COARSE_TICK = 20_000_000, 2_100_000_000
-LASTING = ('type', 'mode', 'uid', 'gid', 'size', 'mtime', 'fsid', 'fileid')
-State = tuple[int, int]  # size and mtime
-Find = Callable[[Finding], None]
+LASTING = Attributes._fields[:-1]  # all but atime
+State = tuple[int, Time]  # size and mtime
+Ids = tuple[int, int, int]  # type, fsid and fileid
+Named = Union[Ids, bool]  # what a name leads to: True for an unknown object, False for none
+Listing = tuple[Time, int, list[str]]  # up to a cookie: its folder's mtime, the cookie, the names
+
+
+class Part(NamedTuple):
+    """Bytes of a file: what shows them, the data that has them, None if they may be any, where in
+    the file these data begin, and the verifier if they are not committed."""
+    begin: int
+    end: int
+    source: Source | None = None
+    data: Data | None = None
+    at: int = 0
+    verifier: Hashable = None
+
+
+class Content:
+    """What was read or written last of a file: parts in order, none of which overlap. Bytes in no
+    part may be any."""
+
+    def __init__(self) -> None:
+        self.parts: list[Part] = []
+
+    def overlapping(self, begin: int, end: int) -> tuple[int, int]:
+        """Returns the numbers of the first part that overlaps a range, and of the one behind."""
+        low = bisect.bisect_right(self.parts, Part(begin, END))
+        low -= low > 0 and self.parts[low - 1].end > begin
+        return low, bisect.bisect_left(self.parts, Part(end, 0), low)
+
+    def put(self, new: Part) -> None:
+        """Takes bytes, in place of what was known of them."""
+        low, high = self.overlapping(new.begin, new.end)
+        edges = [part._replace(end=min(part.end, new.begin)) for part in self.parts[low:high][:1]]
+        edges += [new] + [part._replace(begin=max(part.begin, new.end))
+                          for part in self.parts[low:high][-1:]]
+        self.parts[low:high] = [part for part in edges if part.begin < part.end]
+
+    def unlike(self, begin: int, data: bytes) -> tuple[int, Part | None, int]:
+        """Returns where the first byte is that is not as it is known, and in which part, if there
+        is one, and how many were compared."""
+        (low, high), compared = self.overlapping(begin, begin + len(data)), 0
+        for part in self.parts[low:high]:
+            first, last = max(part.begin, begin), min(part.end, begin + len(data))
+            now = data[first - begin:last - begin] if part.data is not None else b''
+            was = part.data[first - part.at:last - part.at] if part.data is not None else b''
+            compared += len(now)
+            if was != now:
+                at = next(at for at, (one, other) in enumerate(zip(was, now)) if one != other)
+                return first + at, part, compared
+        return 0, None, compared
 
 
 class Sight(NamedTuple):
-    """The attributes of an object that last, and the ctime, as an exchange shows them."""
-    values: tuple[int, ...]
+    """The attributes of an object at rest, and an exchange that shows them."""
+    now: Attributes
     source: Source
 
 
-class Unstable(NamedTuple):
-    """Bytes of a file that a WRITE left UNSTABLE, and its verifier."""
+class Name(NamedTuple):
+    """What is known of a name, and what shows it."""
+    leads_to: Named
     source: Source
-    verifier: str
-    first: int
-    last: int
 
 
+@dataclass(eq=False)
 class Object:
-    """What is known of an object by one handle.
-
-    ids, shown_by: its type, fsid and fileid as the first reply has them, and that exchange
-    seen, seen_at, source: its attributes when it was last at rest, the frame and the exchange
-    states, befores: its sizes and mtimes after and before the changes since then
-    is_moved, is_blind: whether a change came since then, and one whose reply shows nothing
-    since, confirmed: the times when its ctime was first and last seen
-    loose: the end of the last change whose reply does not show what was before
-    sights: attributes that no recorded change came between
-    names: what is known of the names in it: their objects, True for an unknown one, False for none
-    is_complete: whether it has no other names
-    """
-
-    def __init__(self) -> None:
-        self.seen: Attributes | None = None
-        self.seen_at = self.since = self.confirmed = self.loose = 0
-        self.source: Source | None = None
-        self.ids: tuple[int, int, int] | None = None
-        self.shown_by: Source | None = None
-        self.states, self.befores = set[State](), list[State]()
-        self.is_moved = self.is_blind = self.is_complete = False
-        self.sights = list[Sight]()
-        self.content, self.unstable = Content(), list[Unstable]()
-        self.names, self.named_by = dict[str, 'Key | bool'](), dict[str, Source]()
-        self.listing: tuple[int, int, list[str]] | None = None
+    """What is known of an object by one handle."""
+    key: Key
+    ids: Ids = (0, 0, 0)  # its type, fsid and fileid as the first reply has them ..
+    shown_by: Source | None = None  # .. which is this
+    seen: Sight | None = None  # when it was last at rest
+    since: int = 0  # the time when the ctime of that was seen first
+    earlier: Sight | None = None  # when it was at rest before, if no recorded change came between
+    # The sizes and mtimes after and before the changes since then, and whether one shows nothing.
+    states: set[State] = field(default_factory=set)
+    befores: list[State] = field(default_factory=list)
+    is_blind: bool = False
+    loose: int = 0  # the end of the last change that does not show what was before
+    content: Content = field(default_factory=Content)
+    unstable: list[Part] = field(default_factory=list)  # what is not committed
+    names: dict[str, Name] = field(default_factory=dict)
+    whole: Source | None = None  # a listing that has all names in it
+    listing: Listing | None = None  # one that is not at its end
 
     def forget(self) -> None:
         """Forgets what somebody may have changed who is not recorded."""
-        self.content, self.names, self.is_complete, self.listing = Content(), {}, False, None
+        self.content, self.names, self.whole, self.listing = Content(), {}, None, None
         self.loose = 0
 
+    def forget_name(self, name: str) -> None:
+        self.names.pop(name, None)
+        self.whole = None
 
-def state_of(part: Attributes | Before) -> State:
+
+def state_of(part: Attributes) -> State:
     return part.size, part.mtime
 
 
-class Objects:
-    """The objects of a recording by their servers and handles. `others` are those that somebody
-    changed who is not recorded, and `doubts` findings that count only if nobody did."""
+def apart(names: Iterable[str], now: Iterable[object], was: Iterable[object], where: object) -> str:
+    """Returns which values are others, in words."""
+    return ', '.join(f'{name} is {value}, {where} it was {other}'
+                     for name, value, other in zip(names, now, was) if value != other)
 
-    def __init__(self, recorded: Recorded, find: Find) -> None:
-        self.recorded, self.find = recorded, find
-        self.known = dict[tuple[str, str], Object]()
-        self.others, self.doubts = set[Object](), list[tuple[Object, Finding]]()
-        self.relinked = 0
+
+def lasting(now: Attributes, has_links: bool) -> list[object]:
+    """Returns the values of LASTING, with the number of links or not. What size a directory has,
+    and how many links, is up to the server."""
+    is_own = now.type != DIRECTORY
+    own = now._replace(size=now.size * is_own, nlink=now.nlink * (has_links and is_own))
+    return [seconds(value) if isinstance(value, tuple) else value for value in own[:len(LASTING)]]
+
+
+class Objects:
+    """The objects of a recording by their servers and handles.
+
+    relinked: the end of each server's last call that removed or moved a name
+    shown: the handles of objects whose state an exchange shows, and which nothing else changed
+        meanwhile
+    """
+
+    def __init__(self, findings: Findings) -> None:
+        self.findings, self.shown = findings, set[str]()
+        self.known, self.relinked = dict[Key, Object](), defaultdict[str, int](int)
 
     def at(self, one: Exchange, handle: str) -> Object:
         key = one.server, handle
         known = self.known.get(key)
         if known is None:
-            known = self.known[key] = Object()
+            known = self.known[key] = Object(key)
         return known
 
-    def doubt(self, known: Object, since: int, finding: Finding) -> None:
-        """Finds what is only so if nobody else changed an object since a frame, of which a change
-        shows nothing."""
-        if known.loose > since:
-            self.doubts.append((known, finding))
-        else:
-            self.find(finding)
+    def find(self, one: Exchange, known: Object, rule: str, text: str, source: Source,
+             *unless: Hashable) -> None:
+        """Adds what does not agree with an earlier exchange, if a change after that would be seen:
+        not if the object was not at rest, nor within the tick of a clock that has whole seconds.
+        If a change since does not show what was before, somebody else may have changed it."""
+        if known.seen and (known.seen.now.ctime[1] > 0
+                           or source.begun - known.since >= COARSE_TICK):
+            changed = known.key if known.loose >= source.frame else None
+            self.findings.add(rule, one.source, text, source, (changed, *unless))
 
-    def end(self) -> None:
-        """Finds what was in doubt, once all exchanges are taken."""
-        for known, finding in self.doubts:
-            if known not in self.others:
-                self.find(finding)
-
-    def observe(self, one: Exchange, handle: str, told: Told) -> None:
+    def observe(self, one: Exchange, told: Told) -> None:
         """Takes what a reply says of an object before it is known what the call did."""
-        known = self.at(one, handle)
-        self.same_object(one, handle, known, told)
-        is_change = handle in handles_changed(one.procedure, one.call, one.reply)
-        if is_change and (one.is_ok or one.status in UNSURE):
-            known.sights = []
+        known = self.at(one, told.handle)
+        if told.now:
+            self.same_object(one, known, told.now)
+        if one.is_change and one.is_done:
+            known.earlier = None
             if told.before:
                 known.befores.append(state_of(told.before))
             else:
-                known.loose = one.end
-        is_made = is_change and one.procedure in MAKES and handle == one.reply.get('fh')
-        if is_made or not self.recorded.is_quiet(one, handle):
+                known.loose = one.source.end
+        is_made = one.is_change and told.handle == one.reply.get('fh')
+        if is_made or not one.is_quiet(told.handle):
             return
-        found = told.before if is_change else told.now
-        if found and known.seen:
-            self.at_rest(one, known, found, None if is_change else told.now)
-        elif is_change and not found:
-            known.is_blind, known.loose = True, one.end
+        found = told.before if one.is_change else told.now
+        if found:
+            self.shown.add(told.handle)
+            if known.is_blind:
+                known.forget()
+            if known.seen:
+                self.at_rest(one, known, known.seen, found)
+        elif one.is_change:
+            known.is_blind, known.loose = True, one.source.end
 
-    def same_object(self, one: Exchange, handle: str, known: Object, told: Told) -> None:
+    def same_object(self, one: Exchange, known: Object, told: Attributes) -> None:
         """A handle is of one object."""
-        if not told.now:
-            return
-        now = told.now.type, told.now.fsid, told.now.fileid
-        if known.ids is None:
+        now = told.type, told.fsid, told.fileid
+        if known.shown_by is None:
             known.ids, known.shown_by = now, one.source
         elif now != known.ids:
-            text = ', '.join(f'{name} is {value}, {in_frame(known.shown_by)} it was {was}' for
-                             name, value, was in zip(('type', 'fsid', 'fileid'), now, known.ids)
-                             if value != was)
-            self.find(Finding('handle-object', one.number, f'{handle}: {text}', known.shown_by))
+            text = apart(('type', 'fsid', 'fileid'), now, known.ids, known.shown_by)
+            self.findings.add('handle-object', one.source, f'{known.key[1]}: {text}',
+                              known.shown_by)
 
-    def at_rest(self, one: Exchange, known: Object, found: Attributes | Before,
-                now: Attributes | None) -> None:
-        """Looks at an object that nothing changed during an exchange. `now` is what it is, if the
-        exchange is no change of it."""
-        assert known.seen
-        states = known.states | {state_of(known.seen)}
-        is_chain = set(known.befores) <= states
-        if not is_chain or found.mtime not in {mtime for _, mtime in states} \
-                or not known.is_moved and state_of(found) not in states:
+    def at_rest(self, one: Exchange, known: Object, seen: Sight, found: Attributes) -> None:
+        """Looks at an object that nothing else changed during an exchange."""
+        states, is_moved = known.states | {state_of(seen.now)}, known.states or known.is_blind
+        if not states.issuperset(known.befores) or found.mtime not in {it[1] for it in states} \
+                or not is_moved and state_of(found) not in states:
             known.forget()
             if not known.is_blind:
-                self.others.add(known)
-        if now is None:
-            return
-        if not known.is_moved and now.ctime == known.seen.ctime:
-            self.same_ctime(one, known, now)
-        if is_chain:
-            self.returns(one, known, now)
+                self.findings.denied.add(known.key)
+        if not is_moved and not one.is_change and found[:-1] != seen.now[:-1]:
+            self.other(known, seen, Sight(found, one.source))
 
-    def same_ctime(self, one: Exchange, known: Object, now: Attributes) -> None:
-        """Attributes do not change without the ctime. A change within the tick of a clock cannot be
-        seen, so they have to be confirmed after it."""
-        assert known.seen
-        names = [name for name in LASTING if getattr(now, name) != getattr(known.seen, name)]
-        if self.relinked < known.seen_at and now.nlink != known.seen.nlink:
-            names.append('nlink')
-        if not names:
-            known.confirmed = one.begun
-        elif known.confirmed - known.since >= (TICK if now.ctime_nsec else COARSE_TICK):
-            text = ', '.join(f'{name} is {getattr(now, name)}, {in_frame(known.source)} it was '
-                             f'{getattr(known.seen, name)}' for name in names)
-            self.find(Finding('same-ctime', one.number, text, known.source))
+    def other(self, known: Object, seen: Sight, now: Sight) -> None:
+        """Looks at attributes that are others, though no recorded change came between.
 
-    def returns(self, one: Exchange, known: Object, now: Attributes) -> None:
-        """Nothing comes back with its old ctime once it was another: no change that is not recorded
-        can do that, so what was between was never there."""
-        values = tuple(getattr(now, name) for name in (*LASTING, 'ctime'))
-        sights = known.sights
-        while sights and sights[-1].values == values:
-            sights.pop()
-        if len(sights) > 1 and sights[-2].values == values \
-                and sights[-2].source.end < sights[-1].source.begin:
-            between = sights.pop()
-            if between.source.end < one.begin:
-                text = ', '.join(f'{name} is {other}, before and {in_frame(one.source)} {value}'
-                                 for name, other, value in zip((*LASTING, 'ctime'), between.values,
-                                                               values) if other != value)
-                self.find(Finding('returns', between.source.number, text, one.source))
-            sights.pop()
-        known.sights = [*sights[-1:], Sight(values, one.source)]
+        They do not change without the ctime. A change within the tick of a clock cannot be seen, so
+        they have to be confirmed after it. And nothing comes back with its old ctime once it was
+        another: no change can do that, so what was between was never there.
+        """
+        has_links = self.relinked[known.key[0]] < seen.source.end
+        values, was = lasting(now.now, has_links), lasting(seen.now, has_links)
+        tick = TICK if now.now.ctime[1] else COARSE_TICK
+        if now.now.ctime != seen.now.ctime:
+            self.findings.denied.add(now.source.number)
+        elif values != was and seen.source.begun - known.since >= tick:
+            self.findings.add('same-ctime', now.source, apart(LASTING, values, was, seen.source),
+                              seen.source)
+        earlier, known.earlier = known.earlier, seen
+        if earlier and values == lasting(earlier.now, has_links) != was \
+                and earlier.source.end < seen.source.begin \
+                and seen.source.end < now.source.begin:
+            text = apart(LASTING, was, values, f'before and {now.source}')
+            self.findings.add('returns', seen.source, text, now.source)
+            known.earlier = None
 
-    def settle(self, one: Exchange, handle: str, now: Attributes | None) -> None:
+    def settle(self, one: Exchange, told: Told) -> None:
         """Takes the attributes of an object as those of rest, if nothing else changed it."""
-        known = self.at(one, handle)
-        if now and self.recorded.is_quiet(one, handle):
-            if known.seen is None or now.ctime != known.seen.ctime:
-                known.since, known.confirmed = one.ended, 0
-            known.seen, known.seen_at, known.source = now, one.end, one.source
-            known.states, known.befores = set(), []
-            known.is_moved = known.is_blind = False
+        known, now, is_change = self.at(one, told.handle), told.now, one.is_change and one.is_done
+        if now and one.is_quiet(told.handle):
+            if known.seen is None or is_change or now.ctime != known.seen.now.ctime:
+                known.since = one.ended
+            known.seen = Sight(now, one.source)
+            known.states, known.befores, known.is_blind = set(), [], False
             if now.size == 0:
                 known.content = Content()
-        elif handle in handles_changed(one.procedure, one.call, one.reply) \
-                and (one.is_ok or one.status in UNSURE):
-            known.is_moved = True
-            if now:
-                known.states.add(state_of(now))
-            else:
-                known.is_blind = True
+        elif is_change and now:
+            known.states.add(state_of(now))
+        elif is_change:
+            known.is_blind = True

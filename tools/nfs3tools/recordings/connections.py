@@ -106,7 +106,7 @@ class Connection:
 
     def take(self, side: int, segment: Segment, number: int, time: int) -> None:
         _, sequence, acknowledged, flags, payload, missing, differing = segment
-        streams = self.streams
+        streams = self.both or self.streams
         own, other = streams[side], streams[1 - side]
         for frame in differing:
             own.differs(frame)

@@ -11,6 +11,7 @@ import os
 import re
 import shlex
 import typing
+from collections.abc import Iterable
 
 from ..shared.printed import escaped
 from .frames import NoRecording, Recording, Source, opened
@@ -31,6 +32,11 @@ def files_of(path: str) -> list[str]:
         return [path]
     found = sorted(glob.glob(path))
     return list(filter(may_be_recording, found)) or found or [path]
+
+
+def files_in(paths: Iterable[str]) -> list[str]:
+    """Returns the files that several arguments name."""
+    return [file for path in paths for file in files_of(path)]
 
 
 def skipped_of(path: str) -> list[str]:

@@ -18,16 +18,11 @@ RESET_INSIDE = 'the other end reset it inside a record'
 
 
 class Options(typing.NamedTuple):
-    """How a recording is taken. None of these changes what is taken of a capture.
+    """Which connections of a recording are taken. Of a capture all are.
 
-    midstream: takes connections whose beginning was not recorded, and goes on after bytes that are
-        missing
-    whole_records: ends each stream after its last whole record
     filter: a display filter of Wireshark that is true of whole connections, or None; needs tshark
     ports: of which each connection has one; any connection if there are none
     """
-    midstream: bool = True
-    whole_records: bool = False
     filter: str | None = None
     ports: frozenset[int] = frozenset()
 
@@ -92,16 +87,15 @@ def missing_of(stream: Stream) -> int:
     return sum(gap.size for gap in gaps_of(stream))
 
 
-def select(connection: Connection, options: Options, known: typing.Iterable[int] = (),
+def select(connection: Connection, known: typing.Iterable[int] = (),
            goes_on: bool = False) -> Selected:
     """Chooses what is kept of a connection. `known` has the xids of calls that were kept before. If
     it goes on, a record that is cut at its end is kept."""
-    client, why = client_of(connection, options)
+    client, why = client_of(connection)
     ends = client, 1 - client
     streams = connection.streams[client], connection.streams[1 - client]
-    choose = keep_midstream if options.midstream else keep_front
-    calls, replies = (choose(connection.streams[end], side, options,
-                             '' if goes_on else cut_by(connection, end))
+    calls, replies = (keep_records(connection.streams[end], side,
+                                   '' if goes_on else cut_by(connection, end))
                       for end, side in zip(ends, SIDES))
     if calls.lacks and replies.ranges:
         leave_out_replies(streams, calls, replies, known)
@@ -139,18 +133,17 @@ def cut_by(connection: Connection, end: int) -> str:
     return RESET_INSIDE if connection.is_reset_by(1 - end) else ENDS_INSIDE
 
 
-def client_of(connection: Connection, options: Options) -> tuple[int, str]:
+def client_of(connection: Connection) -> tuple[int, str]:
     """Which end is the client, and how that is known: by the SYN, else by its calls, the ports, or
     the first payload."""
     if connection.client is not None:
         return connection.client, 'by the SYN'
     served = [end.rpartition(':')[2] in SERVER_PORTS for end in connection.ends]
     guess = served.index(False) if served[0] != served[1] else None
-    if options.midstream:
-        likely = guess or 0
-        for side in (likely, 1 - likely):
-            if has_calls(connection.streams[side]):
-                return side, 'by its calls'
+    likely = guess or 0
+    for side in (likely, 1 - likely):
+        if has_calls(connection.streams[side]):
+            return side, 'by its calls'
     return ((guess, 'by the ports') if guess is not None
             else (connection.first_payload or 0, 'by the first payload'))
 
@@ -170,28 +163,9 @@ def has_calls(stream: Stream) -> bool:
                for part in parts_of(stream))
 
 
-def keep_front(stream: Stream, side: Side, options: Options, cut: str) -> Kept:
-    """Keeps a stream from its beginning up to the first gap. `cut` is why a record at its end that
-    is cut is none of its sender's fault."""
-    kept, parts, gaps = Kept(lacks=stream.lacks or not stream.is_begin,
-                             missing=missing_of(stream)), parts_of(stream), gaps_of(stream)
-    if not stream.is_begin:
-        if stream.stored.size:
-            kept.missing += stream.stored.size
-            kept.notes.append(f'{side}: its beginning is not in the recording, so nothing of it is '
-                              'taken (as --no-midstream asks)')
-        return kept
-    if gaps:
-        kept.lacks = True
-        kept.notes.append(f'{side}: {told_of(gaps[0])}; the stream ends there')
-    if parts and not (gaps and gaps[0].position == 0):
-        keep_up_to_whole(stream, parts[0], side, kept, cut, options)
-    return kept
-
-
-def keep_midstream(stream: Stream, side: Side, options: Options, cut: str) -> Kept:
-    """Keeps of each run of a stream what follows from the first record on. `cut` is as for
-    `keep_front`."""
+def keep_records(stream: Stream, side: Side, cut: str) -> Kept:
+    """Keeps of each run of a stream what follows from the first record on. `cut` is why a record at
+    its end that is cut is none of its sender's fault."""
     kept, gaps, parts = Kept(missing=missing_of(stream)), gaps_of(stream), parts_of(stream)
     kept.lacks, left_out = bool(gaps) or stream.lacks or not stream.is_begin, 0
     if stream.stored.size and not stream.is_begin:
@@ -211,7 +185,7 @@ def keep_midstream(stream: Stream, side: Side, options: Options, cut: str) -> Ke
             left_out += begin - part.begin
         if begin is not None:
             dropped = keep_up_to_whole(stream, part._replace(begin=begin), side, kept,
-                                       cut if part is parts[-1] else '', options)
+                                       cut if part is parts[-1] else '')
             left_out += dropped if part.gap_after else 0
     if gaps:
         kept.notes.append(f'{side}: {told_of_all(gaps)}; {count(left_out, "byte")} of torn records '
@@ -219,11 +193,10 @@ def keep_midstream(stream: Stream, side: Side, options: Options, cut: str) -> Ke
     return kept
 
 
-def keep_up_to_whole(stream: Stream, part: Part, side: Side, kept: Kept, cut: str,
-                     options: Options) -> int:
-    """Keeps a run, up to the end of its last whole record if bytes are missing after it, if `cut`
-    says why it is cut, or if that is asked for. Returns how many bytes that leaves out."""
-    is_whole = bool(part.gap_after or cut or options.whole_records)
+def keep_up_to_whole(stream: Stream, part: Part, side: Side, kept: Kept, cut: str) -> int:
+    """Keeps a run, up to the end of its last whole record if bytes are missing after it, or if
+    `cut` says why it is cut. Returns how many bytes that leaves out."""
+    is_whole = part.gap_after or cut
     end = end_of_whole(Window(stream.stored), part.begin, part.end) if is_whole else part.end
     dropped = part.end - end
     if end > part.begin:
@@ -231,8 +204,7 @@ def keep_up_to_whole(stream: Stream, part: Part, side: Side, kept: Kept, cut: st
     if dropped:
         kept.lacks = True
         if not part.gap_after:
-            kept.reasons.append(cut or f'{count(dropped, "byte")} left out')
-        if not part.gap_after or not options.midstream:
+            kept.reasons.append(cut)
             kept.notes.append(
                 f'{side}: the last {dropped:,} bytes are no whole record, and are dropped')
     return dropped

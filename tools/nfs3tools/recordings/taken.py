@@ -1,7 +1,7 @@
 """What is taken of a recording or of a capture: its connections, each with the streams of both
 sides.
 
-    with take('run.pcap', Options(midstream=False)) as taken:
+    with take('run.pcap', Options(ports=frozenset((2049,)))) as taken:
         for connection in taken.connections:
             print(connection.number, connection.client_end, connection.server_end,
                   connection.client.size)
@@ -579,7 +579,7 @@ def add(taken: Taken, connection: Connection, options: Options) -> None:
     if connection.is_bare:
         taken.left_out.append(without_payload(connection))
         return
-    selected = select(connection, options)
+    selected = select(connection)
     left_out = left_out_of(connection, selected, options)
     if left_out:
         taken.left_out.append(left_out)
@@ -597,9 +597,7 @@ def left_out_of(connection: Connection, selected: Selected, options: Options) ->
         return LeftOut(ends, NO_RPC, shows_calls=False)
     if any(kept.ranges for kept in selected.kept):
         return None
-    is_for_losses = connection.client is not None or options.midstream
-    return LeftOut(ends, why_left_out(connection, options),
-                   selected.missing if is_for_losses else 0, connection.client is None)
+    return LeftOut(ends, why_left_out(connection), selected.missing, connection.client is None)
 
 
 def without_payload(connection: Connection) -> LeftOut:
@@ -620,14 +618,9 @@ def taken_connection(number: int, connection: Connection, selected: Selected) ->
         connection.is_closed, connection.opened_by)
 
 
-def why_left_out(connection: Connection, options: Options) -> str:
+def why_left_out(connection: Connection) -> str:
     """Why nothing of a connection is taken in which there may be calls."""
     missing = sum(map(missing_of, connection.streams))
     if missing and not any(stream.stored.size for stream in connection.streams):
         return f'{count(missing, "byte")} acknowledged and not recorded'
-    if connection.client is None and not options.midstream:
-        return ('no SYN in the recording, so its streams may begin inside a record '
-                '(--no-midstream leaves it out)')
-    if options.midstream:
-        return 'no position was found from which its records follow one another'
-    return 'its first bytes are missing from the recording'
+    return 'no position was found from which its records follow one another'

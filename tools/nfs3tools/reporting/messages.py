@@ -20,6 +20,7 @@ from ..shared.outputs import ENDING, Refused
 from ..shared.places import NoPlace
 from ..shared.printed import escaped, printable
 from ..shared.programs import Died, FilterRefused, Missing
+from ..shared.screens import add_colour
 from ..shared.version import TOP, version
 
 ABSENT, REFUSED, FAILED, INTERRUPTED = 1, 2, 3, 130  # ABSENT: no such position
@@ -234,18 +235,11 @@ def page_of(name: str) -> str:
 
 
 def add_options(parser: argparse.ArgumentParser) -> None:
-    """The options of how a recording is taken."""
+    """The options of which connections are taken."""
     parser.add_argument('--filter', metavar='FILTER', help='takes the connections for which a '
                         'display filter of Wireshark is true')
     parser.add_argument('--port', metavar='PORT,..', type=ports_of, default=frozenset(),
                         help='takes the connections that have one of these ports')
-    parser.add_argument('--midstream', action='store_true', default=True,
-                        help=argparse.SUPPRESS)  # is the default; scripts may have it still
-    parser.add_argument('--no-midstream', action='store_false', dest='midstream',
-                        help='leaves out connections whose beginning was not recorded, '
-                             'and ends streams before missing bytes')
-    parser.add_argument('--whole-records', action='store_true',
-                        help='ends each stream after its last whole record')
 
 
 def ports_of(word: str) -> frozenset[int]:
@@ -273,6 +267,13 @@ def add_judging(parser: argparse.ArgumentParser) -> None:
                         help='takes `not checked` as the status 0')
 
 
+def add_recordings(parser: argparse.ArgumentParser, number: str = '+') -> None:
+    """The operands of a tool that judges recordings one by one, and the options of all of these."""
+    parser.add_argument('recordings', metavar='RECORDING|CAPTURE', nargs=number)
+    add_colour(parser)
+    add_judging(parser)
+
+
 def allowed_of(chosen: argparse.Namespace) -> Allowed:
     return Allowed(chosen.allow_losses, chosen.allow_not_checked)
 
@@ -286,17 +287,17 @@ def position_text(word: str | None, file: str, what: str) -> str:
 
 
 def options_of(chosen: argparse.Namespace) -> Options:
-    return Options(chosen.midstream, chosen.whole_records, chosen.filter, chosen.port)
+    return Options(chosen.filter, chosen.port)
 
 
-def lines_of(taken: Taken) -> list[str]:
-    """What is told of a recording: a line for each connection that is taken or left out, and for
-    what is missing."""
+def lines_of(taken: Taken, has_taken: bool = True) -> list[str]:
+    """What is told of a recording: a line for each connection that is taken, if that is asked for,
+    or left out, and for what is missing."""
     lines = [*taken.notes]
     for connection in taken.connections:
         sizes = f'{connection.client.size} and {connection.server.size} bytes'
-        lines.append(f'connection {connection.number}: {connection.ends}: '
-                     f'client {connection.client_end} {connection.why}, {sizes}')
+        lines += [f'connection {connection.number}: {connection.ends}: '
+                  f'client {connection.client_end} {connection.why}, {sizes}'] if has_taken else []
         lines += [f'connection {connection.number} {note}' for note in connection.notes]
     return (lines + [f'left out: {line}' for line in taken.left_out]
             + [f'{remark.word}: {remark.reason}' for remark in taken.remarks])

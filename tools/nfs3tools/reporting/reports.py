@@ -2,7 +2,6 @@
 from __future__ import annotations
 
 import json
-import xml.etree.ElementTree
 from collections import Counter
 from collections.abc import Iterable, Iterator, Sequence
 from typing import Any
@@ -18,6 +17,7 @@ from ..exchanges.listing import Message
 from ..exchanges.stored import Long, Value
 from ..shared.printed import escaped, printable
 from . import telling
+from .junit import Suite
 from .telling import brief_of, folded, is_summed, of_group, of_silent, shortened
 
 VERSION = 1  # of the form of JSON
@@ -44,7 +44,7 @@ def json_of(report: Report, compared: Compared, left_out: Counter[tuple[str, str
                   'connections': compared.late_connections,
                   'on_another_connection': compared.elsewhere},
         'fields': counts_of(compared.fields()), 'ignored': counts_of(left_out),
-        'left_out': [{'procedure': one.call.procedure, 'path': one.path,
+        'left_out': [{'procedure': one.message.procedure, 'path': one.path,
                       'first': of_message(one.first, framings[0]),
                       'second': of_message(one.second, framings[1]),
                       'kind': one.kind, 'why': one.why or None} for one in compared.silent],
@@ -90,8 +90,7 @@ def counts_of(fields: Counter[tuple[str, str]]) -> list[dict[str, Any]]:
 
 
 def of_finding(finding: Finding, first: Framing, second: Framing) -> dict[str, Any]:
-    message = finding.first or finding.second
-    assert message
+    message = finding.message
     return {'kind': finding.kind, 'procedure': message.procedure, 'is_call': message.is_call,
             'path': finding.path,
             'first': of_message(finding.first, first),
@@ -137,55 +136,40 @@ def digest_of(value: Value | None) -> str | None:
 
 # --- JUnit XML ---
 
-class Suite:
-    """A suite of test cases about two runs."""
+class Cases:
+    """The cases of a suite about two runs."""
 
     def __init__(self, names: Sequence[str], covers: Sequence[Cover] = (),
                  accepted: Split | None = None) -> None:
-        self.root, self.names = xml.etree.ElementTree.Element('testsuites'), names
-        self.suite = xml.etree.ElementTree.SubElement(self.root, 'testsuite',
-                                                      name='nfs3canon compare')
-        self.number_of = Counter[str]()  # cases of a name
-        self.add_counts(covers, accepted)
+        self.suite = Suite('nfs3canon compare', properties_of(covers, accepted))
+        self.about, self.number_of = ' | '.join(map(escaped, names)), Counter[str]()
         for run, cover in zip(RUNS, covers):
             if cover.is_refused:
                 self.add(f'the {run} run is valid', 'error', '; '.join(cover.faults()))
-
-    def add_counts(self, covers: Sequence[Cover], accepted: Split | None) -> None:
-        """Adds the four counts of both runs as properties, and how many findings were accepted."""
-        element = xml.etree.ElementTree.SubElement
-        properties = element(self.suite, 'properties') if covers else self.suite
-        for run, cover in zip(RUNS, covers):
-            for name, number in cover.counts().numbers().items():
-                element(properties, 'property', name=f'{run} run: {name}', value=str(number))
-            for name, number in cover.counts().raw.items():
-                element(properties, 'property', name=f'{run} run: raw: {name}', value=str(number))
-        if accepted is not None:
-            element(properties, 'property', name='accepted', value=str(len(accepted.findings)))
-            element(properties, 'property', name='no longer found',
-                    value=str(len(accepted.no_longer_found)))
 
     def add(self, given: str, tag: str | None = None, message: str = '', text: Iterable[str] = (),
             **attributes: str) -> None:
         """Adds a case, which passed if there is no tag. If several have one name, they are
         numbered."""
-        element, name = xml.etree.ElementTree.SubElement, printable(given)
+        name = printable(given)
         self.number_of[name] += 1
         name += f' ({self.number_of[name]})' if self.number_of[name] > 1 else ''
-        case = element(self.suite, 'testcase', classname=' | '.join(map(escaped, self.names)),
-                       name=name)
-        lines = '\n'.join(map(printable, text))
-        if tag:
-            element(case, tag, attributes, message=printable(message)).text = lines or None
-        elif lines:
-            element(case, 'system-out').text = lines
+        self.suite.add(self.about, name, tag, printable(message), '\n'.join(map(printable, text)),
+                       attributes)
 
     def written(self) -> bytes:
-        for tag, total in (('failure', 'failures'), ('error', 'errors'), ('skipped', 'skipped')):
-            self.suite.set(total, str(len(self.suite.findall(f'testcase/{tag}'))))
-        self.suite.set('tests', str(len(self.suite.findall('testcase'))))
-        return bytes(xml.etree.ElementTree.tostring(self.root, encoding='utf-8',
-                                                    xml_declaration=True)) + b'\n'
+        return self.suite.written(('failures', 'errors', 'skipped', 'tests'))
+
+
+def properties_of(covers: Sequence[Cover], accepted: Split | None) -> Iterator[tuple[str, object]]:
+    """The four counts of both runs, and how many findings were accepted."""
+    for run, cover in zip(RUNS, covers):
+        counts = cover.counts()
+        yield from ((f'{run} run: {name}', number) for name, number in counts.numbers().items())
+        yield from ((f'{run} run: raw: {name}', number) for name, number in counts.raw.items())
+    if accepted is not None:
+        yield 'accepted', len(accepted.findings)
+        yield 'no longer found', len(accepted.no_longer_found)
 
 
 def junit_of(line: str, report: Report, compared: Compared, framings: Sequence[Framing],
@@ -194,19 +178,19 @@ def junit_of(line: str, report: Report, compared: Compared, framings: Sequence[F
     Findings that say the same are one. The counts are properties, and each run of which a part is
     refused has a case with an error."""
     groups = [] if is_good else folded(compared.findings)
-    suite = Suite(report.names, report.covers or (), report.accepted)
+    cases = Cases(report.names, report.covers or (), report.accepted)
     silent = [*telling.of_accepted(report.accepted, framings, True),
               *of_silent(compared, framings, CASES_AT_MOST)]
     more = ([f'{len(groups) - CASES_AT_MOST:,} more findings have no case']
             if len(groups) > CASES_AT_MOST else [])
     if is_good:
-        suite.add('the runs are the same', text=[line, *silent])
+        cases.add('the runs are the same', text=[line, *silent])
     else:
-        suite.add('the runs are the same', 'failure', line, [*more, *silent], type=report.word())
+        cases.add('the runs are the same', 'failure', line, [*more, *silent], type=report.word())
     for group in groups[:CASES_AT_MOST]:
-        suite.add(case_name(group), 'failure', brief_of(group, *framings),
+        cases.add(case_name(group), 'failure', brief_of(group, *framings),
                   of_group(group, *framings), type=group[0].kind)
-    return suite.written()
+    return cases.written()
 
 
 def case_name(group: Sequence[Finding]) -> str:
@@ -215,11 +199,10 @@ def case_name(group: Sequence[Finding]) -> str:
     finding, paths, is_one_run = (
         group[0], {one.path for one in group},
         (group[0].first is None) != (group[0].second is None))
-    message = finding.first or finding.second
-    assert message
+    message = finding.message
     if finding.kind == 'order':
         return 'the order of replies'
-    only = f'only in the {"first" if finding.first else "second"} run: ' if is_one_run else ''
+    only = f'only in the {finding.run} run: ' if is_one_run else ''
     if finding.kind == 'connection':
         return f'{only}a connection'
     if is_summed(group):
@@ -238,25 +221,25 @@ def junit_of_parts(names: Sequence[str], covers: Sequence[Cover], losses: str,
                    framings: Sequence[Framing]) -> bytes:
     """A case for each part, which passed if the part is good, with what differs. Before them one
     for what is missing, if that counts."""
-    suite = Suite(names, covers)
+    cases = Cases(names, covers)
     if losses:
-        suite.add('the runs are whole', 'failure', losses, type='same in part')
+        cases.add('the runs are whole', 'failure', losses, type='same in part')
     for part in parts:
         silent = list(of_silent(part.compared, framings, CASES_AT_MOST))
         if part.is_good:
-            suite.add(part.label, text=[part.line, *silent])
+            cases.add(part.label, text=[part.line, *silent])
         else:
             groups = folded(part.compared.findings)
             texts = [line for group in groups[:CASES_AT_MOST]
                      for line in of_group(group, *framings)] + silent
             more = ([f'{len(groups) - CASES_AT_MOST:,} more findings']
                     if len(groups) > CASES_AT_MOST else [])
-            suite.add(part.label, 'failure', part.line, [*texts, *more], type=part.word())
-    return suite.written()
+            cases.add(part.label, 'failure', part.line, [*texts, *more], type=part.word())
+    return cases.written()
 
 
 def junit_of_error(names: Sequence[str], message: str) -> bytes:
     """Runs that were not compared, as a case with an error."""
-    suite = Suite(names)
-    suite.add('the runs are the same', 'error', message)
-    return suite.written()
+    cases = Cases(names)
+    cases.add('the runs are the same', 'error', message)
+    return cases.written()

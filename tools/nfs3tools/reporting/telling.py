@@ -30,11 +30,6 @@ def shortened(value: Value) -> str:
     return value if len(value) <= most else f'{value[:most]}.. ({len(value)} characters)'
 
 
-def procedure_of(finding: Finding) -> str:
-    message = finding.first or finding.second
-    return message.procedure if message else ''
-
-
 def frames_of(message: Message | None, framing: Framing) -> str:
     """Returns the numbers of the frames that carry a message, or nothing of a capture."""
     numbers: Sequence[int] = framing(message) if message else []
@@ -108,8 +103,8 @@ def said_by(finding: Finding) -> object:
     """Returns what a finding says: of renamed values, of which each finding has others, only what
     they have in common. Calls of one run alone say which file they ask for, and what of it. Returns
     None for what is said of a connection."""
-    message = finding.first or finding.second
-    if message is None or finding.kind in ('order', 'connection'):
+    message = finding.message
+    if finding.kind in ('order', 'connection'):
         return None
     if is_of_equal_values(finding):
         return 'equal values'
@@ -129,8 +124,7 @@ def is_summed(findings: Sequence[Finding]) -> bool:
 def what_of(findings: Sequence[Finding]) -> str:
     """Which messages they are, and the path of the first."""
     finding, paths = findings[0], {finding.path for finding in findings}
-    message = finding.first or finding.second
-    assert message
+    message = finding.message
     path = f' {finding.path}' if finding.path else ''
     if is_summed(findings):
         return (f'{len(findings):,} messages have values that are equal in both runs, '
@@ -145,9 +139,7 @@ def what_of(findings: Sequence[Finding]) -> str:
 def heading_of(findings: Sequence[Finding], first: Framing, second: Framing) -> str:
     """Which messages they are, and the places of the first in both runs."""
     finding = findings[0]
-    one, other = finding.first, finding.second
-    message, run = one or other, 'first' if one else 'second'
-    assert message
+    one, other, message, run = finding.first, finding.second, finding.message, finding.run
     if finding.kind == 'order':
         return f'connection {message.connection}'
     if one and other:
@@ -174,7 +166,7 @@ def brief_of(findings: Sequence[Finding], first: Framing, second: Framing) -> st
     """One line for findings that say the same."""
     finding = findings[0]
     if is_summed(findings):
-        fields = Counter((procedure_of(one), difference.field) for one in findings
+        fields = Counter((one.message.procedure, difference.field) for one in findings
                          for difference in one.differences)
         return f'{heading_of(findings, first, second)}: {told(fields.most_common(FIELDS_AT_MOST))}'
     said = [*([finding.remark] if finding.remark else []),
@@ -201,7 +193,7 @@ def of_silent(compared: Compared, framings: Sequence[Framing], most: int | None)
     groups, or each by itself."""
     groups, (first, second) = defaultdict[object, list[Silent]](list), framings
     for number, call in enumerate(compared.silent):
-        key = call.kind, call.first is None, call.call.procedure, call.path
+        key = call.kind, call.first is None, call.message.procedure, call.path
         groups[number if most is None else key].append(call)
     for some in list(groups.values())[:most]:
         yield (f'left out{of_whom(some[0])}: {silent_of(some)}: '
@@ -220,7 +212,7 @@ def silent_of(some: Sequence[Silent]) -> str:
     """Returns which calls are left out, of one procedure and path."""
     call, path = some[0], f' {some[0].path}' if some[0].path else ''
     kind = '' if call.kind == 'only' else f', {LEFT_OUT[call.kind]}'
-    return f'{len(some):,} {call.call.procedure}{path}{kind}{", first" if len(some) > 1 else ""}'
+    return f'{len(some):,} {call.message.procedure}{path}{kind}{", first" if len(some) > 1 else ""}'
 
 
 def why_of(call: Silent) -> str:

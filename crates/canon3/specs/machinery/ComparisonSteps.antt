@@ -24,8 +24,8 @@ use Rattle.canon3.specs.declared.canonical_form.message_writer.MessageWriter.{Me
 use Rattle.canon3.specs.machinery.MessageWriter.{values_before, WriterRests, WriterStands}
 use Rattle.canon3.specs.Parting.{IsPlaceOf}
 use Rattle.canon3.specs.machinery.WritingSteps.{HasGiven, ReaderSince, source_since}
-use Rattle.canon3.specs.Comparison.{CountsReadingOf, GaveFault, StopsGiven}
-use Rattle.canon3.specs.Summary.{GaveAll}
+use Rattle.canon3.specs.Comparison.{CountsReadingOf, StopsGiven}
+use Rattle.canon3.specs.Summary.{GaveAll, GaveFault}
 
 -- as many first entries of each, whose canonical forms have equal bytes
 pub record Agree (a b : List Entry) : Type 0 where

@@ -1,7 +1,7 @@
 //! The writer of the canonical form, one message at a time.
 
-ghost use Rattle.std.specs.Prelude.{◌≡◌, ◌≢◌, ◌≤◌, ◌++◌, ◌∷◌, ℕ, List, [], bytes_eq, drop, length, min, replicate, take, true, vec_len, IfOk, IsTrue, OnErr, OnOk};
-ghost use Rattle.xdr3.specs.Item.{Handle as HandleKind, Item, Kind, Opaque, Word, WriteVerf, residue, word_bytes};
+ghost use Rattle.std.specs.Prelude.{◌≡◌, ◌≢◌, ◌≤◌, ◌++◌, ◌∷◌, ℕ, List, [], bytes_eq, drop, length, min, take, true, vec_len, IfOk, IsTrue, OnErr, OnOk};
+ghost use Rattle.xdr3.specs.Item.{Handle as HandleKind, Kind, Opaque, WriteVerf, residue, word_bytes};
 ghost use Rattle.xdr3.specs.Visit.{Adds, body_limit};
 ghost use Rattle.canon3.specs.Bytes.{chunk_bytes, record_bytes};
 ghost use Rattle.canon3.specs.HandleTable.{HoldsHandles};

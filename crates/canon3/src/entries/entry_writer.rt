@@ -1,17 +1,15 @@
 //! What is written of a capture while it is read, from a source to a sink.
 
-ghost use Rattle.std.specs.Prelude.{◌≡◌, ◌<◌, ◌^◌, ◌++◌, ◌∷◌, ℕ, List, [], length, Option, None, IfErr, MatchResult, OnOk};
+ghost use Rattle.std.specs.Prelude.{◌≡◌, ◌++◌, ◌∷◌, ℕ, List, [], Option, None, IfErr, MatchResult, OnOk};
 ghost use Rattle.std.specs.Io.KnownBytes.{Appends};
 ghost use Rattle.capture3.specs.Observed.{GavePrefix, Observed};
 ghost use Rattle.xdr3.specs.Item.{Item};
 ghost use Rattle.capture3.specs.Entries.{CountsReading, failure_of};
 ghost use Rattle.capture3.specs.Entry as spec;
 ghost use Rattle.capture3.specs.MessageVisit.{HasHeard};
-ghost use Rattle.capture3.specs.Numbering.{IsLentAfter};
 ghost use Rattle.capture3.specs.Progress.{HasPassed};
 ghost use Rattle.capture3.specs.Typed.{Typed};
-ghost use Rattle.canon3.specs.EntryWriter.{KeepsPrefixes, StopsWriting, WritesAllCounted, WritesGivenCounted};
-ghost use Rattle.canon3.specs.Laws.{AreFirst};
+ghost use Rattle.canon3.specs.EntryWriter.{IsNextEntry, KeepsPrefixes, StopsWriting, WritesAllCounted, WritesGivenCounted};
 ghost use Rattle.canon3.specs.machinery.Reading.{ReadsAndWrites};
 ghost use Rattle.canon3.specs.machinery.WritingSteps.{HasGiven, HasWritten, IsDone, since, source_since};
 ghost use Rattle.canon3.specs.WriteErrors.{CountsWriting, IsOfWriting};
@@ -56,8 +54,7 @@ pub trait EntryWriter: MessageVisit {
         entry: LentEntry<'_>,
     ) -> Result<(), Error>
         ensures writes { (old : Option (List ℕ)) (entries : List spec.Entry) (one : spec.Entry)
-            → IsLentAfter entries entry.entry one → AreFirst (entries ++ one ∷ [])
-            → length (entries ++ one ∷ []) < 2 ^ 32 → HasPassed progress entries
+            → IsNextEntry progress entries entry.entry one
             → HasHeard Self.rests Self.stands self.old (before entries) one
             → Appends old (W.written sink.old) (form entries)
             → MatchResult result (λ _. going self.new

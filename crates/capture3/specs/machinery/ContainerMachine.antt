@@ -13,7 +13,8 @@ use Rattle.capture3.specs.declared.fault.Side.TheVariants.{Client, Server}
 use Rattle.capture3.specs.declared.container.position.TheConstants.{MAGIC}
 use Rattle.capture3.specs.declared.container.position.spot.Event.{Event}
 use Rattle.capture3.specs.declared.container.position.spot.Event.TheVariants.{Begin, Record, Turn, Close}
-use Rattle.capture3.specs.Capture.{Version, One, Two, digit}
+use Rattle.capture3.specs.Capture.{Version, One, Two}
+use Rattle.capture3.specs.FileMachine.{digit}
 use Rattle.capture3.specs.SidedChunksMachine.{MixedPoint, SideWord, Mixing, MixedEnd, MixedCloses, MixedRefuses, mixed_step}
 use Rattle.capture3.specs.SidedChunks.{Streams, gathered}
 use Rattle.capture3.specs.Sides.{file_fault}

@@ -1,6 +1,6 @@
 //! The streams of a connection whose chunks come mixed.
 
-ghost use Rattle.std.specs.Prelude.{◌≡◌, ◌<◌, ◌≤◌, ◌+◌, [], length, OnErr, OnOk};
+ghost use Rattle.std.specs.Prelude.{◌≡◌, ◌<◌, ◌+◌, [], length, OnErr, OnOk};
 ghost use Rattle.capture3.specs.machinery.Container.{stream_of};
 ghost use Rattle.capture3.specs.machinery.StreamsInMemory.{capacity_of};
 ghost use Rattle.capture3.specs.SidedChunks.{gathered, with_more};

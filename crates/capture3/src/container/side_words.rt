@@ -30,7 +30,7 @@ impl Counts {
             (sided self.at self.total streams n)) streams joining result }
     {
         let side = match n {
-            0 => return Ok(self.streams_gathered(count)),
+            0 => return Ok(self.after_streams(count)),
             1 => Side::Client,
             2 => Side::Server,
             _ => return Err(file_fault(self.at, Reason::BadMark)),
@@ -40,7 +40,7 @@ impl Counts {
 
     /// Returns the position after the side word 0. The next connection's word comes next in the
     /// file.
-    fn streams_gathered(self, count: usize) -> Transition
+    fn after_streams(self, count: usize) -> Transition
         requires sound { IsSoundBefore self WordOf.Side }
         ensures count { result.count ≡ count }
         ensures steps { StepsOver self WordOf.Side result }

@@ -1,6 +1,6 @@
 //! A source over bytes in memory.
 
-ghost use Rattle.std.specs.Prelude.{◌≡◌, ◌≤◌, ◌<◌, ◌-◌, ◌↔◌, false, length, min, None, Some, IfOk, IsErr};
+ghost use Rattle.std.specs.Prelude.{◌≡◌, ◌≤◌, ◌<◌, ◌-◌, ◌↔◌, false, length, min, IfOk, IsErr};
 ghost use Rattle.capture3.specs.Device.{Counts};
 ghost use Rattle.capture3.specs.MemSource.{observed_in_memory};
 ghost use Rattle.capture3.specs.Observed.{ReadGives, UpdatesSpent};

@@ -1,6 +1,6 @@
 //! The calls of a connection, whose xids mostly count up.
 
-ghost use Rattle.std.specs.Prelude.{◌≡◌, ◌≢◌, ◌<◌, ◌^◌, ℕ, None, IfOk, IsFalse, IsTrue};
+ghost use Rattle.std.specs.Prelude.{◌≡◌, ◌≢◌, ◌<◌, None, IfOk, IsFalse, IsTrue};
 ghost use Rattle.capture3.specs.machinery.Calls.{lined, next_number, Admits, AreAbove, AreSame, KnowsNone, Puts};
 
 use crate::message::calls::{CallTable, KnownCalls, NumberedCall, number_if};

@@ -1,9 +1,10 @@
 //! Bodies of messages, read as values.
 
-ghost use Rattle.std.specs.Prelude.{◌≡◌, ◌≤◌, length, is_some, IfErr, IfOk, IfSome};
+ghost use Rattle.std.specs.Prelude.{◌≡◌, ◌≢◌, ◌≤◌, length, is_some, IfErr, IfOk, IfSome};
 ghost use Rattle.xdr3.specs.Visit.{body_limit};
 ghost use Rattle.procs3.specs.Names.{name_of_procedure};
 ghost use Rattle.xdr3.specs.Gives.{Gives};
+ghost use Rattle.xdr3.specs.declared.reason.GetError.TheVariants.{Memory};
 ghost use Rattle.xdr3.specs.Layout.{reading_layout};
 ghost use Rattle.xdr3.specs.View.{MovesOn};
 ghost use Rattle.capture3.specs.Bodies.{IsCall, IsReply};
@@ -19,21 +20,17 @@ use std::alloc::{AllocError, Global};
 use xdr3::{GetError, Input, Reason, Stop, Xdr};
 
 /// Reads a body that spells a call of this procedure.
-pub(crate) fn read_call<'a>(
-    alloc: Global,
-    id: ProcId,
-    body: &'a [u8],
-) -> Result<CallMsg<'a>, AllocError>
+pub(crate) fn read_call<'a>(alloc: Global, id: ProcId, body: &'a [u8]) -> CallMsg<'a>
     requires short { length body.now ≤ body_limit }
     requires spells { ∥ SpellsCall id body.now ∥₁ }
-    ensures call { IfOk result (λ message. IsCall body.now (call_items message)) }
-    ensures procedure { IfOk result (λ message. message.head.id ≡ id) }
-    ensures variant { IfOk result
-        (λ message. args_name message.args ≡ name_of_procedure message.head.id) }
+    ensures call { IsCall body.now (call_items result) }
+    ensures procedure { result.head.id ≡ id }
+    ensures variant { args_name result.args ≡ name_of_procedure result.head.id }
 {
     match call_in(alloc, body) {
-        Ok(message) => Ok(message),
-        Err(GetError::Memory) => Err(AllocError),
+        Ok(message) => message,
+        // No part of a call owns memory.
+        Err(GetError::Memory) => unreachable!(),
         // The body was read as a message before.
         Err(GetError::Stop(_)) => unreachable!(),
     }
@@ -68,6 +65,7 @@ fn call_in<'a>(alloc: Global, body: &'a [u8]) -> Result<CallMsg<'a>, GetError>
     ensures call { IfOk result (λ call. IsCall body.now (call_items call)) }
     ensures variant { IfOk result (λ call. args_name call.args ≡ name_of_procedure call.head.id) }
     ensures err { IfErr result (λ error. SpellsNoCall error body.now) }
+    ensures memory { IfErr result (λ error. error ≢ Memory) }
 {
     let mut input = Input::new(body);
     let start = start(&mut input)?;

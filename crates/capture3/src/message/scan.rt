@@ -1,6 +1,6 @@
 //! Whole messages that are passed to a visitor as they are read.
 
-ghost use Rattle.std.specs.Prelude.{◌≡◌, ◌≤◌, List, length, IfErr, IfOk, OnOk};
+ghost use Rattle.std.specs.Prelude.{◌≤◌, List, length, IfErr, IfOk, OnOk};
 ghost use Rattle.xdr3.specs.Item.{Item};
 ghost use Rattle.xdr3.specs.Scan.{ScansLayout, StopsLayout};
 ghost use Rattle.xdr3.specs.Visit.{body_limit};

@@ -19,7 +19,7 @@ impl Walk for CallMsg<'_> {
 
     ghost items = { call_items };
 
-    #[tactic(auto, using(xdr3::proofs::Lemmas::Shapes::Walks::steps), unfolding(rpc_head::specs::Names::head_names))]
+    #[tactic(auto, using(xdr3::proofs::Lemmas::Shapes::Walks::steps), unfolding(xdr3::specs::Item::called))]
     fn walk<V: Visit>(&self, visitor: &mut V) -> Result<(), AllocError> {
         walk_fields(
             &[Field::Word("xid", self.xid), Field::Word("mtype", 0)],
@@ -48,7 +48,7 @@ impl Walk for ReplyMsg<'_> {
 
     ghost items = { reply_items };
 
-    #[tactic(auto, using(xdr3::proofs::Lemmas::Shapes::Walks::steps), unfolding(rpc_head::specs::Names::head_names))]
+    #[tactic(auto, using(xdr3::proofs::Lemmas::Shapes::Walks::steps), unfolding(xdr3::specs::Item::called))]
     fn walk<V: Visit>(&self, visitor: &mut V) -> Result<(), AllocError> {
         walk_fields(
             &[Field::Word("xid", self.xid), Field::Word("mtype", 1)],

@@ -29,7 +29,7 @@ pub trait MessageVisit: Visit {
 
 /// Visits the xid and the mtype as two words (RFC 5531, section 9), for a visitor to which they are
 /// items as others are.
-#[tactic(auto, using(xdr3::proofs::Lemmas::Shapes::Walks::adds_joined), unfolding(rpc_head::specs::Names::head_names))]
+#[tactic(auto, using(xdr3::proofs::Lemmas::Shapes::Walks::adds_joined), unfolding(xdr3::specs::Item::called))]
 fn visit_start<V: Visit>(start: Start, visitor: &mut V) -> Result<(), AllocError>
     ensures { OnOk result (Adds V.stands visitor.old visitor.new (start_items start)) }
 {

@@ -85,7 +85,7 @@ impl<'r, R: Source, S: BuildHasher + Drop> Entries<'r, R, S> {
     ghost use Rattle.capture3.specs.Lending.{entries_row, IsNextLent, LendsNext};
     ghost use Rattle.capture3.specs.ReadAs.{IsReadAs};
     ghost use Rattle.capture3.specs.ReadEntries.{ReadsNext};
-    ghost use Rattle.capture3.specs.Entries.{block_size, failure_of, IsOver, KeepsErrors, last_of, loan_of, source_of, UsesSource};
+    ghost use Rattle.capture3.specs.Entries.{block_size, failure_of, last_of, loan_of, source_of};
     ghost use Rattle.capture3.specs.Handing.{HandsOutGiven};
     ghost use Rattle.capture3.specs.machinery.Stepping.{IsNextOfKind, kind_lent, kind_read};
     ghost use Rattle.capture3.specs.MessageVisit.{Hears};
@@ -156,8 +156,7 @@ impl<'r, R: Source, S: BuildHasher + Drop> Entries<'r, R, S> {
     /// - `Read` if a read failed.
     /// - `Memory` if an allocation failed.
     ///
-    /// It never returns `Write`. The same error is returned from then on, and nothing is read; but
-    /// if memory ran out for the value of a call, the next call goes on after that entry.
+    /// It never returns `Write`. The same error is returned from then on, and nothing is read.
     pub fn next(&mut self) -> Result<Option<EntryRef<'_>>, Error>
         // What the reader ends as, and what is lent.
         ensures* ends { sem 𝓛 (Rests
@@ -169,10 +168,7 @@ impl<'r, R: Source, S: BuildHasher + Drop> Entries<'r, R, S> {
         ensures write { IfErr result (λ error. error ≢ Error.Write) }
     {
         match self.step(&mut Silent) {
-            Ok(true) => match self.read_last() {
-                Ok(next) => Ok(next),
-                Err(_) => Err(Error::Memory),
-            },
+            Ok(true) => Ok(self.read_last()),
             Ok(false) => Ok(None),
             Err(Noted) => Err(self.pairing.error),
         }
@@ -276,19 +272,15 @@ impl<'r, R: Source, S: BuildHasher + Drop> Entries<'r, R, S> {
     }
 
     /// Lends the last entry, with its call as a value.
-    fn read_last(&self) -> Result<Option<EntryRef<'_>>, AllocError>
-        ensures kind { IfOk result (λ next. kind_read next ≡ last_of self.now) }
-        ensures some { OnErr result (IsSome (last_of self.now)) }
+    fn read_last(&self) -> Option<EntryRef<'_>>
+        ensures kind { kind_read result ≡ last_of self.now }
         ensures value { (given : List ℕ) (handed : List spec.Entry) (entry : spec.Entry)
             → StandsFor R.observed self.now given (handed ++ entry ∷ [])
-            → IfOk result (λ next. IfSome next (λ read. IsReadAs read entry)) }
+            → IfSome result (λ read. IsReadAs read entry) }
     {
         match self.entry() {
-            Some(lent) => match lent.read(self.alloc) {
-                Ok(read) => Ok(Some(read)),
-                Err(error) => Err(error),
-            },
-            None => Ok(None),
+            Some(lent) => Some(lent.read(self.alloc)),
+            None => None,
         }
     }
 

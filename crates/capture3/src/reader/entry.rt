@@ -108,16 +108,11 @@ impl<'a> CallRef<'a> {
     ghost use Rattle.capture3.specs.MessageValues.{call_items};
 
     /// Returns the call that the body encodes, with the arguments of its procedure (RFC 5531, section
-    /// 9). It borrows from the body.
-    ///
-    /// # Errors
-    ///
-    /// `AllocError` only if an allocation failed.
-    pub fn read(&self, alloc: Global) -> Result<CallMsg<'a>, AllocError>
-        ensures call { IfOk result (λ message. IsCall self.now.body.now (call_items message)) }
-        ensures procedure { IfOk result (λ message. message.head.id ≡ self.now.id) }
-        ensures variant { IfOk result
-            (λ message. args_name message.args ≡ name_of_procedure message.head.id) }
+    /// 9). It borrows from the body, and allocates nothing.
+    pub fn read(&self, alloc: Global) -> CallMsg<'a>
+        ensures call { IsCall self.now.body.now (call_items result) }
+        ensures procedure { result.head.id ≡ self.now.id }
+        ensures variant { args_name result.args ≡ name_of_procedure result.head.id }
     {
         read_call(alloc, self.id, self.body)
     }
@@ -231,16 +226,11 @@ impl KeptCall {
     ghost use Rattle.capture3.specs.MessageValues.{call_items};
 
     /// Returns the call that the body encodes, with the arguments of its procedure (RFC 5531, section
-    /// 9). It borrows from the body.
-    ///
-    /// # Errors
-    ///
-    /// `AllocError` only if an allocation failed.
-    pub fn read(&self, alloc: Global) -> Result<CallMsg<'_>, AllocError>
-        ensures call { IfOk result (λ message. IsCall self.now.body.items (call_items message)) }
-        ensures procedure { IfOk result (λ message. message.head.id ≡ self.now.id) }
-        ensures variant { IfOk result
-            (λ message. args_name message.args ≡ name_of_procedure message.head.id) }
+    /// 9). It borrows from the body, and allocates nothing.
+    pub fn read(&self, alloc: Global) -> CallMsg<'_>
+        ensures call { IsCall self.now.body.items (call_items result) }
+        ensures procedure { result.head.id ≡ self.now.id }
+        ensures variant { args_name result.args ≡ name_of_procedure result.head.id }
     {
         read_call(alloc, self.id, &self.body)
     }

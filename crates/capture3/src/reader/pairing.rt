@@ -1,12 +1,11 @@
 //! A capture whose records are checked as they come.
 
-ghost use Rattle.std.specs.Prelude.{is_some, ◌≡◌, ◌≢◌, ◌≤◌, ◌<◌, ◌+◌, ◌++◌, ℕ, List, [], length, take, IfErr, IfOk, IfSome, OnErr, OnOk, None, Some};
-ghost use Rattle.record_mark.specs.Taking.{IsRunning, IsWhole, body_of, released, unbegun};
-ghost use Rattle.xdr3.specs.Item.{Item};
-ghost use Rattle.capture3.specs.machinery.Container.{CanGoOn, Leaves, room_in, TakesPiece};
+ghost use Rattle.std.specs.Prelude.{is_some, ◌≡◌, ◌≤◌, ◌<◌, ◌+◌, ◌++◌, ℕ, List, [], length, take, IfErr, IfOk, IfSome, OnErr, OnOk, None, Some};
+ghost use Rattle.record_mark.specs.Taking.{IsWhole, released};
+ghost use Rattle.capture3.specs.machinery.Container.{CanGoOn, room_in};
 ghost use Rattle.capture3.specs.machinery.InPlace.{LiesIn};
 ghost use Rattle.capture3.specs.Entry as spec;
-ghost use Rattle.capture3.specs.machinery.Pairing.{CountsMessages, entry_cost, error_at, FailsFrom, GoesTo, HasCome, IsHeld, IsOfBytes, LiesLast, SpellsLast};
+ghost use Rattle.capture3.specs.machinery.Pairing.{error_at, FailsFrom, GoesTo, HasCome, IsHeld, IsOfBytes, LiesLast, SpellsLast};
 ghost use Rattle.capture3.specs.Kept.{IsLent, kind_of};
 ghost use Rattle.capture3.specs.Numbering.{number_lent};
 ghost use Rattle.capture3.specs.machinery.Calls.{KnowsNone};
@@ -43,7 +42,7 @@ pub(crate) struct Pairing<C: Drop> {
 
 impl<C: CallTable + Drop> Pairing<C> {
     ghost use Rattle.capture3.specs.MessageVisit.{Hears};
-    ghost use Rattle.capture3.specs.machinery.Stepping.{RefusesMessage, TakesMessage};
+    ghost use Rattle.capture3.specs.machinery.Stepping.{RefusesMessage, TakesMessage, TakesNext};
 
     pub(crate) fn new(alloc: Global, calls: C) -> Pairing<C>
         requires none { KnowsNone (C.known calls) }
@@ -79,34 +78,16 @@ impl<C: CallTable + Drop> Pairing<C> {
             (released self.old.container.joiner.taking) self.old.container }
         requires some { self.old.container.cursor ≡ None → 0 < length piece.now }
 
-        // How many bytes were taken.
-        ensures taken { IfOk result (λ count. TakesPiece piece.now (count, self.new.last)) }
-        ensures recalling { self.old.container.cursor ≢ None → IfOk result
-            (λ count. (count ≡ 0) × (self.new.last ≢ None)) }
-
-        // What is whole with them.
+        ensures ok { IfOk result
+            (TakesNext piece.now visitor.old visitor.new self.old self.new) }
         ensures machine { (bytes : List ℕ) (entries : List spec.Entry)
             → HasCome self.old.container (C.known self.old.calls) bytes entries
             → IfOk result
             (λ count. GoesTo (Hears V.rests V.stands visitor.old visitor.new) self.new.last
             self.new.number self.new.container (C.known self.new.calls)
             (bytes ++ take count piece.now) entries) }
-        ensures lies { IfOk result
-            (λ count. LiesIn self.new.container.joiner (take count piece.now)) }
-        ensures not_end { OnOk result (self.new.last ≢ Some Kind.End) }
-        ensures unmoved { OnOk result (self.new.last ≡ None → visitor.new ≡ visitor.old) }
-        ensures counted { OnOk result (CountsMessages self.new.last self.old.calls_taken
-            self.old.replies_taken self.new.calls_taken self.new.replies_taken) }
-
-        // Errors.
         ensures fault { OnErr result
             (FailsFrom self.old.container (C.known self.old.calls) piece.now self.new.error) }
-
-        // The container stays ready for the next bytes.
-        ensures ready { OnOk result (CanGoOn self.new.container.cursor
-            (released self.new.container.joiner.taking) self.new.container) }
-        ensures room { OnOk result (room_in self.new.container + entry_cost self.new.last
-            ≤ room_in self.old.container) }
     {
         self.last = None;
         self.container.release();

@@ -1,6 +1,6 @@
 //! A whole capture in memory.
 
-ghost use Rattle.std.specs.Prelude.{◌≢◌, ◌≤◌, ℕ, List, IfErr, IfOk, vec_len};
+ghost use Rattle.std.specs.Prelude.{◌≢◌, ◌≤◌, List, IfErr, IfOk, vec_len};
 ghost use Rattle.capture3.specs.Capture.{max_connections};
 ghost use Rattle.capture3.specs.Entries.{OnRefused};
 ghost use Rattle.capture3.specs.Entry as spec;

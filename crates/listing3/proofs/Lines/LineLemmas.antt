@@ -1,6 +1,6 @@
 -- A line, and what is held after it.
 use Rattle.std.proofs.Common.{◌+◌}
-use Rattle.listing3.proofs.Common.{◌≡◌, ◌⊎◌, inl, inr, ℕ, List, [], ◌∷◌, ◌++◌, ◌<◌, length, drop, refl, sym, ap, ap₂, ◌∙◌, subst, append_assoc, append-nil, length-append, arith, Result, Ok, Err, Appends, AppendsFront, PlainField, Item, Word, Opaque, Handle, run_items, ProcId, head_names, ◌^◌, Option, codes, decimal, OnErr, OnOk, Appends-trans, Spells, Adds, Keeps, procedure_in, Entry, Begin, Call, Turn, Reply, Close, End, Gap, ItemsText, is_headed_call, is_headed_reply, front_of_second, filled, IsTextOfBody, TextStands, always, after_front, HasLineUnderWay, LineRests, items_before, LineStands, SkipsOthers, entry_line, line, opening, prefix, procedure_name, shown, shown_items, WritesText}
+use Rattle.listing3.proofs.Common.{◌≡◌, ◌⊎◌, inl, inr, ℕ, List, [], ◌∷◌, ◌++◌, ◌<◌, length, drop, refl, sym, ap, ap₂, ◌∙◌, subst, append_assoc, append-nil, length-append, arith, Result, Ok, Err, Appends, AppendsFront, PlainField, Item, Word, Opaque, Handle, run_items, ProcId, called, ◌^◌, Option, codes, decimal, OnErr, OnOk, Appends-trans, Spells, Adds, Keeps, procedure_in, Entry, Begin, Call, Turn, Reply, Close, End, Gap, ItemsText, is_headed_call, is_headed_reply, front_of_second, filled, IsTextOfBody, TextStands, always, after_front, HasLineUnderWay, LineRests, items_before, LineStands, SkipsOthers, entry_line, line, opening, prefix, procedure_name, shown, shown_items, WritesText}
 use Rattle.capture3.specs.declared.reader.entry.Kind.{Kind}
 use Rattle.capture3.specs.declared.reader.entry.Kind.TheVariants as kinds
 use Rattle.capture3.specs.declared.fault.Error.{Error}
@@ -34,8 +34,8 @@ pub composed : (connection : ℕ) (side : List ℕ) (number xid : ℕ) (id : Pro
     (head text : List ℕ)
     → head ≡ prefix connection side number ++ (xid_text xid ++ (32 ∷ procedure_name id))
     → text ≡ shown_items rest ++ 10 ∷ []
-    → head ++ text ≡ line connection side number id (Word head_names.xid xid ∷ rest)
-unfolding head_names
+    → head ++ text ≡ line connection side number id (Word (called "xid") xid ∷ rest)
+unfolding called
 composed connection side number xid id rest head text head_is text_is =
     let p = prefix connection side number in
     let n : List ℕ = shown_items rest ++ 10 ∷ [] in
@@ -146,7 +146,7 @@ module _ {H : Type 0} (gathers : H → List Item → Type 0) (skips : SkipsOther
 
   -- a message begins, and its mtype is in the text, which was empty
   pub opens : (s : MessageStart) (empty : ItemsText) → TextStands empty []
-      → Adds TextStands empty text (Word head_names.mtype (word_of s.is_reply) ∷ [])
+      → Adds TextStands empty text (Word (called "mtype") (word_of s.is_reply) ∷ [])
       → OpensMessage (LineRests gathers) (LineStands gathers) writer
       (record { handles = writer.handles; xid = s.xid; items = text; head = writer.head })
       (start_items s)
@@ -157,7 +157,7 @@ module _ {H : Type 0} (gathers : H → List Item → Type 0) (skips : SkipsOther
     ap (λ (l : List Item). l ++ start_items s) are ∙ after_front-append front [] (start_items s),
     record {
       gathered = skips writer.handles front (start_items s) refl is;
-      rest = Word head_names.mtype (word_of s.is_reply) ∷ [];
+      rest = Word (called "mtype") (word_of s.is_reply) ∷ [];
       begins = refl;
       text = write [] none;
     },
@@ -225,16 +225,16 @@ line_ends items rest gap text body back of text_is gap_is body_is =
 
 pub is_line : {H : Type 0} (gathers : H → List Item → Type 0) (writer : LineWriter H)
     (connection : ℕ) (side : List ℕ) (number : ℕ) (id : ProcId) (front rest : List Item)
-    (n : ℕ) (head text body : List ℕ) (gap : Option Gap) → Spells (Word head_names.xid n ∷ rest)
+    (n : ℕ) (head text body : List ℕ) (gap : Option Gap) → Spells (Word (called "xid") n ∷ rest)
     body → length body < 2 ^ 64
-    → LineStands gathers writer (after_front front (Word head_names.xid n ∷ rest))
+    → LineStands gathers writer (after_front front (Word (called "xid") n ∷ rest))
     → head ≡ prefix connection side number ++ (xid_text writer.xid ++ (32 ∷ procedure_name id))
     → text ≡ writer.items.text ++ 10 ∷ [] → gap ≡ writer.items.gap
     → head ++ filled gap text (drop 4 body)
-    ≡ line connection side number id (Word head_names.xid n ∷ rest)
+    ≡ line connection side number id (Word (called "xid") n ∷ rest)
 is_line gathers writer connection side number id front rest n head text body gap
     (first, back, word, spells, split) few stands head_is text_is gap_is =
-    let u = is_after gathers writer front (Word head_names.xid n ∷ rest) stands in
+    let u = is_after gathers writer front (Word (called "xid") n ∷ rest) stands in
     let same : writer.xid ≡ n = cc (u.begins) in
     let after : u.rest ≡ rest = cc (u.begins) in
     let text_of = subst (TextStands writer.items) after u.text in
@@ -253,8 +253,8 @@ is_line gathers writer connection side number id front rest n head text body gap
 module _ (P : Entry → Type 0) (entries : List Entry) (one : Entry) (kind : Kind)
     (of : IsOfKind kind one) (first : AreFirst (entries ++ one ∷ [])) where
   pub listed_call : (id : ProcId) → kind ≡ kinds.Call id
-      → ((n : ℕ) (rest : List Item) → id ≡ procedure_in (Word head_names.xid n ∷ rest)
-      → P (Call (Word head_names.xid n ∷ rest))) → P one
+      → ((n : ℕ) (rest : List Item) → id ≡ procedure_in (Word (called "xid") n ∷ rest)
+      → P (Call (Word (called "xid") n ∷ rest))) → P one
   listed_call id is p =
       let (items, asks, this) = subst (λ k. IsOfKind k one) is of in
       let h = is_headed_call items (subst IsLaidOut this (last_laid entries one first)) in
@@ -262,7 +262,7 @@ module _ (P : Entry → Type 0) (entries : List Entry) (one : Entry) (kind : Kin
       (p h.number ((h.start ++ h.head) ++ h.back) (asks ∙ ap procedure_in h.is)))
 
   pub listed_reply : (id : ProcId) → kind ≡ kinds.Reply id
-      → ((n : ℕ) (rest : List Item) → P (Reply id (Word head_names.xid n ∷ rest))) → P one
+      → ((n : ℕ) (rest : List Item) → P (Reply id (Word (called "xid") n ∷ rest))) → P one
   listed_reply id is p =
       let (items, this) = subst (λ k. IsOfKind k one) is of in
       let h = is_headed_reply id items (subst IsLaidOut this (last_laid entries one first)) in

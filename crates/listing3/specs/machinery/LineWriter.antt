@@ -1,7 +1,6 @@
 -- What a writer of lines holds.
 use Rattle.std.specs.Prelude.{◌≡◌, List, [], ◌∷◌, ◌++◌, length}
-use Rattle.xdr3.specs.Item.{Item, Word}
-use Rattle.rpc_head.specs.Names.{head_names}
+use Rattle.xdr3.specs.Item.{Item, Word, called}
 use Rattle.capture3.specs.Entry.{Entry}
 use Rattle.canon3.specs.Values.{handles_in}
 use Rattle.canon3.specs.HandleTable.{all_items}
@@ -24,7 +23,7 @@ module _ {H : Type 0} (stands : H → List Item → Type 0) where
   pub record HasLineUnderWay (writer : LineWriter H) (front items : List Item) : Type 0 where
     pub gathered : stands writer.handles (front ++ items)
     pub rest : List Item
-    pub begins : items ≡ Word head_names.xid writer.xid ∷ rest
+    pub begins : items ≡ Word (called "xid") writer.xid ∷ rest
     pub text : TextStands writer.items rest
 
   abbrev pub LineStands : LineWriter H → List Item → Type 0

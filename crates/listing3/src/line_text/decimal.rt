@@ -1,6 +1,6 @@
 //! Numbers in decimal, written into a buffer that is long enough.
 
-ghost use Rattle.std.specs.Prelude.{◌≡◌, ◌<◌, ◌≤◌, ◌+◌, ◌*◌, ◌/◌, ◌++◌, length, take, decimal};
+ghost use Rattle.std.specs.Prelude.{◌≡◌, ◌<◌, ◌≤◌, ◌+◌, ◌*◌, ◌/◌, ◌++◌, length, decimal};
 ghost use Rattle.listing3.specs.Listing.{opening};
 ghost use Rattle.listing3.specs.machinery.Digits.{eight_digits, four_digits, two_digits};
 ghost use Rattle.listing3.specs.machinery.PutsBytes.{PutsBytes};

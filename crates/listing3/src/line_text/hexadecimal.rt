@@ -1,6 +1,6 @@
 //! Bytes in hexadecimal, written into a buffer that is long enough.
 
-ghost use Rattle.std.specs.Prelude.{◌≡◌, ◌<◌, ◌≤◌, ◌+◌, ◌*◌, ◌++◌, length, map, take, slice_index};
+ghost use Rattle.std.specs.Prelude.{◌≡◌, ◌<◌, ◌≤◌, ◌+◌, ◌*◌, length, map, slice_index};
 ghost use Rattle.hex.specs.Hex.{encode_lower, encode_with, lower_digits};
 ghost use Rattle.listing3.specs.machinery.Digits.{halves_in_order, AreHalves};
 ghost use Rattle.listing3.specs.machinery.PutsBytes.{PutsBytes};

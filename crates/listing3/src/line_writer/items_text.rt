@@ -1,6 +1,6 @@
 //! The text of a message's items, as it grows.
 
-ghost use Rattle.std.specs.Prelude.{◌≡◌, ◌≤◌, ◌<◌, ◌+◌, ◌^◌, ◌∷◌, [], length, true, None, OnOk, OnErr};
+ghost use Rattle.std.specs.Prelude.{◌≡◌, ◌≤◌, ◌<◌, ◌+◌, ◌∷◌, [], length, true, None, OnOk, OnErr};
 ghost use Rattle.xdr3.specs.Item.{Item, residue};
 ghost use Rattle.xdr3.specs.Visit.{Adds, Keeps, body_limit};
 ghost use Rattle.listing3.specs.machinery.ItemsText.{HasData, TextStands};

@@ -3,9 +3,7 @@ use Rattle.std.specs.Prelude.{◌≡◌, ℕ, ◌==◌, ◌+◌, true, false, Bo
 use Rattle.byteorder.specs.Endian.{big_number}
 use Rattle.xdr3.specs.declared.plain.PlainField.{PlainField}
 use Rattle.xdr3.specs.declared.plain.PlainField.TheVariants as fields
-use Rattle.xdr3.specs.Item.{Item, Word, Hyper}
-use Rattle.nfs3_types.specs.Names.{names}
-use Rattle.rpc_head.specs.Names.{head_names}
+use Rattle.xdr3.specs.Item.{Item, Word, Hyper, called}
 use Rattle.masking3.specs.declared.values.class.Class.{Class}
 use Rattle.masking3.specs.declared.masking_writer.MaskingWriter.{MaskingWriter}
 use Rattle.masking3.specs.declared.values.spot.ItemSpot.{ItemSpot}
@@ -19,7 +17,7 @@ use Rattle.masking3.specs.machinery.UnnamedBody.{body_word}
 
 -- of users and groups
 abbrev pub owner_names : List (List ℕ)
-owner_names = names.uid ∷ names.gid ∷ head_names.group ∷ []
+owner_names = (called "uid") ∷ (called "gid") ∷ (called "group") ∷ []
 
 -- By its length and its first letter this is neither the name of a word that has a class, nor
 -- `mtype`, `type` or `before`.
@@ -65,17 +63,20 @@ numbered_from at bytes (Hyper name n ∷ more) =
 numbered_from at bytes (_ ∷ more) = numbered_from at bytes more
 
 abbrev pub first_fields : List Item
-first_fields = Word names.mode 0 ∷ Word names.nlink 0 ∷ Word names.uid 0 ∷ Word names.gid 0 ∷ []
+first_fields =
+    Word (called "mode") 0 ∷ Word (called "nlink") 0 ∷ Word (called "uid") 0 ∷ Word (called "gid") 0
+    ∷ []
 
 abbrev pub next_fields : List Item
 next_fields =
-    Hyper names.size 0 ∷ Hyper names.used 0 ∷ Word names.rdev1 0 ∷ Word names.rdev2 0
-    ∷ Hyper names.fsid 0 ∷ Hyper names.fileid 0 ∷ []
+    Hyper (called "size") 0 ∷ Hyper (called "used") 0 ∷ Word (called "rdev1") 0
+    ∷ Word (called "rdev2") 0
+    ∷ Hyper (called "fsid") 0 ∷ Hyper (called "fileid") 0 ∷ []
 
 abbrev pub last_fields : List Item
 last_fields =
-    Word names.atime_sec 0 ∷ Word names.atime_nsec 0 ∷ Word names.mtime_sec 0
-    ∷ Word names.mtime_nsec 0 ∷ Word names.ctime_sec 0 ∷ Word names.ctime_nsec 0 ∷ []
+    Word (called "atime_sec") 0 ∷ Word (called "atime_nsec") 0 ∷ Word (called "mtime_sec") 0
+    ∷ Word (called "mtime_nsec") 0 ∷ Word (called "ctime_sec") 0 ∷ Word (called "ctime_nsec") 0 ∷ []
 
 -- a fattr3 after its type
 abbrev pub attribute_fields : List Item

@@ -1,7 +1,6 @@
 -- The spot in a message whose items come one after another: its mtype has its side.
 use Rattle.std.specs.Prelude.{◌≡◌, ℕ, Bool, true, false, List, ◌∷◌, fold}
-use Rattle.xdr3.specs.Item.{Item, Word}
-use Rattle.rpc_head.specs.Names.{head_names}
+use Rattle.xdr3.specs.Item.{Item, Word, called}
 use Rattle.capture3.specs.declared.fault.Side.{Side}
 use Rattle.capture3.specs.declared.fault.Side.TheVariants.{Client, Server}
 use Rattle.masking3.specs.declared.values.spot.ItemSpot.{ItemSpot}
@@ -30,4 +29,4 @@ spot_after spot items = fold next_spot spot items
 -- the items are the first ones of a message of this side, with its xid and its mtype
 abbrev pub BeginsOn : Side → List Item → Type 0
 BeginsOn side items = (xid : ℕ) × (rest : List Item)
-    × (items ≡ Word head_names.xid xid ∷ Word head_names.mtype (mtype_of side) ∷ rest)
+    × (items ≡ Word (called "xid") xid ∷ Word (called "mtype") (mtype_of side) ∷ rest)

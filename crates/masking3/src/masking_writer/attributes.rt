@@ -1,7 +1,7 @@
 //! The attributes of a file (RFC 1813, section 2.5), masked at once. Their fields are told by all their names, which
 //! are constants where attributes are read, so no name is compared when the program runs.
 
-ghost use Rattle.std.specs.Prelude.{◌≡◌, ◌≤◌, ◌+◌, ◌∷◌, List, [], IsTrue, OnOk, drop, length, map, take};
+ghost use Rattle.std.specs.Prelude.{◌≡◌, ◌≤◌, ◌+◌, ◌∷◌, [], IsTrue, OnOk, drop, length, map, take};
 ghost use Rattle.byteorder.specs.Endian.{big_number};
 ghost use Rattle.xdr3.specs.Item.{Hyper, Word};
 ghost use Rattle.xdr3.specs.Visit.{Adds};
@@ -23,7 +23,7 @@ use xdr3::{PlainField, Visit, spelled_hyper, spelled_word};
 const SIZE: usize = 80;
 
 #[inline(always)]
-#[tactic(auto, unfolding(nfs3_types::specs::Names::names))]
+#[tactic(auto, unfolding(xdr3::specs::Item::called))]
 fn are_first_fields(fields: &[PlainField]) -> bool
     ensures { IsTrue result → map field_item fields.now ≡ first_fields }
 {
@@ -39,7 +39,7 @@ fn are_first_fields(fields: &[PlainField]) -> bool
 }
 
 #[inline(always)]
-#[tactic(auto, unfolding(nfs3_types::specs::Names::names))]
+#[tactic(auto, unfolding(xdr3::specs::Item::called))]
 fn are_next_fields(fields: &[PlainField]) -> bool
     ensures { IsTrue result → map field_item fields.now ≡ next_fields }
 {
@@ -57,7 +57,7 @@ fn are_next_fields(fields: &[PlainField]) -> bool
 }
 
 #[inline(always)]
-#[tactic(auto, unfolding(nfs3_types::specs::Names::names))]
+#[tactic(auto, unfolding(xdr3::specs::Item::called))]
 fn are_last_fields(fields: &[PlainField]) -> bool
     ensures { IsTrue result → map field_item fields.now ≡ last_fields }
 {
@@ -87,7 +87,7 @@ pub(crate) fn are_attributes(fields: &[PlainField]) -> bool
 
 impl<P: Plan, S: BuildHasher + Copy + Drop> MaskingWriter<P, S> {
     /// Writes attributes after the type.
-    #[tactic(auto, using(crate::proofs::Lemmas::Classes::KnownFieldLemmas::known), unfolding(nfs3_types::specs::Names::names, rpc_head::specs::Names::head_names))]
+    #[tactic(auto, using(crate::proofs::Lemmas::Classes::KnownFieldLemmas::known), unfolding(xdr3::specs::Item::called))]
     pub(crate) fn write_attributes(&mut self, bytes: &[u8]) -> Result<(), AllocError>
         requires { length bytes.now ≡ 80 }
         ensures { OnOk result

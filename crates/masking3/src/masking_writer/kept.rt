@@ -26,7 +26,7 @@ pub(crate) fn is_free_name(name: &str) -> bool
 
 /// Returns whether a word of this name stays, if this becomes of users and groups. It may miss some.
 #[inline(always)]
-#[tactic(auto, unfolding(nfs3_types::specs::Names::names, rpc_head::specs::Names::head_names))]
+#[tactic(auto, unfolding(xdr3::specs::Item::called))]
 fn is_kept_name(owners: Way, name: &str) -> bool
     ensures { result ≡ is_kept_name owners name.now }
 {

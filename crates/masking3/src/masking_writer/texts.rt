@@ -58,7 +58,7 @@ fn host_name(way: Way, bytes: &[u8]) -> &[u8]
 }
 
 /// Returns what is written for a text of this name. It has no more bytes than the text.
-#[tactic(auto, unfolding(nfs3_types::specs::Names::names))]
+#[tactic(auto, unfolding(xdr3::specs::Item::called))]
 pub(crate) fn masked_text<'a>(ways: &Ways, name: &str, bytes: &'a [u8]) -> &'a [u8]
     ensures masked { result.now ≡ text_by ways.now name.now bytes.now }
     ensures within { length result.now ≤ length bytes.now }

@@ -147,7 +147,7 @@ pub(crate) fn class_in_wcc(spot: ItemSpot) -> Option<Class>
 }
 
 /// Returns the class of a word of this name.
-#[tactic(auto, unfolding(nfs3_types::specs::Names::names, rpc_head::specs::Names::head_names))]
+#[tactic(auto, unfolding(xdr3::specs::Item::called))]
 pub(crate) fn class_of_word(spot: ItemSpot, name: &str) -> Option<Class>
     ensures { result ≡ class_of_word spot name.now }
 {
@@ -165,7 +165,7 @@ pub(crate) fn class_of_word(spot: ItemSpot, name: &str) -> Option<Class>
 }
 
 /// Returns the class of a number of eight bytes of this name.
-#[tactic(auto, unfolding(nfs3_types::specs::Names::names))]
+#[tactic(auto, unfolding(xdr3::specs::Item::called))]
 pub(crate) fn class_of_hyper(spot: ItemSpot, name: &str) -> Option<Class>
     ensures { result ≡ class_of_hyper spot name.now }
 {
@@ -182,7 +182,7 @@ pub(crate) fn class_of_hyper(spot: ItemSpot, name: &str) -> Option<Class>
 }
 
 /// Returns the class of eight bytes of this name.
-#[tactic(auto, unfolding(nfs3_types::specs::Names::names))]
+#[tactic(auto, unfolding(xdr3::specs::Item::called))]
 pub(crate) fn class_of_fixed(name: &str) -> Option<Class>
     ensures { result ≡ class_of_fixed name.now }
 {

@@ -36,7 +36,7 @@ impl ItemSpot {
 }
 
 /// Returns the spot of what follows a word of this name, in a reply and in no wcc_data.
-#[tactic(auto, unfolding(nfs3_types::specs::Names::names))]
+#[tactic(auto, unfolding(xdr3::specs::Item::called))]
 fn after_word(spot: ItemSpot, name: &str, n: u32) -> ItemSpot
     ensures { result ≡ after_word spot name.now n }
 {

@@ -32,7 +32,7 @@ impl Scan for Fattr {
 
     ghost shape = { attributes };
 
-    #[tactic(auto, using(xdr3::proofs::Lemmas::Scans::ScanLemmas::scans, crate::proofs::AttributeTailLemmas::whole_attributes), unfolding(crate::specs::Shapes::file_kind, crate::specs::Names::names))]
+    #[tactic(auto, using(xdr3::proofs::Lemmas::Scans::ScanLemmas::scans, crate::proofs::AttributeTailLemmas::whole_attributes), unfolding(crate::specs::Shapes::file_kind, xdr3::specs::Item::called))]
     fn scan<V: Visit>(input: &mut Input, visitor: &mut V) -> Result<(), GetError> {
         scan_listed("type", &[1, 2, 3, 4, 5, 6, 7], input, visitor)?;
         scan_after_type(input, visitor)
@@ -40,7 +40,7 @@ impl Scan for Fattr {
 }
 
 #[inline]
-#[tactic(auto, using(xdr3::proofs::Lemmas::Shapes::FlatLemmas::flats), unfolding(crate::specs::machinery::AttributeTails::after_type, crate::specs::Shapes::times, crate::specs::Shapes::time, crate::specs::Names::names))]
+#[tactic(auto, using(xdr3::proofs::Lemmas::Shapes::FlatLemmas::flats), unfolding(crate::specs::machinery::AttributeTails::after_type, crate::specs::Shapes::times, crate::specs::Shapes::time, xdr3::specs::Item::called))]
 fn scan_after_type<V: Visit>(input: &mut Input, visitor: &mut V) -> Result<(), GetError>
     ensures ok { OnOk result
         (Scans V.stands after_type (input.old, visitor.old) (input.new, visitor.new)) }
@@ -55,7 +55,7 @@ impl Scan for PostOpAttr {
 
     ghost shape = { post_op_attr };
 
-    #[tactic(auto, unfolding(crate::specs::Shapes::post_op_attr, crate::specs::Names::names))]
+    #[tactic(auto, unfolding(crate::specs::Shapes::post_op_attr, xdr3::specs::Item::called))]
     fn scan<V: Visit>(input: &mut Input, visitor: &mut V) -> Result<(), GetError> {
         scan_optional::<Fattr, V>("attr", input, visitor)
     }
@@ -86,7 +86,7 @@ impl Scan for Wcc {
 
     ghost shape = { wcc };
 
-    #[tactic(auto, using(xdr3::proofs::Lemmas::Scans::ScanLemmas::scans), unfolding(crate::specs::Shapes::wcc, crate::specs::Names::names))]
+    #[tactic(auto, using(xdr3::proofs::Lemmas::Scans::ScanLemmas::scans), unfolding(crate::specs::Shapes::wcc, xdr3::specs::Item::called))]
     fn scan<V: Visit>(input: &mut Input, visitor: &mut V) -> Result<(), GetError> {
         scan_optional::<WccAttr, V>("before", input, visitor)?;
         PostOpAttr::scan(input, visitor)

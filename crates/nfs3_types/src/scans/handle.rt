@@ -9,7 +9,7 @@ impl Scan for Handle {
     ghost shape = { handle };
 
     #[inline(always)]
-    #[tactic(auto, unfolding(crate::specs::Shapes::handle, crate::specs::Names::names))]
+    #[tactic(auto, unfolding(crate::specs::Shapes::handle, xdr3::specs::Item::called))]
     fn scan<V: Visit>(input: &mut Input, visitor: &mut V) -> Result<(), GetError> {
         scan_handle("fh", input, visitor)
     }

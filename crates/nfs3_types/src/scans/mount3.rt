@@ -1,10 +1,10 @@
 //! Parts of MOUNT version 3, passed to a visitor as they are read (RFC 1813, section 5).
-#![tactic(auto, using(xdr3::proofs::Lemmas::Scans::ScanLemmas::scans), unfolding(crate::specs::Shapes::flavor, crate::specs::Shapes::mount_ok, crate::specs::Shapes::mounted, crate::specs::Shapes::mount_list, crate::specs::Shapes::group, crate::specs::Shapes::export, crate::specs::Shapes::exports, crate::specs::Names::names))]
+#![tactic(auto, using(xdr3::proofs::Lemmas::Scans::ScanLemmas::scans), unfolding(crate::specs::Shapes::flavor, crate::specs::Shapes::mount_ok, crate::specs::Shapes::mounted, crate::specs::Shapes::group, crate::specs::Shapes::export, xdr3::specs::Item::called))]
 
 ghost use Rattle.std.specs.Prelude.{IfErr, OnOk};
-ghost use Rattle.xdr3.specs.Item.{Text};
+ghost use Rattle.xdr3.specs.Item.{Text, called};
 ghost use Rattle.xdr3.specs.Scan.{Scans, Stops};
-ghost use Rattle.xdr3.specs.Shape.{opaque};
+ghost use Rattle.xdr3.specs.Shape.{linked, opaque};
 
 use crate::values::handle::Handle;
 use crate::values::mount3::{Export, Exports, Flavor, Group, MountList, MountOk, Mounted};
@@ -64,14 +64,16 @@ impl<'a> Scan for Mounted<'a> {
 }
 
 impl<'a> Scan for MountList<'a> {
-    ghost use Rattle.nfs3_types.specs.Shapes.{mount_list};
+    ghost use Rattle.nfs3_types.specs.Shapes.{mounted};
 
-    ghost shape = { mount_list };
+    ghost shape = { linked (called "entry") mounted };
 
     fn scan<V: Visit>(input: &mut Input, visitor: &mut V) -> Result<(), GetError>
         ensures ok { OnOk result
-            (Scans V.stands mount_list (input.old, visitor.old) (input.new, visitor.new)) }
-        ensures err { IfErr result (λ error. Stops mount_list input.old error) }
+            (Scans V.stands (linked (called "entry") mounted)
+            (input.old, visitor.old) (input.new, visitor.new)) }
+        ensures err { IfErr result
+            (λ error. Stops (linked (called "entry") mounted) input.old error) }
     {
         scan_linked::<Mounted, V>("entry", input, visitor)
     }
@@ -107,14 +109,16 @@ impl<'a> Scan for Export<'a> {
 }
 
 impl<'a> Scan for Exports<'a> {
-    ghost use Rattle.nfs3_types.specs.Shapes.{exports};
+    ghost use Rattle.nfs3_types.specs.Shapes.{export};
 
-    ghost shape = { exports };
+    ghost shape = { linked (called "entry") export };
 
     fn scan<V: Visit>(input: &mut Input, visitor: &mut V) -> Result<(), GetError>
         ensures ok { OnOk result
-            (Scans V.stands exports (input.old, visitor.old) (input.new, visitor.new)) }
-        ensures err { IfErr result (λ error. Stops exports input.old error) }
+            (Scans V.stands (linked (called "entry") export)
+            (input.old, visitor.old) (input.new, visitor.new)) }
+        ensures err { IfErr result
+            (λ error. Stops (linked (called "entry") export) input.old error) }
     {
         scan_linked::<Export, V>("entry", input, visitor)
     }

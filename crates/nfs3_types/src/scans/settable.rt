@@ -1,11 +1,13 @@
 //! Attributes that a caller sets, passed to a visitor as they are read (RFC 1813, sections 2.6 and
 //! 3.3.2).
-#![tactic(auto, using(xdr3::proofs::Lemmas::Scans::ScanLemmas::scans), unfolding(crate::specs::Shapes::set_word, crate::specs::Shapes::set_hyper, crate::specs::Shapes::guard, crate::specs::machinery::AttributeTails::settable_times, xdr3::specs::Shape::optional, crate::specs::Names::names))]
+#![tactic(auto, using(xdr3::proofs::Lemmas::Scans::ScanLemmas::scans), unfolding(crate::specs::Shapes::set_word, crate::specs::machinery::AttributeTails::settable_times, xdr3::specs::Shape::optional, xdr3::specs::Item::called))]
 
 ghost use Rattle.std.specs.Prelude.{IfErr, OnOk};
 ghost use Rattle.nfs3_types.specs.machinery.AttributeTails.{settable_times};
 ghost use Rattle.nfs3_types.specs.Shapes as shapes;
+ghost use Rattle.xdr3.specs.Item.{called};
 ghost use Rattle.xdr3.specs.Scan.{Scans, Stops};
+ghost use Rattle.xdr3.specs.Shape.{hyper, optional};
 
 use crate::scans::time::{scan_time, scan_time_how};
 use crate::values::settable::{Guard, Sattr};
@@ -39,10 +41,10 @@ fn scan_set_hyper<V: Visit>(
     visitor: &mut V,
 ) -> Result<(), GetError>
     ensures ok { OnOk result
-        (Scans V.stands (shapes.set_hyper set.now name.now)
+        (Scans V.stands (optional set.now (hyper name.now))
         (input.old, visitor.old) (input.new, visitor.new)) }
     ensures err { IfErr result
-        (λ error. Stops (shapes.set_hyper set.now name.now) input.old error) }
+        (λ error. Stops (optional set.now (hyper name.now)) input.old error) }
 {
     if scan_boolean(set, input, visitor)? {
         scan_hyper(name, input, visitor)
@@ -56,7 +58,7 @@ impl Scan for Sattr {
 
     ghost shape = { settable };
 
-    #[tactic(auto, using(xdr3::proofs::Lemmas::Scans::ScanLemmas::scans, crate::proofs::AttributeTailLemmas::whole_settable), unfolding(crate::specs::Shapes::settable, crate::specs::Names::names))]
+    #[tactic(auto, using(xdr3::proofs::Lemmas::Scans::ScanLemmas::scans, crate::proofs::AttributeTailLemmas::whole_settable), unfolding(crate::specs::Shapes::settable, xdr3::specs::Item::called))]
     fn scan<V: Visit>(input: &mut Input, visitor: &mut V) -> Result<(), GetError> {
         scan_set_word("set_mode", "mode", input, visitor)?;
         scan_set_word("set_uid", "uid", input, visitor)?;
@@ -77,9 +79,9 @@ fn scan_settable_times<V: Visit>(input: &mut Input, visitor: &mut V) -> Result<(
 }
 
 impl Scan for Guard {
-    ghost use Rattle.nfs3_types.specs.Shapes.{guard};
+    ghost use Rattle.nfs3_types.specs.Shapes.{time};
 
-    ghost shape = { guard };
+    ghost shape = { optional (called "check") (time (called "ctime_sec") (called "ctime_nsec")) };
 
     fn scan<V: Visit>(input: &mut Input, visitor: &mut V) -> Result<(), GetError> {
         if scan_boolean("check", input, visitor)? {

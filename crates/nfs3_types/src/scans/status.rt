@@ -15,7 +15,7 @@ impl<T: Scan, F: Scan> Scan for Res<T, F> {
 
     ghost shape = { results T.shape F.shape };
 
-    #[tactic(auto, using(xdr3::proofs::Lemmas::Scans::ScanLemmas::scans), unfolding(crate::specs::Shapes::results, crate::specs::Names::names))]
+    #[tactic(auto, using(xdr3::proofs::Lemmas::Scans::ScanLemmas::scans), unfolding(crate::specs::Shapes::results, xdr3::specs::Item::called))]
     fn scan<V: Visit>(input: &mut Input, visitor: &mut V) -> Result<(), GetError> {
         if scan_listed("status", &STATUSES, input, visitor)? == 0 {
             T::scan(input, visitor)

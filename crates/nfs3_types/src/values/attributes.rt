@@ -1,5 +1,5 @@
 //! Attributes (RFC 1813, sections 2.5 and 2.6).
-#![tactic(auto, using(xdr3::proofs::Lemmas::Shapes::Walks::steps), unfolding(xdr3::specs::Reading::reading, crate::specs::Shapes::attributes, crate::specs::Shapes::post_op_attr, crate::specs::Shapes::wcc_attr, crate::specs::Names::names))]
+#![tactic(auto, using(xdr3::proofs::Lemmas::Shapes::Walks::steps), unfolding(xdr3::specs::Reading::reading, crate::specs::Shapes::attributes, crate::specs::Shapes::post_op_attr, crate::specs::Shapes::wcc_attr, xdr3::specs::Item::called))]
 
 use crate::values::kind::FileKind;
 use crate::values::time::{Time, Times};

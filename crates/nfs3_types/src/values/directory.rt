@@ -1,5 +1,5 @@
 //! Names in directories, and optional handles (RFC 1813, section 2.6).
-#![tactic(auto, unfolding(xdr3::specs::Reading::reading, crate::specs::Shapes::dir_op, crate::specs::Shapes::post_op_fh, crate::specs::Names::names))]
+#![tactic(auto, unfolding(xdr3::specs::Reading::reading, crate::specs::Shapes::dir_op, crate::specs::Shapes::post_op_fh, xdr3::specs::Item::called))]
 
 use crate::values::handle::Handle;
 use std::alloc::{AllocError, Global};

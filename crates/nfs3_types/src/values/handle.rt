@@ -176,7 +176,7 @@ impl Walk for Handle {
 
     ghost items = { handle_items };
 
-    #[tactic(auto, unfolding(crate::specs::Names::names))]
+    #[tactic(auto, unfolding(xdr3::specs::Item::called))]
     fn walk<V: Visit>(&self, visitor: &mut V) -> Result<(), AllocError> {
         walk_fields(&[Field::Handle("fh", self.as_slice())], visitor)
     }

@@ -95,7 +95,7 @@ impl Walk for FileKind {
 
     ghost items = { file_kind_items };
 
-    #[tactic(auto, unfolding(crate::specs::Names::names))]
+    #[tactic(auto, unfolding(xdr3::specs::Item::called))]
     fn walk<V: Visit>(&self, visitor: &mut V) -> Result<(), AllocError> {
         walk_fields(&[Field::Word("type", self.number())], visitor)
     }

@@ -1,9 +1,10 @@
 //! The parts of MOUNT version 3 (RFC 1813, section 5).
-#![tactic(auto, using(xdr3::proofs::Lemmas::Shapes::Walks::steps), unfolding(xdr3::specs::Reading::reading, crate::specs::Shapes::mount_status, crate::specs::Shapes::flavor, crate::specs::Shapes::mounted, crate::specs::Shapes::group, crate::specs::Shapes::exports, crate::specs::Names::names))]
+#![tactic(auto, using(xdr3::proofs::Lemmas::Shapes::Walks::steps), unfolding(xdr3::specs::Reading::reading, crate::specs::Shapes::mount_status, crate::specs::Shapes::flavor, crate::specs::Shapes::mounted, crate::specs::Shapes::group, xdr3::specs::Item::called))]
 
 ghost use Rattle.std.specs.Prelude.{◌≡◌, ◌↔◌, IfSome, IsSome, IsTrue};
+ghost use Rattle.xdr3.specs.Item.{called};
 ghost use Rattle.xdr3.specs.Reading.{word_at};
-ghost use Rattle.xdr3.specs.Shape.{is_listed};
+ghost use Rattle.xdr3.specs.Shape.{is_listed, linked};
 ghost use Rattle.xdr3.specs.View.{Answers, MovesOn};
 
 use crate::values::handle::Handle;
@@ -151,9 +152,12 @@ pub struct MountOk {
 }
 
 impl<'a> Xdr<'a> for MountOk {
+    ghost use Rattle.std.specs.Prelude.{true};
     ghost use Rattle.nfs3_types.specs.Shapes.{mount_ok};
 
     ghost shape = { mount_ok };
+
+    ghost owns_memory = { true };
 
     #[tactic(auto, unfolding(xdr3::specs::Reading::reading, crate::specs::Shapes::mount_ok, xdr3::specs::Item::followed_by))]
     fn get(alloc: Global, input: &mut Input<'a>) -> Result<MountOk, GetError> {
@@ -168,7 +172,7 @@ impl Walk for MountOk {
 
     ghost items = { mount_ok_items };
 
-    #[tactic(auto, using(xdr3::proofs::Lemmas::Shapes::Walks::steps, crate::proofs::Flavors::few_flavors), unfolding(crate::specs::Names::names))]
+    #[tactic(auto, using(xdr3::proofs::Lemmas::Shapes::Walks::steps, crate::proofs::Flavors::few_flavors), unfolding(xdr3::specs::Item::called))]
     fn walk<V: Visit>(&self, visitor: &mut V) -> Result<(), AllocError> {
         self.handle.walk(visitor)?;
         walk_counted("flavors", self.flavors.as_slice(), visitor)?;
@@ -221,11 +225,14 @@ pub struct MountList<'a> {
 }
 
 impl<'a> Xdr<'a> for MountList<'a> {
-    ghost use Rattle.nfs3_types.specs.Shapes.{mount_list};
+    ghost use Rattle.std.specs.Prelude.{true};
+    ghost use Rattle.nfs3_types.specs.Shapes.{mounted};
 
-    ghost shape = { mount_list };
+    ghost shape = { linked (called "entry") mounted };
 
-    #[tactic(auto, unfolding(crate::specs::Shapes::mount_list))]
+    ghost owns_memory = { true };
+
+    #[tactic(auto)]
     fn get(alloc: Global, input: &mut Input<'a>) -> Result<MountList<'a>, GetError> {
         let entries = get_linked(alloc, input)?;
         Ok(MountList { entries })
@@ -279,9 +286,12 @@ pub struct Export<'a> {
 }
 
 impl<'a> Xdr<'a> for Export<'a> {
+    ghost use Rattle.std.specs.Prelude.{true};
     ghost use Rattle.nfs3_types.specs.Shapes.{export};
 
     ghost shape = { export };
+
+    ghost owns_memory = { true };
 
     #[tactic(auto, unfolding(xdr3::specs::Reading::reading, crate::specs::Shapes::export, xdr3::specs::Item::followed_by))]
     fn get(alloc: Global, input: &mut Input<'a>) -> Result<Export<'a>, GetError> {
@@ -310,9 +320,12 @@ pub struct Exports<'a> {
 }
 
 impl<'a> Xdr<'a> for Exports<'a> {
-    ghost use Rattle.nfs3_types.specs.Shapes.{exports};
+    ghost use Rattle.std.specs.Prelude.{true};
+    ghost use Rattle.nfs3_types.specs.Shapes.{export};
 
-    ghost shape = { exports };
+    ghost shape = { linked (called "entry") export };
+
+    ghost owns_memory = { true };
 
     fn get(alloc: Global, input: &mut Input<'a>) -> Result<Exports<'a>, GetError> {
         let entries = get_linked(alloc, input)?;

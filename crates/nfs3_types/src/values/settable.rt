@@ -1,8 +1,10 @@
 //! Attributes that a caller sets (RFC 1813, sections 2.6 and 3.3.2).
-#![tactic(auto, using(xdr3::proofs::Lemmas::Shapes::Walks::steps), unfolding(xdr3::specs::Reading::reading, xdr3::specs::Shape::optional, crate::specs::Shapes::set_word, crate::specs::Shapes::set_hyper, crate::specs::Shapes::guard, crate::specs::Names::names))]
+#![tactic(auto, using(xdr3::proofs::Lemmas::Shapes::Walks::steps), unfolding(xdr3::specs::Reading::reading, xdr3::specs::Shape::optional, crate::specs::Shapes::set_word, xdr3::specs::Item::called))]
 
 ghost use Rattle.std.specs.Prelude.{ℕ, List, OnErr, OnOk};
+ghost use Rattle.xdr3.specs.Item.{called};
 ghost use Rattle.xdr3.specs.Reading.{reading};
+ghost use Rattle.xdr3.specs.Shape.{hyper, optional};
 ghost use Rattle.xdr3.specs.View.{Answers, MovesOn};
 ghost use Rattle.xdr3.specs.Visit.{Adds, AddsSome, AreWithinLimit};
 ghost use Rattle.nfs3_types.specs.Items.{set_hyper_items, set_word_items};
@@ -30,10 +32,10 @@ impl<'a> Xdr<'a> for Sattr {
 
     #[tactic(auto, unfolding(xdr3::specs::Reading::reading, crate::specs::Shapes::settable, xdr3::specs::Item::followed_by))]
     fn get(_alloc: Global, input: &mut Input<'a>) -> Result<Sattr, GetError> {
-        let mode = set_word(input)?;
-        let uid = set_word(input)?;
-        let gid = set_word(input)?;
-        let size = set_hyper(input)?;
+        let mode = optional_word(input)?;
+        let uid = optional_word(input)?;
+        let gid = optional_word(input)?;
+        let size = optional_hyper(input)?;
         let atime = TimeHow::take(input)?;
         let mtime = TimeHow::take(input)?;
         Ok(Sattr {
@@ -66,7 +68,7 @@ impl Walk for Sattr {
 }
 
 /// Reads a bool, and a word if it is true.
-fn set_word(input: &mut Input) -> Result<Option<u32>, Stop>
+fn optional_word(input: &mut Input) -> Result<Option<u32>, Stop>
     ensures read { (set name : List ℕ)
         → Answers (set_word_items set name) result input.new.at
         (reading (shapes.set_word set name) input.old.body input.old.at) }
@@ -81,10 +83,10 @@ fn set_word(input: &mut Input) -> Result<Option<u32>, Stop>
 }
 
 /// Reads a bool, and a hyper if it is true.
-fn set_hyper(input: &mut Input) -> Result<Option<u64>, Stop>
+fn optional_hyper(input: &mut Input) -> Result<Option<u64>, Stop>
     ensures read { (set name : List ℕ)
         → Answers (set_hyper_items set name) result input.new.at
-        (reading (shapes.set_hyper set name) input.old.body input.old.at) }
+        (reading (optional set (hyper name)) input.old.body input.old.at) }
     ensures moves { MovesOn input.old input.new }
 {
     if input.boolean()? {
@@ -139,9 +141,9 @@ pub struct Guard {
 }
 
 impl<'a> Xdr<'a> for Guard {
-    ghost use Rattle.nfs3_types.specs.Shapes.{guard};
+    ghost use Rattle.nfs3_types.specs.Shapes.{time};
 
-    ghost shape = { guard };
+    ghost shape = { optional (called "check") (time (called "ctime_sec") (called "ctime_nsec")) };
 
     fn get(_alloc: Global, input: &mut Input<'a>) -> Result<Guard, GetError> {
         if input.boolean()? {

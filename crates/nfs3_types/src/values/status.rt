@@ -1,5 +1,5 @@
 //! Statuses, and results that depend on them (RFC 1813, section 2.6).
-#![tactic(auto, using(xdr3::proofs::Lemmas::Shapes::Walks::steps), unfolding(xdr3::specs::Reading::reading, crate::specs::Shapes::status, crate::specs::Names::names))]
+#![tactic(auto, using(xdr3::proofs::Lemmas::Shapes::Walks::steps), unfolding(xdr3::specs::Reading::reading, crate::specs::Shapes::status, xdr3::specs::Item::called))]
 
 ghost use Rattle.std.specs.Prelude.{◌≡◌, ◌≢◌, ◌↔◌, IfSome, IsSome, IsTrue};
 ghost use Rattle.xdr3.specs.Reading.{word_at};
@@ -227,9 +227,12 @@ pub enum Res<T, F> {
 }
 
 impl<'a, T: Xdr<'a> + Drop, F: Xdr<'a> + Drop> Xdr<'a> for Res<T, F> {
+    ghost use Rattle.std.specs.Prelude.{true};
     ghost use Rattle.nfs3_types.specs.Shapes.{results};
 
     ghost shape = { results T.shape F.shape };
+
+    ghost owns_memory = { true };
 
     #[tactic(auto, unfolding(xdr3::specs::Reading::reading, crate::specs::Shapes::results, xdr3::specs::Item::followed_by))]
     fn get(alloc: Global, input: &mut Input<'a>) -> Result<Res<T, F>, GetError> {

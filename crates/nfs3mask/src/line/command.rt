@@ -7,40 +7,37 @@ ghost use Rattle.nfs3mask.specs.MaskLine.{AreMaskWordsRefused, AsksForMask, IsMa
 use crate::line::asked::MaskJob;
 use crate::line::change::changed_ways;
 use crate::line::grammar::command;
-use line3::{LineFault, try_words, usage, without_end};
+use line3::{LineFault, take_end, try_words, usage};
 use std::alloc::{AllocError, Global};
 
-/// Returns the words of a command line, the program's name first, without the `--` that ends its options. A
-/// line that clap does not take, and a call for help, is answered by the text that clap writes.
+/// Returns the job that a command line asks for: the names of a capture and of an output, and words that change
+/// the usual mask. `words` are its words, the program's name first; of them the `--` that ends the options is
+/// taken out.
 ///
 /// # Errors
 ///
-/// - `Usage` with that text.
+/// - `Usage` if the line has not this form, or asks for help. The text says so.
+/// - `SameName` if the output is the input.
 /// - `Memory` if memory ran out.
-pub fn take_words(alloc: Global, words: Vec<String>) -> Result<Vec<String>, LineFault>
-    ensures taken { IfOk result (λ said.
-        map string_bytes said.items ≡ without_end 1 (map string_bytes words.items)) }
-    ensures refused { IfErr result (AreMaskWordsRefused (map string_bytes words.items)) }
+pub fn mask_job<'a>(alloc: Global, words: &'a mut Vec<String>) -> Result<MaskJob<'a>, LineFault>
+    ensures asked { IfOk result (AsksForMask (map string_bytes words.old.items)) }
+    ensures refused { IfErr result (AreMaskWordsRefused (map string_bytes words.old.items)) }
 {
     let command = match command(alloc) {
         Ok(command) => command,
         Err(_) => return Err(LineFault::Memory),
     };
     match try_words(alloc, command, words.as_slice()) {
-        Ok(()) => Ok(without_end(words, 1)),
+        Ok(()) => {
+            take_end(words, 1);
+            mask_job_of(alloc, words.as_slice())
+        }
         Err(fault) => Err(fault),
     }
 }
 
-/// Returns the job that the words of a line ask for, the program's name first: the names of a capture and of
-/// an output, and words that change the usual mask. They are what `take_words` returns.
-///
-/// # Errors
-///
-/// - `Usage` if the line has not this form. The text says so.
-/// - `SameName` if the output is the input.
-/// - `Memory` if memory ran out.
-pub fn mask_job<'a>(alloc: Global, words: &'a [String]) -> Result<MaskJob<'a>, LineFault>
+/// Returns the job that the words of a line ask for, the program's name first. A `--` is not among them.
+fn mask_job_of<'a>(alloc: Global, words: &'a [String]) -> Result<MaskJob<'a>, LineFault>
     ensures asked { (line : List (List ℕ)) → map string_bytes words.now ≡ without_end 1 line
         → IfOk result (AsksForMask line) }
     ensures refused { (line : List (List ℕ)) → map string_bytes words.now ≡ without_end 1 line

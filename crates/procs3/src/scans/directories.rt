@@ -1,8 +1,8 @@
 //! What `values::directories` has, passed to a visitor as it is read: directories (RFC 1813,
 //! sections 3.3.3 and 3.3.14 to 3.3.17).
-#![tactic(auto, using(xdr3::proofs::Lemmas::Scans::ScanLemmas::scans), unfolding(nfs3_types::specs::Names::names))]
+#![tactic(auto, using(xdr3::proofs::Lemmas::Scans::ScanLemmas::scans), unfolding(xdr3::specs::Item::called))]
 
-ghost use Rattle.nfs3_types.specs.Names.{names};
+ghost use Rattle.xdr3.specs.Item.{called};
 ghost use Rattle.xdr3.specs.Scan.{Scans};
 ghost use Rattle.xdr3.specs.Shape.{linked};
 
@@ -37,7 +37,7 @@ type Entry = Both<FileId, Both<FileName, Cookie>>;
 pub(crate) struct EntryList<E>(PhantomData<E>);
 
 impl<E: Scan> Scan for EntryList<E> {
-    ghost shape = { linked names.entry E.shape };
+    ghost shape = { linked (called "entry") E.shape };
 
     #[inline(always)]
     fn scan<V: Visit>(input: &mut Input, visitor: &mut V) -> Result<(), GetError> {

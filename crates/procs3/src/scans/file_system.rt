@@ -1,10 +1,9 @@
 //! What `values::file_system` has, passed to a visitor as it is read: file systems (RFC 1813,
 //! sections 3.3.18 to 3.3.20).
-#![tactic(auto, using(xdr3::proofs::Lemmas::Shapes::FlatLemmas::flats), unfolding(nfs3_types::specs::Shapes::time, nfs3_types::specs::Names::names))]
+#![tactic(auto, using(xdr3::proofs::Lemmas::Shapes::FlatLemmas::flats), unfolding(nfs3_types::specs::Shapes::time, xdr3::specs::Item::called))]
 
-ghost use Rattle.nfs3_types.specs.Names.{names};
+ghost use Rattle.xdr3.specs.Item.{called};
 ghost use Rattle.nfs3_types.specs.Shapes.{time};
-ghost use Rattle.xdr3.specs.Scan.{Scans};
 ghost use Rattle.xdr3.specs.Shape.{◌then◌, hyper, word};
 
 use crate::scans::both::Both;
@@ -32,9 +31,9 @@ const FSSTAT: [PlainField; 7] = [
 ];
 
 impl Scan for FsStatNumbers {
-    ghost shape = { hyper names.tbytes then hyper names.fbytes then hyper names.abytes
-        then hyper names.tfiles then hyper names.ffiles then hyper names.afiles
-        then word names.invarsec };
+    ghost shape = { hyper (called "tbytes") then hyper (called "fbytes")
+        then hyper (called "abytes") then hyper (called "tfiles") then hyper (called "ffiles")
+        then hyper (called "afiles") then word (called "invarsec") };
 
     #[inline]
     fn scan<V: Visit>(input: &mut Input, visitor: &mut V) -> Result<(), GetError> {
@@ -65,10 +64,10 @@ const FSINFO: [PlainField; 11] = [
 ];
 
 impl Scan for FsInfoNumbers {
-    ghost shape = { word names.rtmax then word names.rtpref then word names.rtmult
-        then word names.wtmax then word names.wtpref then word names.wtmult
-        then word names.dtpref then hyper names.maxfilesize
-        then time names.delta_sec names.delta_nsec then word names.properties };
+    ghost shape = { word (called "rtmax") then word (called "rtpref") then word (called "rtmult")
+        then word (called "wtmax") then word (called "wtpref") then word (called "wtmult")
+        then word (called "dtpref") then hyper (called "maxfilesize")
+        then time (called "delta_sec") (called "delta_nsec") then word (called "properties") };
 
     #[inline]
     fn scan<V: Visit>(input: &mut Input, visitor: &mut V) -> Result<(), GetError> {

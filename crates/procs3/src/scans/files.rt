@@ -1,8 +1,7 @@
 //! What `values::files` has, passed to a visitor as it is read: files (RFC 1813,
 //! sections 3.3.2 to 3.3.7 and 3.3.21).
 
-ghost use Rattle.nfs3_types.specs.Names.{names};
-ghost use Rattle.xdr3.specs.Scan.{Scans};
+ghost use Rattle.xdr3.specs.Item.{called};
 ghost use Rattle.xdr3.specs.Shape.{◌then◌, hyper, word};
 
 use crate::scans::both::Both;
@@ -34,10 +33,10 @@ pub(crate) struct Range;
 const RANGE: [PlainField; 2] = [PlainField::Hyper("offset"), PlainField::Word("count")];
 
 impl Scan for Range {
-    ghost shape = { hyper names.offset then word names.count };
+    ghost shape = { hyper (called "offset") then word (called "count") };
 
     #[inline]
-    #[tactic(auto, using(xdr3::proofs::Lemmas::Shapes::FlatLemmas::flats), unfolding(nfs3_types::specs::Names::names))]
+    #[tactic(auto, using(xdr3::proofs::Lemmas::Shapes::FlatLemmas::flats), unfolding(xdr3::specs::Item::called))]
     fn scan<V: Visit>(input: &mut Input, visitor: &mut V) -> Result<(), GetError> {
         scan_plain(&RANGE, 12, input, visitor)?;
         Ok(())

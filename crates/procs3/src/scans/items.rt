@@ -1,12 +1,11 @@
 //! Single items of arguments and results, passed to a visitor as they are read: what structs are
 //! made of besides the parts in `nfs3_types` (RFC 1813, section 3.3).
-#![tactic(auto, using(xdr3::proofs::Lemmas::Scans::ScanLemmas::scans), unfolding(nfs3_types::specs::Names::names))]
+#![tactic(auto, using(xdr3::proofs::Lemmas::Scans::ScanLemmas::scans), unfolding(xdr3::specs::Item::called))]
 
 ghost use Rattle.std.specs.Prelude.{IfErr, OnOk};
-ghost use Rattle.nfs3_types.specs.Names.{names};
 ghost use Rattle.nfs3_types.specs.Shapes.{no_maximum};
 ghost use Rattle.nfs3_types.specs.Stable.{stable_words};
-ghost use Rattle.xdr3.specs.Item.{Text, Var};
+ghost use Rattle.xdr3.specs.Item.{Text, Var, called};
 ghost use Rattle.xdr3.specs.Scan.{Scans, Stops};
 ghost use Rattle.xdr3.specs.Shape.{boolean, fixed, hyper, listed, opaque, word, write_verf};
 
@@ -65,7 +64,7 @@ fn pass_stable<V: Visit>(
 pub(crate) struct Access;
 
 impl Scan for Access {
-    ghost shape = { word names.access };
+    ghost shape = { word (called "access") };
 
     #[inline]
     fn scan<V: Visit>(input: &mut Input, visitor: &mut V) -> Result<(), GetError> {
@@ -77,7 +76,7 @@ impl Scan for Access {
 pub(crate) struct Path;
 
 impl Scan for Path {
-    ghost shape = { opaque Text names.path no_maximum };
+    ghost shape = { opaque Text (called "path") no_maximum };
 
     #[inline]
     fn scan<V: Visit>(input: &mut Input, visitor: &mut V) -> Result<(), GetError> {
@@ -89,7 +88,7 @@ impl Scan for Path {
 pub(crate) struct Offset;
 
 impl Scan for Offset {
-    ghost shape = { hyper names.offset };
+    ghost shape = { hyper (called "offset") };
 
     #[inline]
     fn scan<V: Visit>(input: &mut Input, visitor: &mut V) -> Result<(), GetError> {
@@ -101,7 +100,7 @@ impl Scan for Offset {
 pub(crate) struct Count;
 
 impl Scan for Count {
-    ghost shape = { word names.count };
+    ghost shape = { word (called "count") };
 
     #[inline]
     fn scan<V: Visit>(input: &mut Input, visitor: &mut V) -> Result<(), GetError> {
@@ -113,7 +112,7 @@ impl Scan for Count {
 pub(crate) struct Eof;
 
 impl Scan for Eof {
-    ghost shape = { boolean names.eof };
+    ghost shape = { boolean (called "eof") };
 
     #[inline]
     fn scan<V: Visit>(input: &mut Input, visitor: &mut V) -> Result<(), GetError> {
@@ -125,7 +124,7 @@ impl Scan for Eof {
 pub(crate) struct Data;
 
 impl Scan for Data {
-    ghost shape = { opaque Var names.«data» no_maximum };
+    ghost shape = { opaque Var (called "data") no_maximum };
 
     #[inline]
     fn scan<V: Visit>(input: &mut Input, visitor: &mut V) -> Result<(), GetError> {
@@ -137,7 +136,7 @@ impl Scan for Data {
 pub(crate) struct StableHow;
 
 impl Scan for StableHow {
-    ghost shape = { listed names.stable stable_words };
+    ghost shape = { listed (called "stable") stable_words };
 
     #[inline]
     fn scan<V: Visit>(input: &mut Input, visitor: &mut V) -> Result<(), GetError> {
@@ -149,7 +148,7 @@ impl Scan for StableHow {
 pub(crate) struct Committed;
 
 impl Scan for Committed {
-    ghost shape = { listed names.committed stable_words };
+    ghost shape = { listed (called "committed") stable_words };
 
     #[inline]
     fn scan<V: Visit>(input: &mut Input, visitor: &mut V) -> Result<(), GetError> {
@@ -161,7 +160,7 @@ impl Scan for Committed {
 pub(crate) struct WriteVerf;
 
 impl Scan for WriteVerf {
-    ghost shape = { write_verf names.verf };
+    ghost shape = { write_verf (called "verf") };
 
     #[inline]
     fn scan<V: Visit>(input: &mut Input, visitor: &mut V) -> Result<(), GetError> {
@@ -173,7 +172,7 @@ impl Scan for WriteVerf {
 pub(crate) struct CreateVerf;
 
 impl Scan for CreateVerf {
-    ghost shape = { fixed names.createverf };
+    ghost shape = { fixed (called "createverf") };
 
     #[inline]
     fn scan<V: Visit>(input: &mut Input, visitor: &mut V) -> Result<(), GetError> {
@@ -185,7 +184,7 @@ impl Scan for CreateVerf {
 pub(crate) struct FileId;
 
 impl Scan for FileId {
-    ghost shape = { hyper names.fileid };
+    ghost shape = { hyper (called "fileid") };
 
     #[inline]
     fn scan<V: Visit>(input: &mut Input, visitor: &mut V) -> Result<(), GetError> {
@@ -197,7 +196,7 @@ impl Scan for FileId {
 pub(crate) struct FileName;
 
 impl Scan for FileName {
-    ghost shape = { opaque Text names.name no_maximum };
+    ghost shape = { opaque Text (called "name") no_maximum };
 
     #[inline]
     fn scan<V: Visit>(input: &mut Input, visitor: &mut V) -> Result<(), GetError> {
@@ -209,7 +208,7 @@ impl Scan for FileName {
 pub(crate) struct Cookie;
 
 impl Scan for Cookie {
-    ghost shape = { hyper names.cookie };
+    ghost shape = { hyper (called "cookie") };
 
     #[inline]
     fn scan<V: Visit>(input: &mut Input, visitor: &mut V) -> Result<(), GetError> {
@@ -221,7 +220,7 @@ impl Scan for Cookie {
 pub(crate) struct CookieVerf;
 
 impl Scan for CookieVerf {
-    ghost shape = { fixed names.cookieverf };
+    ghost shape = { fixed (called "cookieverf") };
 
     #[inline]
     fn scan<V: Visit>(input: &mut Input, visitor: &mut V) -> Result<(), GetError> {
@@ -233,7 +232,7 @@ impl Scan for CookieVerf {
 pub(crate) struct LinkMax;
 
 impl Scan for LinkMax {
-    ghost shape = { word names.linkmax };
+    ghost shape = { word (called "linkmax") };
 
     #[inline]
     fn scan<V: Visit>(input: &mut Input, visitor: &mut V) -> Result<(), GetError> {
@@ -245,7 +244,7 @@ impl Scan for LinkMax {
 pub(crate) struct NameMax;
 
 impl Scan for NameMax {
-    ghost shape = { word names.name_max };
+    ghost shape = { word (called "name_max") };
 
     #[inline]
     fn scan<V: Visit>(input: &mut Input, visitor: &mut V) -> Result<(), GetError> {
@@ -257,7 +256,7 @@ impl Scan for NameMax {
 pub(crate) struct NoTrunc;
 
 impl Scan for NoTrunc {
-    ghost shape = { boolean names.no_trunc };
+    ghost shape = { boolean (called "no_trunc") };
 
     #[inline]
     fn scan<V: Visit>(input: &mut Input, visitor: &mut V) -> Result<(), GetError> {
@@ -269,7 +268,7 @@ impl Scan for NoTrunc {
 pub(crate) struct ChownRestricted;
 
 impl Scan for ChownRestricted {
-    ghost shape = { boolean names.chown_restricted };
+    ghost shape = { boolean (called "chown_restricted") };
 
     #[inline]
     fn scan<V: Visit>(input: &mut Input, visitor: &mut V) -> Result<(), GetError> {
@@ -281,7 +280,7 @@ impl Scan for ChownRestricted {
 pub(crate) struct CaseInsensitive;
 
 impl Scan for CaseInsensitive {
-    ghost shape = { boolean names.case_insensitive };
+    ghost shape = { boolean (called "case_insensitive") };
 
     #[inline]
     fn scan<V: Visit>(input: &mut Input, visitor: &mut V) -> Result<(), GetError> {
@@ -293,7 +292,7 @@ impl Scan for CaseInsensitive {
 pub(crate) struct CasePreserving;
 
 impl Scan for CasePreserving {
-    ghost shape = { boolean names.case_preserving };
+    ghost shape = { boolean (called "case_preserving") };
 
     #[inline]
     fn scan<V: Visit>(input: &mut Input, visitor: &mut V) -> Result<(), GetError> {
@@ -305,7 +304,7 @@ impl Scan for CasePreserving {
 pub(crate) struct DirCount;
 
 impl Scan for DirCount {
-    ghost shape = { word names.dircount };
+    ghost shape = { word (called "dircount") };
 
     #[inline]
     fn scan<V: Visit>(input: &mut Input, visitor: &mut V) -> Result<(), GetError> {
@@ -317,7 +316,7 @@ impl Scan for DirCount {
 pub(crate) struct MaxCount;
 
 impl Scan for MaxCount {
-    ghost shape = { word names.maxcount };
+    ghost shape = { word (called "maxcount") };
 
     #[inline]
     fn scan<V: Visit>(input: &mut Input, visitor: &mut V) -> Result<(), GetError> {
@@ -329,7 +328,7 @@ impl Scan for MaxCount {
 pub(crate) struct Spec1;
 
 impl Scan for Spec1 {
-    ghost shape = { word names.spec1 };
+    ghost shape = { word (called "spec1") };
 
     #[inline]
     fn scan<V: Visit>(input: &mut Input, visitor: &mut V) -> Result<(), GetError> {
@@ -341,7 +340,7 @@ impl Scan for Spec1 {
 pub(crate) struct Spec2;
 
 impl Scan for Spec2 {
-    ghost shape = { word names.spec2 };
+    ghost shape = { word (called "spec2") };
 
     #[inline]
     fn scan<V: Visit>(input: &mut Input, visitor: &mut V) -> Result<(), GetError> {

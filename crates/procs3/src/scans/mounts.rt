@@ -1,6 +1,6 @@
 //! What `values::mounts` has, passed to a visitor as it is read: MOUNT version 3 (RFC 1813,
 //! section 5.2).
-#![tactic(auto, using(xdr3::proofs::Lemmas::Scans::ScanLemmas::scans), unfolding(crate::specs::Shapes::dirpath, crate::specs::Shapes::mount_results, nfs3_types::specs::Names::names))]
+#![tactic(auto, using(xdr3::proofs::Lemmas::Scans::ScanLemmas::scans), unfolding(crate::specs::Shapes::dirpath, crate::specs::Shapes::mount_results, xdr3::specs::Item::called))]
 
 ghost use Rattle.xdr3.specs.Scan.{Scans};
 

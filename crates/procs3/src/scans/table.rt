@@ -1,9 +1,9 @@
 //! Arguments and results by procedure, passed to a visitor as they are read (RFC 1813, sections 3.3
 //! and 5.2).
-#![tactic(auto, using(xdr3::proofs::Lemmas::Scans::ScanLemmas::layouts), unfolding(crate::specs::Table::arguments_of, crate::specs::Shapes::setattr_args, crate::specs::Shapes::access_args, crate::specs::Shapes::file_range, crate::specs::Shapes::write_args, crate::specs::Shapes::create_args, crate::specs::Shapes::mkdir_args, crate::specs::Shapes::symlink_args, crate::specs::Shapes::mknod_args, crate::specs::Shapes::rename_args, crate::specs::Shapes::link_args, crate::specs::Shapes::readdir_args, crate::specs::Shapes::readdirplus_args, crate::specs::Table::results_of, crate::specs::Shapes::lookup_ok, crate::specs::Shapes::access_ok, crate::specs::Shapes::readlink_ok, crate::specs::Shapes::read_ok, crate::specs::Shapes::write_ok, crate::specs::Shapes::create_ok, crate::specs::Shapes::rename_wcc, crate::specs::Shapes::link_wcc, crate::specs::Shapes::readdir_ok, crate::specs::Shapes::entry, crate::specs::Shapes::readdirplus_ok, crate::specs::Shapes::entry_plus, crate::specs::Shapes::fsstat_ok, crate::specs::Shapes::fsinfo_ok, crate::specs::Shapes::pathconf_ok, crate::specs::Shapes::commit_ok, nfs3_types::specs::Names::names))]
+#![tactic(auto, using(xdr3::proofs::Lemmas::Scans::ScanLemmas::layouts), unfolding(crate::specs::Table::arguments_of, crate::specs::Table::nfs_procedures, crate::specs::Table::mount_procedures, crate::specs::Shapes::file_range, crate::specs::Table::results_of, crate::specs::Shapes::create_ok, crate::specs::Shapes::entry, crate::specs::Shapes::entry_plus, xdr3::specs::Item::called))]
 
 ghost use Rattle.std.specs.Prelude.{◌≤◌, IfErr, OnOk};
-ghost use Rattle.procs3.specs.Table.{arguments_of, mount_arguments, mount_results_of, nfs_arguments, nfs_results, results_of};
+ghost use Rattle.procs3.specs.Table.{arguments_of, layout_in, mount_procedures, nfs_procedures, results_of};
 ghost use Rattle.xdr3.specs.Scan.{ScansLayout, StopsLayout};
 
 use crate::scans::creation::{CreateArgs, CreateOk, MkDirArgs, MkNodArgs, SymLinkArgs};
@@ -52,9 +52,10 @@ fn scan_nfs_arguments<V: Visit>(
     visitor: &mut V,
 ) -> Result<(), GetError>
     ensures ok { OnOk result
-        (ScansLayout V.stands (nfs_arguments proc_no)
+        (ScansLayout V.stands (layout_in (λ row. row.0) nfs_procedures proc_no)
         (input.old, visitor.old) (input.new, visitor.new)) }
-    ensures err { IfErr result (λ error. StopsLayout (nfs_arguments proc_no) input.old error) }
+    ensures err { IfErr result
+        (λ error. StopsLayout (layout_in (λ row. row.0) nfs_procedures proc_no) input.old error) }
 {
     match proc_no {
         0 => Void::scan(input, visitor),
@@ -77,9 +78,10 @@ fn scan_nfs_arguments_from_create<V: Visit>(
 ) -> Result<(), GetError>
     requires { 8 ≤ proc_no }
     ensures ok { OnOk result
-        (ScansLayout V.stands (nfs_arguments proc_no)
+        (ScansLayout V.stands (layout_in (λ row. row.0) nfs_procedures proc_no)
         (input.old, visitor.old) (input.new, visitor.new)) }
-    ensures err { IfErr result (λ error. StopsLayout (nfs_arguments proc_no) input.old error) }
+    ensures err { IfErr result
+        (λ error. StopsLayout (layout_in (λ row. row.0) nfs_procedures proc_no) input.old error) }
 {
     match proc_no {
         8 => CreateArgs::scan(input, visitor),
@@ -101,9 +103,10 @@ fn scan_nfs_arguments_from_link<V: Visit>(
 ) -> Result<(), GetError>
     requires { 15 ≤ proc_no }
     ensures ok { OnOk result
-        (ScansLayout V.stands (nfs_arguments proc_no)
+        (ScansLayout V.stands (layout_in (λ row. row.0) nfs_procedures proc_no)
         (input.old, visitor.old) (input.new, visitor.new)) }
-    ensures err { IfErr result (λ error. StopsLayout (nfs_arguments proc_no) input.old error) }
+    ensures err { IfErr result
+        (λ error. StopsLayout (layout_in (λ row. row.0) nfs_procedures proc_no) input.old error) }
 {
     match proc_no {
         15 => LinkArgs::scan(input, visitor),
@@ -124,9 +127,10 @@ fn scan_mount_arguments<V: Visit>(
     visitor: &mut V,
 ) -> Result<(), GetError>
     ensures ok { OnOk result
-        (ScansLayout V.stands (mount_arguments proc_no)
+        (ScansLayout V.stands (layout_in (λ row. row.0) mount_procedures proc_no)
         (input.old, visitor.old) (input.new, visitor.new)) }
-    ensures err { IfErr result (λ error. StopsLayout (mount_arguments proc_no) input.old error) }
+    ensures err { IfErr result
+        (λ error. StopsLayout (layout_in (λ row. row.0) mount_procedures proc_no) input.old error) }
 {
     match proc_no {
         0 => Void::scan(input, visitor),
@@ -170,9 +174,10 @@ fn scan_nfs_results<V: Visit>(
     visitor: &mut V,
 ) -> Result<(), GetError>
     ensures ok { OnOk result
-        (ScansLayout V.stands (nfs_results proc_no)
+        (ScansLayout V.stands (layout_in (λ row. row.1) nfs_procedures proc_no)
         (input.old, visitor.old) (input.new, visitor.new)) }
-    ensures err { IfErr result (λ error. StopsLayout (nfs_results proc_no) input.old error) }
+    ensures err { IfErr result
+        (λ error. StopsLayout (layout_in (λ row. row.1) nfs_procedures proc_no) input.old error) }
 {
     match proc_no {
         0 => Void::scan(input, visitor),
@@ -195,9 +200,10 @@ fn scan_nfs_results_from_create<V: Visit>(
 ) -> Result<(), GetError>
     requires { 8 ≤ proc_no }
     ensures ok { OnOk result
-        (ScansLayout V.stands (nfs_results proc_no)
+        (ScansLayout V.stands (layout_in (λ row. row.1) nfs_procedures proc_no)
         (input.old, visitor.old) (input.new, visitor.new)) }
-    ensures err { IfErr result (λ error. StopsLayout (nfs_results proc_no) input.old error) }
+    ensures err { IfErr result
+        (λ error. StopsLayout (layout_in (λ row. row.1) nfs_procedures proc_no) input.old error) }
 {
     match proc_no {
         8 => Res::<CreateOk, Wcc>::scan(input, visitor),
@@ -219,9 +225,10 @@ fn scan_nfs_results_from_link<V: Visit>(
 ) -> Result<(), GetError>
     requires { 15 ≤ proc_no }
     ensures ok { OnOk result
-        (ScansLayout V.stands (nfs_results proc_no)
+        (ScansLayout V.stands (layout_in (λ row. row.1) nfs_procedures proc_no)
         (input.old, visitor.old) (input.new, visitor.new)) }
-    ensures err { IfErr result (λ error. StopsLayout (nfs_results proc_no) input.old error) }
+    ensures err { IfErr result
+        (λ error. StopsLayout (layout_in (λ row. row.1) nfs_procedures proc_no) input.old error) }
 {
     match proc_no {
         15 => Res::<LinkWcc, LinkWcc>::scan(input, visitor),
@@ -242,9 +249,10 @@ fn scan_mount_results<V: Visit>(
     visitor: &mut V,
 ) -> Result<(), GetError>
     ensures ok { OnOk result
-        (ScansLayout V.stands (mount_results_of proc_no)
+        (ScansLayout V.stands (layout_in (λ row. row.1) mount_procedures proc_no)
         (input.old, visitor.old) (input.new, visitor.new)) }
-    ensures err { IfErr result (λ error. StopsLayout (mount_results_of proc_no) input.old error) }
+    ensures err { IfErr result
+        (λ error. StopsLayout (layout_in (λ row. row.1) mount_procedures proc_no) input.old error) }
 {
     match proc_no {
         0 => Void::scan(input, visitor),

@@ -1,11 +1,12 @@
 //! The arguments of calls.
-#![tactic(auto, unfolding(xdr3::specs::Reading::reading, xdr3::specs::Layout::reading_layout, crate::specs::Table::arguments_of, nfs3_types::specs::Names::names))]
+#![tactic(auto, unfolding(xdr3::specs::Reading::reading, xdr3::specs::Layout::reading_layout, crate::specs::Table::arguments_of, crate::specs::Table::nfs_procedures, crate::specs::Table::mount_procedures, xdr3::specs::Item::called))]
 
-ghost use Rattle.std.specs.Prelude.{◌≡◌, ◌≤◌, IfOk};
+ghost use Rattle.std.specs.Prelude.{◌≡◌, ◌≢◌, ◌≤◌, IfErr, IfOk};
 ghost use Rattle.procs3.specs.Items.{args_items};
 ghost use Rattle.procs3.specs.Names.{mount_name, name_of_procedure, nfs_name};
-ghost use Rattle.procs3.specs.Table.{arguments_of, mount_arguments, nfs_arguments};
+ghost use Rattle.procs3.specs.Table.{arguments_of, layout_in, mount_procedures, nfs_procedures};
 ghost use Rattle.procs3.specs.Variants.{args_name};
+ghost use Rattle.xdr3.specs.declared.reason.GetError.TheVariants.{Memory};
 ghost use Rattle.xdr3.specs.Gives.{Gives, IsRead};
 ghost use Rattle.xdr3.specs.Layout.{ReadsLayout, RefusesLayout, reading_layout};
 ghost use Rattle.xdr3.specs.View.{MovesOn};
@@ -86,7 +87,7 @@ pub enum Args<'a> {
 impl<'a> Args<'a> {
     /// Reads the arguments of a call of this procedure, as its layout says. Their items are between
     /// the old position and the new one; otherwise the error says where and why the bytes are
-    /// refused. The result is of this procedure's variant, and can be visited.
+    /// refused. The result is of this procedure's variant, and can be visited. No memory is allocated.
     pub fn get(alloc: Global, id: ProcId, input: &mut Input<'a>) -> Result<Args<'a>, GetError>
         ensures read { Gives args_items result input.new.at
             (reading_layout (arguments_of id) input.old.body input.old.at) }
@@ -94,6 +95,7 @@ impl<'a> Args<'a> {
         ensures relations { IsRead (ReadsLayout (arguments_of id), RefusesLayout (arguments_of id))
             args_items input.old result input.new }
         ensures limit { IfOk result (λ args. AreWithinLimit (args_items args)) }
+        ensures memory { IfErr result (λ error. error ≢ Memory) }
         ensures moves { MovesOn input.old input.new }
     {
         // The prover concludes from this that the position is within the body.
@@ -105,6 +107,7 @@ impl<'a> Args<'a> {
         ensures read { Gives args_items result input.new.at
             (reading_layout (arguments_of id) input.old.body input.old.at) }
         ensures variant { IfOk result (λ args. args_name args ≡ name_of_procedure id) }
+        ensures memory { IfErr result (λ error. error ≢ Memory) }
         ensures moves { MovesOn input.old input.new }
     {
         // The prover concludes from this that the position is within the body.
@@ -119,8 +122,10 @@ impl<'a> Args<'a> {
     /// Those of a procedure of NFS version 3.
     fn get_nfs(alloc: Global, proc_no: u32, input: &mut Input<'a>) -> Result<Args<'a>, GetError>
         ensures read { Gives args_items result input.new.at
-            (reading_layout (nfs_arguments proc_no) input.old.body input.old.at) }
+            (reading_layout (layout_in (λ row. row.0) nfs_procedures proc_no)
+            input.old.body input.old.at) }
         ensures variant { IfOk result (λ args. args_name args ≡ nfs_name proc_no) }
+        ensures memory { IfErr result (λ error. error ≢ Memory) }
         ensures moves { MovesOn input.old input.new }
     {
         // The prover concludes from this that the position is within the body.
@@ -146,8 +151,10 @@ impl<'a> Args<'a> {
     ) -> Result<Args<'a>, GetError>
         requires { 8 ≤ proc_no }
         ensures read { Gives args_items result input.new.at
-            (reading_layout (nfs_arguments proc_no) input.old.body input.old.at) }
+            (reading_layout (layout_in (λ row. row.0) nfs_procedures proc_no)
+            input.old.body input.old.at) }
         ensures variant { IfOk result (λ args. args_name args ≡ nfs_name proc_no) }
+        ensures memory { IfErr result (λ error. error ≢ Memory) }
         ensures moves { MovesOn input.old input.new }
     {
         // The prover concludes from this that the position is within the body.
@@ -172,8 +179,10 @@ impl<'a> Args<'a> {
     ) -> Result<Args<'a>, GetError>
         requires { 15 ≤ proc_no }
         ensures read { Gives args_items result input.new.at
-            (reading_layout (nfs_arguments proc_no) input.old.body input.old.at) }
+            (reading_layout (layout_in (λ row. row.0) nfs_procedures proc_no)
+            input.old.body input.old.at) }
         ensures variant { IfOk result (λ args. args_name args ≡ nfs_name proc_no) }
+        ensures memory { IfErr result (λ error. error ≢ Memory) }
         ensures moves { MovesOn input.old input.new }
     {
         // The prover concludes from this that the position is within the body.
@@ -193,8 +202,10 @@ impl<'a> Args<'a> {
     /// Those of a procedure of MOUNT version 3.
     fn get_mount(alloc: Global, proc_no: u32, input: &mut Input<'a>) -> Result<Args<'a>, GetError>
         ensures read { Gives args_items result input.new.at
-            (reading_layout (mount_arguments proc_no) input.old.body input.old.at) }
+            (reading_layout (layout_in (λ row. row.0) mount_procedures proc_no)
+            input.old.body input.old.at) }
         ensures variant { IfOk result (λ args. args_name args ≡ mount_name proc_no) }
+        ensures memory { IfErr result (λ error. error ≢ Memory) }
         ensures moves { MovesOn input.old input.new }
     {
         // The prover concludes from this that the position is within the body.

@@ -1,5 +1,5 @@
 //! Arguments and results of the procedures that make a file (RFC 1813, sections 3.3.8 to 3.3.11).
-#![tactic(auto, using(xdr3::proofs::Lemmas::Shapes::Walks::steps), unfolding(xdr3::specs::Reading::reading, nfs3_types::specs::Names::names))]
+#![tactic(auto, using(xdr3::proofs::Lemmas::Shapes::Walks::steps), unfolding(xdr3::specs::Reading::reading, xdr3::specs::Item::called))]
 
 use crate::values::tagged::walk_tagged;
 use crate::values::walks::{walk_three, walk_two, walk_with_fields};
@@ -15,11 +15,13 @@ pub struct CreateArgs<'a> {
 }
 
 impl<'a> Xdr<'a> for CreateArgs<'a> {
-    ghost use Rattle.procs3.specs.Shapes.{create_args};
+    ghost use Rattle.nfs3_types.specs.Shapes.{dir_op};
+    ghost use Rattle.procs3.specs.Shapes.{create_how};
+    ghost use Rattle.xdr3.specs.Shape.{◌then◌};
 
-    ghost shape = { create_args };
+    ghost shape = { dir_op then create_how };
 
-    #[tactic(auto, unfolding(xdr3::specs::Reading::reading, crate::specs::Shapes::create_args, xdr3::specs::Item::followed_by))]
+    #[tactic(auto, unfolding(xdr3::specs::Reading::reading, xdr3::specs::Item::followed_by))]
     fn get(alloc: Global, input: &mut Input<'a>) -> Result<CreateArgs<'a>, GetError> {
         let place = DirOp::get(alloc, input)?;
         let how = CreateHow::get(alloc, input)?;
@@ -45,11 +47,12 @@ pub struct MkDirArgs<'a> {
 }
 
 impl<'a> Xdr<'a> for MkDirArgs<'a> {
-    ghost use Rattle.procs3.specs.Shapes.{mkdir_args};
+    ghost use Rattle.nfs3_types.specs.Shapes.{dir_op, settable};
+    ghost use Rattle.xdr3.specs.Shape.{◌then◌};
 
-    ghost shape = { mkdir_args };
+    ghost shape = { dir_op then settable };
 
-    #[tactic(auto, unfolding(xdr3::specs::Reading::reading, crate::specs::Shapes::mkdir_args, xdr3::specs::Item::followed_by))]
+    #[tactic(auto, unfolding(xdr3::specs::Reading::reading, xdr3::specs::Item::followed_by))]
     fn get(alloc: Global, input: &mut Input<'a>) -> Result<MkDirArgs<'a>, GetError> {
         let place = DirOp::get(alloc, input)?;
         let attr = Sattr::get(alloc, input)?;
@@ -77,11 +80,13 @@ pub struct SymLinkArgs<'a> {
 }
 
 impl<'a> Xdr<'a> for SymLinkArgs<'a> {
-    ghost use Rattle.procs3.specs.Shapes.{symlink_args};
+    ghost use Rattle.nfs3_types.specs.Shapes.{dir_op, no_maximum, settable};
+    ghost use Rattle.xdr3.specs.Item.{Text, called};
+    ghost use Rattle.xdr3.specs.Shape.{opaque, ◌then◌};
 
-    ghost shape = { symlink_args };
+    ghost shape = { dir_op then settable then opaque Text (called "path") no_maximum };
 
-    #[tactic(auto, unfolding(xdr3::specs::Reading::reading, crate::specs::Shapes::symlink_args, xdr3::specs::Item::followed_by))]
+    #[tactic(auto, unfolding(xdr3::specs::Reading::reading, xdr3::specs::Item::followed_by))]
     fn get(alloc: Global, input: &mut Input<'a>) -> Result<SymLinkArgs<'a>, GetError> {
         let place = DirOp::get(alloc, input)?;
         let attr = Sattr::get(alloc, input)?;
@@ -112,11 +117,13 @@ pub struct Device {
 }
 
 impl<'a> Xdr<'a> for Device {
-    ghost use Rattle.procs3.specs.Shapes.{device};
+    ghost use Rattle.xdr3.specs.Item.{called};
+    ghost use Rattle.nfs3_types.specs.Shapes.{settable};
+    ghost use Rattle.xdr3.specs.Shape.{word, ◌then◌};
 
-    ghost shape = { device };
+    ghost shape = { settable then word (called "spec1") then word (called "spec2") };
 
-    #[tactic(auto, unfolding(xdr3::specs::Reading::reading, crate::specs::Shapes::device, xdr3::specs::Item::followed_by))]
+    #[tactic(auto, unfolding(xdr3::specs::Reading::reading, xdr3::specs::Item::followed_by))]
     fn get(alloc: Global, input: &mut Input<'a>) -> Result<Device, GetError> {
         let attr = Sattr::get(alloc, input)?;
         let spec1 = input.word()?;
@@ -147,11 +154,13 @@ pub struct MkNodArgs<'a> {
 }
 
 impl<'a> Xdr<'a> for MkNodArgs<'a> {
-    ghost use Rattle.procs3.specs.Shapes.{mknod_args};
+    ghost use Rattle.nfs3_types.specs.Shapes.{dir_op};
+    ghost use Rattle.procs3.specs.Shapes.{mknod_what};
+    ghost use Rattle.xdr3.specs.Shape.{◌then◌};
 
-    ghost shape = { mknod_args };
+    ghost shape = { dir_op then mknod_what };
 
-    #[tactic(auto, unfolding(xdr3::specs::Reading::reading, crate::specs::Shapes::mknod_args, xdr3::specs::Item::followed_by))]
+    #[tactic(auto, unfolding(xdr3::specs::Reading::reading, xdr3::specs::Item::followed_by))]
     fn get(alloc: Global, input: &mut Input<'a>) -> Result<MkNodArgs<'a>, GetError> {
         let place = DirOp::get(alloc, input)?;
         let what = MkNodWhat::get(alloc, input)?;

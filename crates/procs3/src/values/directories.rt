@@ -1,5 +1,5 @@
 //! Arguments and results of the procedures on names in directories (RFC 1813, section 3.3).
-#![tactic(auto, using(xdr3::proofs::Lemmas::Shapes::Walks::steps), unfolding(xdr3::specs::Reading::reading, crate::specs::Shapes::readdir_args, crate::specs::Shapes::readdirplus_args, nfs3_types::specs::Names::names))]
+#![tactic(auto, using(xdr3::proofs::Lemmas::Shapes::Walks::steps), unfolding(xdr3::specs::Reading::reading, xdr3::specs::Item::called))]
 
 use crate::values::walks::{walk_listing, walk_three, walk_two};
 use nfs3_types::{DirOp, Handle, PostOpAttr, PostOpFh, Wcc};
@@ -16,11 +16,12 @@ pub struct LookupOk {
 }
 
 impl<'a> Xdr<'a> for LookupOk {
-    ghost use Rattle.procs3.specs.Shapes.{lookup_ok};
+    ghost use Rattle.nfs3_types.specs.Shapes.{handle, post_op_attr};
+    ghost use Rattle.xdr3.specs.Shape.{◌then◌};
 
-    ghost shape = { lookup_ok };
+    ghost shape = { handle then post_op_attr then post_op_attr };
 
-    #[tactic(auto, unfolding(xdr3::specs::Reading::reading, crate::specs::Shapes::lookup_ok, xdr3::specs::Item::followed_by))]
+    #[tactic(auto, unfolding(xdr3::specs::Reading::reading, xdr3::specs::Item::followed_by))]
     fn get(alloc: Global, input: &mut Input<'a>) -> Result<LookupOk, GetError> {
         let handle = Handle::get(alloc, input)?;
         let attr = PostOpAttr::get(alloc, input)?;
@@ -47,11 +48,12 @@ pub struct RenameArgs<'a> {
 }
 
 impl<'a> Xdr<'a> for RenameArgs<'a> {
-    ghost use Rattle.procs3.specs.Shapes.{rename_args};
+    ghost use Rattle.nfs3_types.specs.Shapes.{dir_op};
+    ghost use Rattle.xdr3.specs.Shape.{◌then◌};
 
-    ghost shape = { rename_args };
+    ghost shape = { dir_op then dir_op };
 
-    #[tactic(auto, unfolding(xdr3::specs::Reading::reading, crate::specs::Shapes::rename_args, xdr3::specs::Item::followed_by))]
+    #[tactic(auto, unfolding(xdr3::specs::Reading::reading, xdr3::specs::Item::followed_by))]
     fn get(alloc: Global, input: &mut Input<'a>) -> Result<RenameArgs<'a>, GetError> {
         let from = DirOp::get(alloc, input)?;
         let to = DirOp::get(alloc, input)?;
@@ -78,11 +80,12 @@ pub struct RenameWcc {
 }
 
 impl<'a> Xdr<'a> for RenameWcc {
-    ghost use Rattle.procs3.specs.Shapes.{rename_wcc};
+    ghost use Rattle.nfs3_types.specs.Shapes.{wcc};
+    ghost use Rattle.xdr3.specs.Shape.{◌then◌};
 
-    ghost shape = { rename_wcc };
+    ghost shape = { wcc then wcc };
 
-    #[tactic(auto, unfolding(xdr3::specs::Reading::reading, crate::specs::Shapes::rename_wcc, xdr3::specs::Item::followed_by))]
+    #[tactic(auto, unfolding(xdr3::specs::Reading::reading, xdr3::specs::Item::followed_by))]
     fn get(alloc: Global, input: &mut Input<'a>) -> Result<RenameWcc, GetError> {
         let from = Wcc::get(alloc, input)?;
         let to = Wcc::get(alloc, input)?;
@@ -108,11 +111,12 @@ pub struct LinkArgs<'a> {
 }
 
 impl<'a> Xdr<'a> for LinkArgs<'a> {
-    ghost use Rattle.procs3.specs.Shapes.{link_args};
+    ghost use Rattle.nfs3_types.specs.Shapes.{dir_op, handle};
+    ghost use Rattle.xdr3.specs.Shape.{◌then◌};
 
-    ghost shape = { link_args };
+    ghost shape = { handle then dir_op };
 
-    #[tactic(auto, unfolding(xdr3::specs::Reading::reading, crate::specs::Shapes::link_args, xdr3::specs::Item::followed_by))]
+    #[tactic(auto, unfolding(xdr3::specs::Reading::reading, xdr3::specs::Item::followed_by))]
     fn get(alloc: Global, input: &mut Input<'a>) -> Result<LinkArgs<'a>, GetError> {
         let handle = Handle::get(alloc, input)?;
         let place = DirOp::get(alloc, input)?;
@@ -139,11 +143,12 @@ pub struct LinkWcc {
 }
 
 impl<'a> Xdr<'a> for LinkWcc {
-    ghost use Rattle.procs3.specs.Shapes.{link_wcc};
+    ghost use Rattle.nfs3_types.specs.Shapes.{post_op_attr, wcc};
+    ghost use Rattle.xdr3.specs.Shape.{◌then◌};
 
-    ghost shape = { link_wcc };
+    ghost shape = { post_op_attr then wcc };
 
-    #[tactic(auto, unfolding(xdr3::specs::Reading::reading, crate::specs::Shapes::link_wcc, xdr3::specs::Item::followed_by))]
+    #[tactic(auto, unfolding(xdr3::specs::Reading::reading, xdr3::specs::Item::followed_by))]
     fn get(alloc: Global, input: &mut Input<'a>) -> Result<LinkWcc, GetError> {
         let attr = PostOpAttr::get(alloc, input)?;
         let dir = Wcc::get(alloc, input)?;
@@ -171,9 +176,12 @@ pub struct ReadDirArgs {
 }
 
 impl<'a> Xdr<'a> for ReadDirArgs {
-    ghost use Rattle.procs3.specs.Shapes.{readdir_args};
+    ghost use Rattle.xdr3.specs.Item.{called};
+    ghost use Rattle.nfs3_types.specs.Shapes.{handle};
+    ghost use Rattle.xdr3.specs.Shape.{fixed, hyper, word, ◌then◌};
 
-    ghost shape = { readdir_args };
+    ghost shape = { handle then hyper (called "cookie") then fixed (called "cookieverf")
+        then word (called "count") };
 
     fn get(alloc: Global, input: &mut Input<'a>) -> Result<ReadDirArgs, GetError> {
         let handle = Handle::get(alloc, input)?;
@@ -256,11 +264,18 @@ pub struct ReadDirOk<'a> {
 }
 
 impl<'a> Xdr<'a> for ReadDirOk<'a> {
-    ghost use Rattle.procs3.specs.Shapes.{readdir_ok};
+    ghost use Rattle.std.specs.Prelude.{true};
+    ghost use Rattle.xdr3.specs.Item.{called};
+    ghost use Rattle.nfs3_types.specs.Shapes.{post_op_attr};
+    ghost use Rattle.procs3.specs.Shapes.{entry};
+    ghost use Rattle.xdr3.specs.Shape.{boolean, fixed, linked, ◌then◌};
 
-    ghost shape = { readdir_ok };
+    ghost shape = { post_op_attr then fixed (called "cookieverf") then linked (called "entry") entry
+        then boolean (called "eof") };
 
-    #[tactic(auto, unfolding(xdr3::specs::Reading::reading, crate::specs::Shapes::readdir_ok, xdr3::specs::Item::followed_by))]
+    ghost owns_memory = { true };
+
+    #[tactic(auto, unfolding(xdr3::specs::Reading::reading, xdr3::specs::Item::followed_by))]
     fn get(alloc: Global, input: &mut Input<'a>) -> Result<ReadDirOk<'a>, GetError> {
         let attr = PostOpAttr::get(alloc, input)?;
         let cookieverf = input.fixed8()?;
@@ -302,9 +317,12 @@ pub struct ReadDirPlusArgs {
 }
 
 impl<'a> Xdr<'a> for ReadDirPlusArgs {
-    ghost use Rattle.procs3.specs.Shapes.{readdirplus_args};
+    ghost use Rattle.xdr3.specs.Item.{called};
+    ghost use Rattle.nfs3_types.specs.Shapes.{handle};
+    ghost use Rattle.xdr3.specs.Shape.{fixed, hyper, word, ◌then◌};
 
-    ghost shape = { readdirplus_args };
+    ghost shape = { handle then hyper (called "cookie") then fixed (called "cookieverf")
+        then word (called "dircount") then word (called "maxcount") };
 
     fn get(alloc: Global, input: &mut Input<'a>) -> Result<ReadDirPlusArgs, GetError> {
         let handle = Handle::get(alloc, input)?;
@@ -399,11 +417,18 @@ pub struct ReadDirPlusOk<'a> {
 }
 
 impl<'a> Xdr<'a> for ReadDirPlusOk<'a> {
-    ghost use Rattle.procs3.specs.Shapes.{readdirplus_ok};
+    ghost use Rattle.std.specs.Prelude.{true};
+    ghost use Rattle.xdr3.specs.Item.{called};
+    ghost use Rattle.nfs3_types.specs.Shapes.{post_op_attr};
+    ghost use Rattle.procs3.specs.Shapes.{entry_plus};
+    ghost use Rattle.xdr3.specs.Shape.{boolean, fixed, linked, ◌then◌};
 
-    ghost shape = { readdirplus_ok };
+    ghost shape = { post_op_attr then fixed (called "cookieverf")
+        then linked (called "entry") entry_plus then boolean (called "eof") };
 
-    #[tactic(auto, unfolding(xdr3::specs::Reading::reading, crate::specs::Shapes::readdirplus_ok, xdr3::specs::Item::followed_by))]
+    ghost owns_memory = { true };
+
+    #[tactic(auto, unfolding(xdr3::specs::Reading::reading, xdr3::specs::Item::followed_by))]
     fn get(alloc: Global, input: &mut Input<'a>) -> Result<ReadDirPlusOk<'a>, GetError> {
         let attr = PostOpAttr::get(alloc, input)?;
         let cookieverf = input.fixed8()?;

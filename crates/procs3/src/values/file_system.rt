@@ -1,5 +1,5 @@
 //! The results of the procedures on a file system (RFC 1813, sections 3.3.18 to 3.3.20).
-#![tactic(auto, using(xdr3::proofs::Lemmas::Shapes::Walks::steps), unfolding(xdr3::specs::Reading::reading, nfs3_types::specs::Names::names))]
+#![tactic(auto, using(xdr3::proofs::Lemmas::Shapes::Walks::steps), unfolding(xdr3::specs::Reading::reading, xdr3::specs::Item::called))]
 
 use crate::values::walks::walk_with_fields;
 use nfs3_types::{PostOpAttr, Time};
@@ -21,11 +21,15 @@ pub struct FsStatOk {
 }
 
 impl<'a> Xdr<'a> for FsStatOk {
-    ghost use Rattle.procs3.specs.Shapes.{fsstat_ok};
+    ghost use Rattle.xdr3.specs.Item.{called};
+    ghost use Rattle.nfs3_types.specs.Shapes.{post_op_attr};
+    ghost use Rattle.xdr3.specs.Shape.{hyper, word, ◌then◌};
 
-    ghost shape = { fsstat_ok };
+    ghost shape = { post_op_attr then hyper (called "tbytes") then hyper (called "fbytes")
+        then hyper (called "abytes") then hyper (called "tfiles") then hyper (called "ffiles")
+        then hyper (called "afiles") then word (called "invarsec") };
 
-    #[tactic(auto, unfolding(xdr3::specs::Reading::reading, crate::specs::Shapes::fsstat_ok, xdr3::specs::Item::followed_by))]
+    #[tactic(auto, unfolding(xdr3::specs::Reading::reading, xdr3::specs::Item::followed_by))]
     fn get(alloc: Global, input: &mut Input<'a>) -> Result<FsStatOk, GetError> {
         let attr = PostOpAttr::get(alloc, input)?;
         let tbytes = input.hyper()?;
@@ -85,11 +89,16 @@ pub struct FsInfoOk {
 }
 
 impl<'a> Xdr<'a> for FsInfoOk {
-    ghost use Rattle.procs3.specs.Shapes.{fsinfo_ok};
+    ghost use Rattle.xdr3.specs.Item.{called};
+    ghost use Rattle.nfs3_types.specs.Shapes.{post_op_attr, time};
+    ghost use Rattle.xdr3.specs.Shape.{hyper, word, ◌then◌};
 
-    ghost shape = { fsinfo_ok };
+    ghost shape = { post_op_attr then word (called "rtmax") then word (called "rtpref")
+        then word (called "rtmult") then word (called "wtmax") then word (called "wtpref")
+        then word (called "wtmult") then word (called "dtpref") then hyper (called "maxfilesize")
+        then time (called "delta_sec") (called "delta_nsec") then word (called "properties") };
 
-    #[tactic(auto, unfolding(xdr3::specs::Reading::reading, crate::specs::Shapes::fsinfo_ok, xdr3::specs::Item::followed_by))]
+    #[tactic(auto, unfolding(xdr3::specs::Reading::reading, xdr3::specs::Item::followed_by))]
     fn get(alloc: Global, input: &mut Input<'a>) -> Result<FsInfoOk, GetError> {
         let attr = PostOpAttr::get(alloc, input)?;
         let rtmax = input.word()?;
@@ -154,11 +163,15 @@ pub struct PathConfOk {
 }
 
 impl<'a> Xdr<'a> for PathConfOk {
-    ghost use Rattle.procs3.specs.Shapes.{pathconf_ok};
+    ghost use Rattle.xdr3.specs.Item.{called};
+    ghost use Rattle.nfs3_types.specs.Shapes.{post_op_attr};
+    ghost use Rattle.xdr3.specs.Shape.{boolean, word, ◌then◌};
 
-    ghost shape = { pathconf_ok };
+    ghost shape = { post_op_attr then word (called "linkmax") then word (called "name_max")
+        then boolean (called "no_trunc") then boolean (called "chown_restricted")
+        then boolean (called "case_insensitive") then boolean (called "case_preserving") };
 
-    #[tactic(auto, unfolding(xdr3::specs::Reading::reading, crate::specs::Shapes::pathconf_ok, xdr3::specs::Item::followed_by))]
+    #[tactic(auto, unfolding(xdr3::specs::Reading::reading, xdr3::specs::Item::followed_by))]
     fn get(alloc: Global, input: &mut Input<'a>) -> Result<PathConfOk, GetError> {
         let attr = PostOpAttr::get(alloc, input)?;
         let linkmax = input.word()?;

@@ -1,5 +1,5 @@
 //! Arguments and results of the procedures on a file (RFC 1813, section 3.3).
-#![tactic(auto, using(xdr3::proofs::Lemmas::Shapes::Walks::steps, crate::proofs::ItemLemmas::followed_items), unfolding(xdr3::specs::Reading::reading, crate::specs::Shapes::access_args, crate::specs::Shapes::file_range, crate::specs::Shapes::write_args, crate::specs::Shapes::setattr_args, crate::specs::Shapes::access_ok, crate::specs::Shapes::readlink_ok, crate::specs::Shapes::read_ok, crate::specs::Shapes::write_ok, crate::specs::Shapes::commit_ok, nfs3_types::specs::Names::names))]
+#![tactic(auto, using(xdr3::proofs::Lemmas::Shapes::Walks::steps, crate::proofs::ItemLemmas::followed_items), unfolding(xdr3::specs::Reading::reading, crate::specs::Shapes::file_range, xdr3::specs::Item::called))]
 
 use crate::values::walks::{walk_three, walk_with_fields};
 use nfs3_types::{Guard, Handle, PostOpAttr, Sattr, Stable, Wcc};
@@ -15,11 +15,14 @@ pub struct SetAttrArgs {
 }
 
 impl<'a> Xdr<'a> for SetAttrArgs {
-    ghost use Rattle.procs3.specs.Shapes.{setattr_args};
+    ghost use Rattle.nfs3_types.specs.Shapes.{handle, settable, time};
+    ghost use Rattle.xdr3.specs.Item.{called};
+    ghost use Rattle.xdr3.specs.Shape.{optional, ◌then◌};
 
-    ghost shape = { setattr_args };
+    ghost shape = { handle then settable
+        then optional (called "check") (time (called "ctime_sec") (called "ctime_nsec")) };
 
-    #[tactic(auto, unfolding(xdr3::specs::Reading::reading, crate::specs::Shapes::setattr_args, xdr3::specs::Item::followed_by))]
+    #[tactic(auto, unfolding(xdr3::specs::Reading::reading, xdr3::specs::Item::followed_by))]
     fn get(alloc: Global, input: &mut Input<'a>) -> Result<SetAttrArgs, GetError> {
         let handle = Handle::get(alloc, input)?;
         let attr = Sattr::get(alloc, input)?;
@@ -50,9 +53,11 @@ pub struct AccessArgs {
 }
 
 impl<'a> Xdr<'a> for AccessArgs {
-    ghost use Rattle.procs3.specs.Shapes.{access_args};
+    ghost use Rattle.xdr3.specs.Item.{called};
+    ghost use Rattle.nfs3_types.specs.Shapes.{handle};
+    ghost use Rattle.xdr3.specs.Shape.{word, ◌then◌};
 
-    ghost shape = { access_args };
+    ghost shape = { handle then word (called "access") };
 
     fn get(alloc: Global, input: &mut Input<'a>) -> Result<AccessArgs, GetError> {
         let handle = Handle::get(alloc, input)?;
@@ -83,9 +88,11 @@ pub struct AccessOk {
 }
 
 impl<'a> Xdr<'a> for AccessOk {
-    ghost use Rattle.procs3.specs.Shapes.{access_ok};
+    ghost use Rattle.xdr3.specs.Item.{called};
+    ghost use Rattle.nfs3_types.specs.Shapes.{post_op_attr};
+    ghost use Rattle.xdr3.specs.Shape.{word, ◌then◌};
 
-    ghost shape = { access_ok };
+    ghost shape = { post_op_attr then word (called "access") };
 
     fn get(alloc: Global, input: &mut Input<'a>) -> Result<AccessOk, GetError> {
         let attr = PostOpAttr::get(alloc, input)?;
@@ -113,9 +120,11 @@ pub struct ReadLinkOk<'a> {
 }
 
 impl<'a> Xdr<'a> for ReadLinkOk<'a> {
-    ghost use Rattle.procs3.specs.Shapes.{readlink_ok};
+    ghost use Rattle.nfs3_types.specs.Shapes.{no_maximum, post_op_attr};
+    ghost use Rattle.xdr3.specs.Item.{Text, called};
+    ghost use Rattle.xdr3.specs.Shape.{opaque, ◌then◌};
 
-    ghost shape = { readlink_ok };
+    ghost shape = { post_op_attr then opaque Text (called "path") no_maximum };
 
     fn get(alloc: Global, input: &mut Input<'a>) -> Result<ReadLinkOk<'a>, GetError> {
         let attr = PostOpAttr::get(alloc, input)?;
@@ -186,9 +195,12 @@ pub struct ReadOk<'a> {
 }
 
 impl<'a> Xdr<'a> for ReadOk<'a> {
-    ghost use Rattle.procs3.specs.Shapes.{read_ok};
+    ghost use Rattle.nfs3_types.specs.Shapes.{no_maximum, post_op_attr};
+    ghost use Rattle.xdr3.specs.Item.{Var, called};
+    ghost use Rattle.xdr3.specs.Shape.{boolean, opaque, word, ◌then◌};
 
-    ghost shape = { read_ok };
+    ghost shape = { post_op_attr then word (called "count") then boolean (called "eof")
+        then opaque Var (called "data") no_maximum };
 
     fn get(alloc: Global, input: &mut Input<'a>) -> Result<ReadOk<'a>, GetError> {
         let attr = PostOpAttr::get(alloc, input)?;
@@ -230,9 +242,13 @@ pub struct WriteArgs<'a> {
 }
 
 impl<'a> Xdr<'a> for WriteArgs<'a> {
-    ghost use Rattle.procs3.specs.Shapes.{write_args};
+    ghost use Rattle.nfs3_types.specs.Shapes.{handle, no_maximum};
+    ghost use Rattle.nfs3_types.specs.Stable.{stable_words};
+    ghost use Rattle.xdr3.specs.Item.{Var, called};
+    ghost use Rattle.xdr3.specs.Shape.{hyper, listed, opaque, word, ◌then◌};
 
-    ghost shape = { write_args };
+    ghost shape = { handle then hyper (called "offset") then word (called "count")
+        then listed (called "stable") stable_words then opaque Var (called "data") no_maximum };
 
     fn get(alloc: Global, input: &mut Input<'a>) -> Result<WriteArgs<'a>, GetError> {
         let handle = Handle::get(alloc, input)?;
@@ -277,9 +293,13 @@ pub struct WriteOk {
 }
 
 impl<'a> Xdr<'a> for WriteOk {
-    ghost use Rattle.procs3.specs.Shapes.{write_ok};
+    ghost use Rattle.xdr3.specs.Item.{called};
+    ghost use Rattle.nfs3_types.specs.Shapes.{wcc};
+    ghost use Rattle.nfs3_types.specs.Stable.{stable_words};
+    ghost use Rattle.xdr3.specs.Shape.{listed, word, write_verf, ◌then◌};
 
-    ghost shape = { write_ok };
+    ghost shape = { wcc then word (called "count") then listed (called "committed") stable_words
+        then write_verf (called "verf") };
 
     fn get(alloc: Global, input: &mut Input<'a>) -> Result<WriteOk, GetError> {
         let wcc = Wcc::get(alloc, input)?;
@@ -318,9 +338,11 @@ pub struct CommitOk {
 }
 
 impl<'a> Xdr<'a> for CommitOk {
-    ghost use Rattle.procs3.specs.Shapes.{commit_ok};
+    ghost use Rattle.xdr3.specs.Item.{called};
+    ghost use Rattle.nfs3_types.specs.Shapes.{wcc};
+    ghost use Rattle.xdr3.specs.Shape.{write_verf, ◌then◌};
 
-    ghost shape = { commit_ok };
+    ghost shape = { wcc then write_verf (called "verf") };
 
     fn get(alloc: Global, input: &mut Input<'a>) -> Result<CommitOk, GetError> {
         let wcc = Wcc::get(alloc, input)?;

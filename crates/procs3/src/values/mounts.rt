@@ -1,5 +1,5 @@
 //! Arguments and results of MOUNT's procedures (RFC 1813, section 5.2).
-#![tactic(auto, unfolding(xdr3::specs::Reading::reading, crate::specs::Shapes::dirpath, nfs3_types::specs::Names::names))]
+#![tactic(auto, unfolding(xdr3::specs::Reading::reading, crate::specs::Shapes::dirpath, xdr3::specs::Item::called))]
 
 use crate::values::tagged::walk_tagged;
 use nfs3_types::mount3::{MountOk, MountStatus};
@@ -44,9 +44,12 @@ pub enum MountRes {
 }
 
 impl<'a> Xdr<'a> for MountRes {
+    ghost use Rattle.std.specs.Prelude.{true};
     ghost use Rattle.procs3.specs.Shapes.{mount_results};
 
     ghost shape = { mount_results };
+
+    ghost owns_memory = { true };
 
     #[tactic(auto, unfolding(xdr3::specs::Reading::reading, crate::specs::Shapes::mount_results, xdr3::specs::Item::followed_by))]
     fn get(alloc: Global, input: &mut Input<'a>) -> Result<MountRes, GetError> {

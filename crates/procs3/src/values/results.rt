@@ -1,10 +1,10 @@
 //! The results of accepted calls.
-#![tactic(auto, unfolding(xdr3::specs::Reading::reading, xdr3::specs::Layout::reading_layout, crate::specs::Table::results_of, nfs3_types::specs::Names::names))]
+#![tactic(auto, unfolding(xdr3::specs::Reading::reading, xdr3::specs::Layout::reading_layout, crate::specs::Table::results_of, crate::specs::Table::nfs_procedures, crate::specs::Table::mount_procedures, xdr3::specs::Item::called))]
 
 ghost use Rattle.std.specs.Prelude.{◌≡◌, ◌≤◌, IfOk};
 ghost use Rattle.procs3.specs.Items.{results_items};
 ghost use Rattle.procs3.specs.Names.{mount_name, name_of_procedure, nfs_name};
-ghost use Rattle.procs3.specs.Table.{results_of, mount_results_of, nfs_results};
+ghost use Rattle.procs3.specs.Table.{layout_in, mount_procedures, nfs_procedures, results_of};
 ghost use Rattle.procs3.specs.Variants.{results_name};
 ghost use Rattle.xdr3.specs.Gives.{Gives, IsRead};
 ghost use Rattle.xdr3.specs.Layout.{ReadsLayout, RefusesLayout, reading_layout};
@@ -125,7 +125,8 @@ impl<'a> Results<'a> {
     /// Those of a procedure of NFS version 3.
     fn get_nfs(alloc: Global, proc_no: u32, input: &mut Input<'a>) -> Result<Results<'a>, GetError>
         ensures read { Gives results_items result input.new.at
-            (reading_layout (nfs_results proc_no) input.old.body input.old.at) }
+            (reading_layout (layout_in (λ row. row.1) nfs_procedures proc_no)
+            input.old.body input.old.at) }
         ensures variant { IfOk result (λ results. results_name results ≡ nfs_name proc_no) }
         ensures moves { MovesOn input.old input.new }
     {
@@ -152,7 +153,8 @@ impl<'a> Results<'a> {
     ) -> Result<Results<'a>, GetError>
         requires { 8 ≤ proc_no }
         ensures read { Gives results_items result input.new.at
-            (reading_layout (nfs_results proc_no) input.old.body input.old.at) }
+            (reading_layout (layout_in (λ row. row.1) nfs_procedures proc_no)
+            input.old.body input.old.at) }
         ensures variant { IfOk result (λ results. results_name results ≡ nfs_name proc_no) }
         ensures moves { MovesOn input.old input.new }
     {
@@ -178,7 +180,8 @@ impl<'a> Results<'a> {
     ) -> Result<Results<'a>, GetError>
         requires { 15 ≤ proc_no }
         ensures read { Gives results_items result input.new.at
-            (reading_layout (nfs_results proc_no) input.old.body input.old.at) }
+            (reading_layout (layout_in (λ row. row.1) nfs_procedures proc_no)
+            input.old.body input.old.at) }
         ensures variant { IfOk result (λ results. results_name results ≡ nfs_name proc_no) }
         ensures moves { MovesOn input.old input.new }
     {
@@ -203,7 +206,8 @@ impl<'a> Results<'a> {
         input: &mut Input<'a>,
     ) -> Result<Results<'a>, GetError>
         ensures read { Gives results_items result input.new.at
-            (reading_layout (mount_results_of proc_no) input.old.body input.old.at) }
+            (reading_layout (layout_in (λ row. row.1) mount_procedures proc_no)
+            input.old.body input.old.at) }
         ensures variant { IfOk result (λ results. results_name results ≡ mount_name proc_no) }
         ensures moves { MovesOn input.old input.new }
     {

@@ -67,7 +67,7 @@ pub(crate) fn walk_with_fields<T: Walk, V: Visit>(
 }
 
 /// Visits what a directory's listing has: attributes, a verifier, entries, and whether they are the last.
-#[tactic(auto, using(xdr3::proofs::Lemmas::Shapes::Walks::steps), unfolding(nfs3_types::specs::Names::names))]
+#[tactic(auto, using(xdr3::proofs::Lemmas::Shapes::Walks::steps), unfolding(xdr3::specs::Item::called))]
 pub(crate) fn walk_listing<E: Walk, V: Visit>(
     attr: &PostOpAttr,
     cookieverf: [u8; 8],

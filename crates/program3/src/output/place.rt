@@ -1,6 +1,6 @@
 //! The place of a file that a command writes.
 
-ghost use Rattle.std.specs.Prelude.{◌≡◌, IfOk, string_bytes};
+ghost use Rattle.std.specs.Prelude.{IfOk, string_bytes};
 ghost use Rattle.program3.specs.Systems.{IsMade};
 
 use crate::files::Made;

@@ -1,9 +1,8 @@
 //! The regular file that has the name of an output.
 
-ghost use Rattle.std.specs.Prelude.{◌≡◌, ◌≢◌, ◌↔◌, IfOk, IfSome, IsTrue, bit_and, false};
+ghost use Rattle.std.specs.Prelude.{◌≡◌, ◌≢◌, ◌↔◌, IfOk, IfSome, IsTrue, bit_and, codes, false};
 ghost use Rattle.std.specs.List.{list_any};
 ghost use Rattle.std.specs.Fs.{file_type, metadata_mode, IsFile};
-ghost use Rattle.capture3.specs.Capture.{magic_front};
 ghost use Rattle.program3.specs.Standard.{is_one_file};
 
 use crate::input::opening::OpenError;
@@ -118,7 +117,7 @@ fn may_be_replaced(found: &Metadata) -> bool
 }
 
 fn begins_capture(begin: &[u8]) -> bool
-    ensures { IsTrue result ↔ (begin.now ≡ magic_front) }
+    ensures { IsTrue result ↔ (begin.now ≡ codes "NFS3CAP") }
 {
     begin == BEGIN.as_slice()
 }

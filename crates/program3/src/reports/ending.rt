@@ -1,6 +1,6 @@
 //! The end of a program: its texts are printed, and its status is returned.
 
-ghost use Rattle.std.specs.Prelude.{◌≡◌, IfOk, OnOk, true};
+ghost use Rattle.std.specs.Prelude.{IfOk, OnOk, true};
 ghost use Rattle.std.specs.Io.KnownBytes.{Appends};
 ghost use Rattle.program3.specs.Ending.{IsReport, ReportsEnded, ReportsOnError};
 

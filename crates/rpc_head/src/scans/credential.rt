@@ -1,13 +1,12 @@
 //! Credentials and verifiers, passed to a visitor as they are read (RFC 5531, sections 8.2 and 9,
 //! appendix A).
-#![tactic(auto, using(xdr3::proofs::Lemmas::Scans::ScanLemmas::scans), unfolding(crate::specs::Shapes::auth_sys, crate::specs::Shapes::credential, crate::specs::Shapes::verifier, crate::specs::Names::head_names))]
+#![tactic(auto, using(xdr3::proofs::Lemmas::Scans::ScanLemmas::scans), unfolding(crate::specs::Shapes::auth_sys, crate::specs::Shapes::credential, crate::specs::Shapes::verifier, xdr3::specs::Item::called))]
 
-ghost use Rattle.std.specs.Prelude.{◌≤◌, IfErr, IfOk, OnOk};
+ghost use Rattle.std.specs.Prelude.{◌≤◌, [], ◌∷◌, IfErr, IfOk, OnOk};
 ghost use Rattle.rpc_head.specs.Shapes as shapes;
 ghost use Rattle.xdr3.specs.Scan.{Scans, ScansWord, Stops, StopsWord};
-ghost use Rattle.rpc_head.specs.Names.{head_names};
 ghost use Rattle.rpc_head.specs.machinery.HeadEnds.{credential_of, group_words, owner};
-ghost use Rattle.xdr3.specs.Item.{Text, Var};
+ghost use Rattle.xdr3.specs.Item.{Text, Var, called};
 ghost use Rattle.xdr3.specs.Shape.{is_listed, opaque};
 
 use crate::scans::word::{first_short, scan_listed_or, stop, word_in};
@@ -23,10 +22,10 @@ use xdr3::{
 fn scan_cred_flavor<V: Visit>(input: &mut Input, visitor: &mut V) -> Result<u32, GetError>
     ensures ok { IfOk result
         (λ n. ScansWord V.stands
-        (head_names.cred_flavor, is_listed shapes.credential_flavors, Reason.Flavor) n
+        ((called "cred_flavor"), is_listed (0 ∷ 1 ∷ []), Reason.Flavor) n
         (input.old, visitor.old) (input.new, visitor.new)) }
     ensures err { IfErr result
-        (λ error. StopsWord (is_listed shapes.credential_flavors) Reason.Flavor input.old error) }
+        (λ error. StopsWord (is_listed (0 ∷ 1 ∷ [])) Reason.Flavor input.old error) }
 {
     scan_listed_or("cred_flavor", &[0, 1], Reason::Flavor, input, visitor)
 }
@@ -34,10 +33,10 @@ fn scan_cred_flavor<V: Visit>(input: &mut Input, visitor: &mut V) -> Result<u32,
 #[inline(always)]
 fn scan_cred_body<V: Visit>(input: &mut Input, visitor: &mut V) -> Result<(), GetError>
     ensures ok { OnOk result
-        (Scans V.stands (opaque Var head_names.cred_body 400)
+        (Scans V.stands (opaque Var (called "cred_body") 400)
         (input.old, visitor.old) (input.new, visitor.new)) }
     ensures err { IfErr result
-        (λ error. Stops (opaque Var head_names.cred_body 400) input.old error) }
+        (λ error. Stops (opaque Var (called "cred_body") 400) input.old error) }
 {
     scan_var("cred_body", 400, input, visitor)
 }
@@ -45,10 +44,10 @@ fn scan_cred_body<V: Visit>(input: &mut Input, visitor: &mut V) -> Result<(), Ge
 #[inline(always)]
 fn scan_machinename<V: Visit>(input: &mut Input, visitor: &mut V) -> Result<(), GetError>
     ensures ok { OnOk result
-        (Scans V.stands (opaque Text head_names.machinename 255)
+        (Scans V.stands (opaque Text (called "machinename") 255)
         (input.old, visitor.old) (input.new, visitor.new)) }
     ensures err { IfErr result
-        (λ error. Stops (opaque Text head_names.machinename 255) input.old error) }
+        (λ error. Stops (opaque Text (called "machinename") 255) input.old error) }
 {
     scan_text("machinename", 255, input, visitor)
 }
@@ -57,10 +56,10 @@ fn scan_machinename<V: Visit>(input: &mut Input, visitor: &mut V) -> Result<(), 
 fn scan_verf_flavor<V: Visit>(input: &mut Input, visitor: &mut V) -> Result<u32, GetError>
     ensures ok { IfOk result
         (λ n. ScansWord V.stands
-        (head_names.verf_flavor, is_listed shapes.verifier_flavors, Reason.Flavor) n
+        ((called "verf_flavor"), is_listed (0 ∷ []), Reason.Flavor) n
         (input.old, visitor.old) (input.new, visitor.new)) }
     ensures err { IfErr result
-        (λ error. StopsWord (is_listed shapes.verifier_flavors) Reason.Flavor input.old error) }
+        (λ error. StopsWord (is_listed (0 ∷ [])) Reason.Flavor input.old error) }
 {
     scan_listed_or("verf_flavor", &[0], Reason::Flavor, input, visitor)
 }
@@ -68,10 +67,10 @@ fn scan_verf_flavor<V: Visit>(input: &mut Input, visitor: &mut V) -> Result<u32,
 #[inline(always)]
 pub(crate) fn scan_verf_body<V: Visit>(input: &mut Input, visitor: &mut V) -> Result<(), GetError>
     ensures ok { OnOk result
-        (Scans V.stands (opaque Var head_names.verf_body 400)
+        (Scans V.stands (opaque Var (called "verf_body") 400)
         (input.old, visitor.old) (input.new, visitor.new)) }
     ensures err { IfErr result
-        (λ error. Stops (opaque Var head_names.verf_body 400) input.old error) }
+        (λ error. Stops (opaque Var (called "verf_body") 400) input.old error) }
 {
     scan_var("verf_body", 400, input, visitor)
 }
@@ -124,7 +123,7 @@ impl<'a> Scan for Parameters<'a> {
     ghost shape = { parameters };
 
     #[inline(always)]
-    #[tactic(auto, using(xdr3::proofs::Lemmas::Scans::ScanLemmas::scans, crate::proofs::OwnerLemmas::whole_owners), unfolding(crate::specs::Shapes::parameters, crate::specs::Names::head_names))]
+    #[tactic(auto, using(xdr3::proofs::Lemmas::Scans::ScanLemmas::scans, crate::proofs::OwnerLemmas::whole_owners), unfolding(crate::specs::Shapes::parameters, xdr3::specs::Item::called))]
     fn scan<V: Visit>(input: &mut Input, visitor: &mut V) -> Result<(), GetError>
         ensures ok { OnOk result
             (Scans V.stands parameters (input.old, visitor.old) (input.new, visitor.new)) }

@@ -1,14 +1,14 @@
 //! The head of a reply, passed to a visitor as it is read (RFC 5531, section 9).
-#![tactic(auto, using(xdr3::proofs::Lemmas::Scans::ScanLemmas::scans), unfolding(crate::specs::Shapes::accept, crate::specs::Shapes::deny, crate::specs::Names::head_names))]
+#![tactic(auto, using(xdr3::proofs::Lemmas::Scans::ScanLemmas::scans), unfolding(crate::specs::Shapes::accept, crate::specs::Shapes::deny, xdr3::specs::Item::called))]
 
-ghost use Rattle.std.specs.Prelude.{◌≡◌, ◌+◌, ◌<◌, length, Err, IfErr, IfOk, OnOk};
+ghost use Rattle.std.specs.Prelude.{◌≡◌, ◌+◌, ◌<◌, [], ◌∷◌, length, Err, IfErr, IfOk, OnOk};
 ghost use Rattle.rpc_head.specs.HeadScan.{ScansReplyHead};
-ghost use Rattle.rpc_head.specs.machinery.HeadEnds.{ScansAccept, denied_for};
+ghost use Rattle.rpc_head.specs.machinery.HeadEnds.{ScansAccept, auth_stats, denied_for};
 ghost use Rattle.rpc_head.specs.machinery.HeadRuns.{ScansBeginning};
 ghost use Rattle.rpc_head.specs.Shapes as shapes;
 ghost use Rattle.xdr3.specs.Reading.{reading};
 ghost use Rattle.xdr3.specs.Scan.{Scans, ScansWord, Stops, StopsWord};
-ghost use Rattle.rpc_head.specs.Names.{head_names};
+ghost use Rattle.xdr3.specs.Item.{called};
 ghost use Rattle.xdr3.specs.Shape.{is_listed};
 
 use crate::scans::credential::scan_verf_body;
@@ -42,10 +42,10 @@ pub(crate) enum Beginning {
 fn scan_accept_stat<V: Visit>(input: &mut Input, visitor: &mut V) -> Result<u32, GetError>
     ensures ok { IfOk result
         (λ n. ScansWord V.stands
-        (head_names.accept_stat, is_listed shapes.accept_stats, Reason.BadEnum) n
+        ((called "accept_stat"), is_listed (0 ∷ 1 ∷ 2 ∷ 3 ∷ 4 ∷ 5 ∷ []), Reason.BadEnum) n
         (input.old, visitor.old) (input.new, visitor.new)) }
-    ensures err { IfErr result
-        (λ error. StopsWord (is_listed shapes.accept_stats) Reason.BadEnum input.old error) }
+    ensures err { IfErr result (λ error.
+        StopsWord (is_listed (0 ∷ 1 ∷ 2 ∷ 3 ∷ 4 ∷ 5 ∷ [])) Reason.BadEnum input.old error) }
 {
     scan_listed("accept_stat", &[0, 1, 2, 3, 4, 5], input, visitor)
 }
@@ -54,10 +54,10 @@ fn scan_accept_stat<V: Visit>(input: &mut Input, visitor: &mut V) -> Result<u32,
 fn scan_reject_stat<V: Visit>(input: &mut Input, visitor: &mut V) -> Result<u32, GetError>
     ensures ok { IfOk result
         (λ n. ScansWord V.stands
-        (head_names.reject_stat, is_listed shapes.reject_stats, Reason.BadEnum) n
+        ((called "reject_stat"), is_listed (0 ∷ 1 ∷ []), Reason.BadEnum) n
         (input.old, visitor.old) (input.new, visitor.new)) }
     ensures err { IfErr result
-        (λ error. StopsWord (is_listed shapes.reject_stats) Reason.BadEnum input.old error) }
+        (λ error. StopsWord (is_listed (0 ∷ 1 ∷ [])) Reason.BadEnum input.old error) }
 {
     scan_listed("reject_stat", &[0, 1], input, visitor)
 }
@@ -66,10 +66,10 @@ fn scan_reject_stat<V: Visit>(input: &mut Input, visitor: &mut V) -> Result<u32,
 fn scan_auth_stat<V: Visit>(input: &mut Input, visitor: &mut V) -> Result<u32, GetError>
     ensures ok { IfOk result
         (λ n. ScansWord V.stands
-        (head_names.auth_stat, is_listed shapes.auth_stats, Reason.BadEnum) n
+        ((called "auth_stat"), is_listed auth_stats, Reason.BadEnum) n
         (input.old, visitor.old) (input.new, visitor.new)) }
     ensures err { IfErr result
-        (λ error. StopsWord (is_listed shapes.auth_stats) Reason.BadEnum input.old error) }
+        (λ error. StopsWord (is_listed auth_stats) Reason.BadEnum input.old error) }
 {
     let words = [0, 1, 2, 3, 4, 5, 6, 7, 8, 9, 10, 11, 12, 13, 14];
     scan_listed("auth_stat", &words, input, visitor)

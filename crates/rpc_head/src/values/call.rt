@@ -46,7 +46,7 @@ impl<'a> Walk for CallHead<'a> {
 
     ghost items = { call_head_items };
 
-    #[tactic(auto, using(xdr3::proofs::Lemmas::Shapes::Walks::steps), unfolding(crate::specs::Names::head_names))]
+    #[tactic(auto, using(xdr3::proofs::Lemmas::Shapes::Walks::steps), unfolding(xdr3::specs::Item::called))]
     fn walk<V: Visit>(&self, visitor: &mut V) -> Result<(), AllocError> {
         let all = [
             Field::Word("rpcvers", 2),

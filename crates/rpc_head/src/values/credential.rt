@@ -1,5 +1,5 @@
 //! Credentials and verifiers (RFC 5531, sections 8.2, 9 and appendix A).
-#![tactic(auto, using(xdr3::proofs::Lemmas::Shapes::Walks::steps), unfolding(xdr3::specs::Reading::reading, crate::specs::Shapes::verifier, crate::specs::Names::head_names))]
+#![tactic(auto, using(xdr3::proofs::Lemmas::Shapes::Walks::steps), unfolding(xdr3::specs::Reading::reading, crate::specs::Shapes::verifier, xdr3::specs::Item::called))]
 
 ghost use Rattle.std.specs.Prelude.{◌≡◌, ◌≤◌, length, OnErr, OnOk};
 ghost use Rattle.xdr3.specs.Reading.{reading};
@@ -49,7 +49,7 @@ impl Gids {
         })
     }
 
-    #[tactic(auto, using(xdr3::proofs::Lemmas::Shapes::Walks::walks), unfolding(xdr3::specs::Visit::AreWithinLimit, crate::specs::Names::head_names))]
+    #[tactic(auto, using(xdr3::proofs::Lemmas::Shapes::Walks::walks), unfolding(xdr3::specs::Visit::AreWithinLimit, xdr3::specs::Item::called))]
     fn walk<V: Visit>(&self, visitor: &mut V) -> Result<(), AllocError>
         ensures ok { OnOk result (Adds V.stands visitor.old visitor.new
             (count_items (groups_of self.now))) }

@@ -1,5 +1,5 @@
 //! The head of a reply (RFC 5531, section 9).
-#![tactic(auto, using(xdr3::proofs::Lemmas::Shapes::Walks::steps), unfolding(xdr3::specs::Reading::reading, crate::specs::Shapes::accept, crate::specs::Shapes::deny, crate::specs::Names::head_names))]
+#![tactic(auto, using(xdr3::proofs::Lemmas::Shapes::Walks::steps), unfolding(xdr3::specs::Reading::reading, crate::specs::Shapes::accept, crate::specs::Shapes::deny, xdr3::specs::Item::called))]
 
 use crate::values::credential::Verf;
 use std::alloc::{AllocError, Global};

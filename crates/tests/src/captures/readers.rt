@@ -186,7 +186,7 @@ pub(crate) fn message_is_told(rt: &impl Abort, alloc: Global, lent: LentEntry<'_
 /// A kept message is read as a value with its xid.
 pub(crate) fn kept_is_read(rt: &impl Abort, alloc: Global, entry: &Entry) {
     match entry {
-        Entry::Call(kept) => assert_same!(rt; ok(rt, kept.read(alloc)).xid, 0xdead_beef),
+        Entry::Call(kept) => assert_same!(rt; kept.read(alloc).xid, 0xdead_beef),
         Entry::Reply(kept) => assert_same!(rt; ok(rt, kept.read(alloc)).xid, 0xdead_beef),
         Entry::Begin | Entry::Turn | Entry::Close | Entry::End => {}
     }

@@ -106,7 +106,7 @@ fn kept_messages_are_read(rt: HostRuntime) {
     for entry in &entries {
         match entry {
             Entry::Call(kept) => {
-                let call = ok(&rt, kept.read(alloc));
+                let call = kept.read(alloc);
                 assert_same!(rt; call.xid, 0xdead_beef);
                 assert_holds!(rt; call.head.id == nfs(0));
                 assert_holds!(rt; matches!(call.args, Args::Null));
@@ -223,8 +223,8 @@ fn two_calls_of_one_xid_are_read_alike(rt: HostRuntime) {
     else {
         panic!(rt; "no calls")
     };
-    let first = ok(&rt, first.read(alloc));
-    let second = ok(&rt, second.read(alloc));
+    let first = first.read(alloc);
+    let second = second.read(alloc);
     assert_same!(rt; (first.xid, second.xid), (9, 9));
     let (Args::Lookup(one), Args::Lookup(other)) = (&first.args, &second.args) else {
         panic!(rt; "no LOOKUP")

@@ -1,6 +1,6 @@
 //! Command lines of nfs3canon, and what is made of them.
 
-use line3::{Job, LineFault, job, take_words};
+use line3::{Job, LineFault, job};
 use std::alloc::{AllocError, Global};
 use std::test::Fail;
 
@@ -47,11 +47,8 @@ fn command_lines(rt: HostRuntime) -> Result<(), Fail> {
 }
 
 fn answer_to(alloc: Global, line: &str) -> Result<&'static str, Fail> {
-    let said = match take_words(alloc, words_of(alloc, line)?) {
-        Ok(said) => said,
-        Err(fault) => return Ok(name_of_fault(&fault)),
-    };
-    match job(alloc, &said) {
+    let mut words = words_of(alloc, line)?;
+    match job(alloc, &mut words) {
         Ok(asked) => Ok(name_of(asked)),
         Err(fault) => Ok(name_of_fault(&fault)),
     }

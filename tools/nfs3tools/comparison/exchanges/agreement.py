@@ -3,8 +3,9 @@ from __future__ import annotations
 
 from collections.abc import Sequence
 
+from ...exchanges.searches import SpelledAttributes
 from .changes import Changes
-from .facts import Attributes, Fact, Facts, Told
+from .facts import Fact, Facts, Told
 
 NOTHING_ELSE = 'no other answer has attributes of the object'
 
@@ -30,12 +31,12 @@ def disagrees(facts: Facts, changes: Changes | None, at: int, told: Told) -> str
     return '' if is_known else 'a size that no other answer has'
 
 
-def constant(one: Attributes) -> tuple[str, ...]:
+def constant(one: SpelledAttributes) -> tuple[str, ...]:
     """Returns what does not change of an object."""
     return one.type, one.rdev1, one.rdev2, one.fsid, one.fileid
 
 
-def neighbours(others: Sequence[Fact], ctime: int) -> list[Attributes]:
+def neighbours(others: Sequence[Fact], ctime: int) -> list[SpelledAttributes]:
     """Returns what answers say of an object with the ctimes before and after one."""
     before = max((fact for fact in others if fact.ctime < ctime),
                  key=lambda fact: fact.ctime, default=None)

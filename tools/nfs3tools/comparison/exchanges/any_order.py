@@ -16,6 +16,7 @@ from .followed import Followed, partners_of, with_values
 from .matching import Pair
 from .outlines import Outlines
 from .pairing import Listing, Pairing
+from .turns import Turns, is_quiet, turns_of
 
 
 @dataclass
@@ -41,13 +42,31 @@ class TwoRuns:
         self.unequal = [(at, to) for at, to in pairing.pairs() if here.said[at] != there.said[to]]
         self.extras = (extras_of(here, pairing.only_first(), leaves_out),
                        extras_of(there, pairing.only_second(), leaves_out))
-        wanted = ({at for at, _ in self.unequal}.union(self.extras[0]),
-                  {to for _, to in self.unequal}.union(self.extras[1]))
-        self.listed, self.wanted = listed, wanted
+        self.listed = listed
 
     @cached_property
     def listings(self) -> tuple[Listing, Listing]:
         return self.listed()
+
+    @cached_property
+    def turns(self) -> tuple[Turns, Turns] | None:
+        """When the calls of both runs were sent and answered, if frames say it."""
+        has_order = all(one.has_frames for one in self.taken)
+        return turns_of(self.taken, self.pairing) if has_order else None
+
+    @cached_property
+    def doubtful(self) -> list[Pair]:
+        """The pairs that differ as an order may explain: some change stands otherwise to them, or
+        they list folders, in which masked names may have other places."""
+        turns, procedure_of = self.turns, self.pairing.here.procedure_of
+        return [pair for pair in self.unequal if turns and (
+            procedure_of(pair[0]) in LISTINGS or not is_quiet(turns, pair))]
+
+    @cached_property
+    def wanted(self) -> tuple[set[int], set[int]]:
+        """The exchanges of both runs that may be left out."""
+        return ({at for at, _ in self.doubtful}.union(self.extras[0]),
+                {to for _, to in self.doubtful}.union(self.extras[1]))
 
     @cached_property
     def facts(self) -> tuple[Facts, Facts]:
@@ -65,16 +84,15 @@ class TwoRuns:
     @cached_property
     def changes(self) -> BothChanges | None:
         """The changes of both runs, if frames say their order."""
-        has_order = all(one.has_frames for one in self.taken)
-        return BothChanges(self.taken, self.pairing, self.facts) if has_order else None
+        return BothChanges(self.turns, self.facts) if self.turns else None
 
     def explanation(self, mask: Mask) -> Explanation:
         out = Explanation()
         if self.unequal or any(self.extras):
             identify(self.pairing)
-        if self.unequal and self.changes:
+        if self.doubtful and self.changes:
             explainer = Explainer(self.changes, self.facts, mask)
-            found = ((pair, explainer.explained(pair)) for pair in self.unequal)
+            found = ((pair, explainer.explained(pair)) for pair in self.doubtful)
             out.pairs = {pair: changes for pair, changes in found if changes is not None}
         if any(self.extras):
             paired = [set(some) for some in (self.pairing.order_of_first(),

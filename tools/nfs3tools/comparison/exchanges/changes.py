@@ -7,16 +7,13 @@ led, and its names. Which came first is known by frames. Whose a change is does 
 from __future__ import annotations
 
 from collections import defaultdict
-from collections.abc import Callable, Iterator
+from collections.abc import Iterator
 from typing import NamedTuple, Union
 
-from ...recordings.taken import Taken
-from ...shared.places import Place, Side
 from .facts import LINK, Facts
 from .matching import Pair
-from .pairing import NOBODY, Pairing
+from .turns import Turns
 
-NEVER = 1 << 62  # when a call is answered that has no reply
 GONE, ANY = 0, -1  # what a name leads to after a removal, and if that is not known
 REMOVING = frozenset(('NFSPROC3_REMOVE', 'NFSPROC3_RMDIR'))
 RENAME = 'NFSPROC3_RENAME'
@@ -43,10 +40,10 @@ class Moment(NamedTuple):
 class Changes:
     """The changes of a run, by what they are of."""
 
-    def __init__(self, taken: Taken, facts: Facts, named: Callable[[int], int]) -> None:
-        self.taken, self.facts, self.outlines, self.named = taken, facts, facts.outlines, named
+    def __init__(self, turns: Turns, facts: Facts) -> None:
+        self.turns, self.facts, self.outlines = turns, facts, facts.outlines
+        self.frames_of, self.named = turns.of, turns.named
         self.of_key = defaultdict[Key, list[int]](list)
-        self.frames = dict[int, tuple[int, int]]()
         for at in facts.changing:
             keys: set[Key] = {*self.names_of(at), *self.objects_of(at)}
             for key in keys:
@@ -75,18 +72,6 @@ class Changes:
         """Iterates over the objects of a change's handles, and what it makes."""
         handles = [*self.outlines.objects_of(at), self.outlines.found[at]]
         return filter(None, (self.identity(handle) for handle in handles if handle))
-
-    def frames_of(self, at: int) -> tuple[int, int]:
-        """Returns the first frame of a call, and that of its reply."""
-        if at not in self.frames:
-            connection, record = self.outlines.record_of(at)
-            self.frames[at] = (self.frame_of(connection, 'client', record),
-                               self.frame_of(connection, 'server', self.outlines.replies[at]))
-        return self.frames[at]
-
-    def frame_of(self, connection: int, side: Side, record: int) -> int:
-        return min((frame.number for frame in self.taken.frames(Place(connection, side, record))),
-                   default=NEVER) if record else NEVER
 
     def met(self, at: int, key: Key) -> Moment:
         """Returns the changes of a key as an exchange meets them."""
@@ -138,13 +123,8 @@ class Changes:
 class BothChanges:
     """The changes of two runs whose exchanges are brought together."""
 
-    def __init__(self, taken: tuple[Taken, Taken], pairing: Pairing,
-                 facts: tuple[Facts, Facts]) -> None:
-        partners = {to: at for at, to in pairing.pairs()}
-        self.runs = (
-            Changes(taken[0], facts[0],
-                    lambda at: at if pairing.partners[at] != NOBODY else -2 - 2 * at),
-            Changes(taken[1], facts[1], lambda to: partners.get(to, -3 - 2 * to)))
+    def __init__(self, turns: tuple[Turns, Turns], facts: tuple[Facts, Facts]) -> None:
+        self.runs = Changes(turns[0], facts[0]), Changes(turns[1], facts[1])
 
     def otherwise(self, pair: Pair, key: Key) -> list[Change]:
         """Returns the changes of a key that stand otherwise to a question: in one run they were

@@ -279,13 +279,14 @@ class Explainer:
         found = self.of_fields(pair, *(one.fields(part[0]) for one, part in zip(both, parts)))
         ours, theirs = (self.by_key(reply, part[1]) for reply, part in zip(both, parts))
         for reply, own, its in ((both[0], ours, theirs), (both[1], theirs, ours)):
-            for key in own.keys() - its.keys():
+            for key in (key for key in own if key not in its):
                 found += self.of_alone(pair, both[0].folder, key)
                 self.check_alone(reply, reply.object_in(own[key]))
-        if [key for key in ours if key in theirs and isinstance(key, str)] != [
+        common = [key for key in ours if key in theirs]
+        if [key for key in common if isinstance(key, str)] != [
                 key for key in theirs if key in ours and isinstance(key, str)]:
             raise Unexplained
-        for key in ours.keys() & theirs.keys():
+        for key in common:
             found += self.of_entry(pair, both, key, ours[key], theirs[key])
         return found + self.of_fields(
             pair, *(one.fields(part[2]) for one, part in zip(both, parts)))

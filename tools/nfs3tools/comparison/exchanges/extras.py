@@ -10,9 +10,10 @@ from collections import Counter
 from collections.abc import Container, Iterable
 
 from ...exchanges.in_words import short_name
+from ...exchanges.searches import names_in
 from .agreement import disagrees
 from .changes import ANY, GONE, BothChanges
-from .facts import ACCESS, DONE, LISTINGS, LOOKUP, NAMES, NO_ENTRY, Facts, answer_in, is_silly
+from .facts import ACCESS, DONE, LISTINGS, LOOKUP, NO_ENTRY, Facts, answer_in, is_silly
 
 FEW, SHARE = 10, 10  # so many calls of a procedure, or one of so many
 Asked = tuple[str, int, tuple[str, ...]]  # the procedure, the object, and the name
@@ -107,7 +108,7 @@ class Extras:
         """Returns why a listing has not the names that the changes of its run leave, or nothing."""
         if self.outlines.procedure_of(at) not in LISTINGS or not self.changes:
             return ''
-        folder, names = self.folder(at), set(NAMES.findall(text))
+        folder, names = self.folder(at), set(names_in(text))
         leads = {key[1]: self.changes.leads(at, key) for key in self.changes.of_key
                  if not isinstance(key, int) and key[0] == folder}
         if any(leads.get(name) == {GONE} for name in names):

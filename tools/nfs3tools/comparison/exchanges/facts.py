@@ -5,47 +5,22 @@ all rules of any order (`explained`, `extras`, `followed`).
 """
 from __future__ import annotations
 
-import re
 from collections import Counter, defaultdict
 from collections.abc import Container, Iterable, Iterator, Sequence
 from functools import cached_property
-from sys import intern
 from typing import NamedTuple
 
 from ...exchanges.listing import Line, Message, line_of
 from ...exchanges.objects import MAKING
+from ...exchanges.searches import (
+    ReplyPart, SpelledAttributes, access_in, end_of_write_in, names_in, parts_in, settings_in)
 from ..values.classes import CLASSES
 from .outlines import CHANGING, Outlines
 
-TOKEN = re.compile(
-    r' type=(\d+) mode=(\d+) nlink=(\d+) uid=(\d+) gid=(\d+) size=(\d+) used=\d+ rdev1=(\d+) '
-    r'rdev2=(\d+) fsid=(\d+) fileid=(\d+) atime_sec=\d+ atime_nsec=\d+ mtime_sec=\d+ '
-    r'mtime_nsec=\d+ ctime_sec=(\d+) ctime_nsec=(\d+)'
-    r'| fileid=(\d+) name="([^"]*)"| fh=([0-9a-f]+)| (attr=0)')
-NAMES = re.compile(r' name="([^"]*)"')
-STATUS = re.compile(r' status=(\d+)')
-WRITTEN = re.compile(r' offset=(\d+) count=(\d+) stable=')
-SETTING = re.compile(r' set_(mode|uid|gid|size)=1')
-BITS = re.compile(r' access=(\d+)')
 LISTINGS = frozenset(('NFSPROC3_READDIR', 'NFSPROC3_READDIRPLUS'))
 LOOKUP, ACCESS, LINK = 'NFSPROC3_LOOKUP', 'NFSPROC3_ACCESS', 'NFSPROC3_LINK'
 DONE, NO_ENTRY = '0', '2'
 SILLY = next(one for one in CLASSES if one.name == 'sillynames')
-NANOSECONDS = 1_000_000_000
-
-
-class Attributes(NamedTuple):
-    """The attributes of an object, but for its times and what space it uses."""
-    type: str
-    mode: str
-    nlink: str
-    uid: str
-    gid: str
-    size: str
-    rdev1: str
-    rdev2: str
-    fsid: str
-    fileid: str
 
 
 class Told(NamedTuple):
@@ -54,7 +29,7 @@ class Told(NamedTuple):
     folder if the answer has none."""
     handle: int
     name: str
-    attributes: Attributes | None
+    attributes: SpelledAttributes | None
     ctime: int
     fileid: str
 
@@ -83,41 +58,37 @@ def answer_in(procedure: str, handles: Sequence[int], name: str, text: str) -> A
     """Reads what a reply says, to a call with these handles and this name."""
     if not handles:
         return Answer([], [])
-    tokens = list(TOKEN.finditer(text))
+    parts = list(parts_in(text))
     if procedure in LISTINGS:
-        return of_entries(handles[0], tokens)
+        return of_entries(handles[0], parts)
     is_done = ' status=0' in text
-    found = next((int(token[15], 16) for token in tokens if token[15]), 0)
-    blocks = [token for token in tokens if token[1] or token[16]]
-    told = [of_attributes(token, owner)
-            for token, owner in zip(blocks, owners_of(procedure, handles, found, is_done))
-            if token[1] and owner]
+    found = next((part.handle for part in parts if part.handle is not None), 0)
+    told = [told_of(part, owner)
+            for part, owner in zip(filter(lambda part: part.is_of_attributes, parts),
+                                   owners_of(procedure, handles, found, is_done))
+            if part.attributes and owner]
     is_lead = procedure in MAKING and found or procedure == LOOKUP and ' status=2' in text
     return Answer(told, [Lead(handles[0], name, found)] if is_lead else [])
 
 
-def of_attributes(token: re.Match[str], handle: int, name: str = '') -> Told:
-    # (one text for equal ones: there may be many answers)
-    attributes = Attributes._make(map(intern, token.group(*range(1, 11))))
-    return Told(handle, name, attributes, int(token[11]) * NANOSECONDS + int(token[12]),
-                attributes.fileid)
+def told_of(part: ReplyPart, handle: int, name: str = '') -> Told:
+    return Told(handle, name, part.attributes, part.ctime, part.fileid)
 
 
-def of_entries(folder: int, tokens: Iterable[re.Match[str]]) -> Answer:
+def of_entries(folder: int, parts: Iterable[ReplyPart]) -> Answer:
     """Reads the entries of a folder: each has a name, then attributes if it has some, and then a
     handle if it has one."""
     told, leads, first = list[Told](), list[Lead](), 0
     name: str | None = None  # of the entry
-    for token in tokens:
-        if token[13]:
-            first, name = len(told), token[14]
-            told.append(Told(*of_name(folder, name), None, 0, token[13]))
-        elif token[1]:
-            told.append(of_attributes(token, *of_name(folder, name or '.')))
-        elif token[15] and name is not None:
-            handle = int(token[15], 16)
-            leads.append(Lead(folder, name, handle))
-            told[first:] = [one._replace(handle=handle, name='') for one in told[first:]]
+    for part in parts:
+        if part.name is not None:
+            first, name = len(told), part.name
+            told.append(told_of(part, *of_name(folder, name)))
+        elif part.attributes:
+            told.append(told_of(part, *of_name(folder, name or '.')))
+        elif part.handle is not None and name is not None:
+            leads.append(Lead(folder, name, part.handle))
+            told[first:] = [one._replace(handle=part.handle, name='') for one in told[first:]]
     return Answer(told, leads)
 
 
@@ -130,7 +101,7 @@ class Fact(NamedTuple):
     """Attributes of an object, with the exchange whose answer says them."""
     at: int
     ctime: int
-    attributes: Attributes
+    attributes: SpelledAttributes
 
 
 Known = tuple[int, str]  # an object by its handle, or by its folder's and its name
@@ -173,18 +144,18 @@ class Facts:
         text = line.text
         if at in self.wanted:
             self.messages[at] = message_of(line), []
-        names = NAMES.findall(text) if ' name="' in text else ()
+        names = names_in(text)
         if names:
             self.names[at] = tuple(names)
         if line.procedure == ACCESS:
             self.asked_bits[at] = text[text.rfind('='):]
         if line.procedure in CHANGING and at not in self.outlines.unmade:
             self.changing.append(at)
-            written = WRITTEN.search(text)
-            if written:
-                self.ends[at] = int(written[1]) + int(written[2])
-            elif ' set_' in text:
-                self.sets[at] = frozenset(SETTING.findall(text))
+            end, settings = end_of_write_in(text), settings_in(text)
+            if end is not None:
+                self.ends[at] = end
+            elif settings:
+                self.sets[at] = settings
 
     def take_reply(self, at: int, line: Line) -> None:
         if at in self.wanted:
@@ -199,12 +170,12 @@ class Facts:
         for folder, name, handle in answer.leads:
             self.leads[folder, name].append((at, handle))
         if line.procedure in LISTINGS and handles:
-            for name in NAMES.findall(line.text):
+            for name in names_in(line.text):
                 self.entries[handles[0], name] = (at, *self.entries.get((handles[0], name), ()))[:2]
         if line.procedure == ACCESS and handles:
-            granted = BITS.search(line.text)
-            if granted:
-                self.bits[handles[0], self.asked_bits[at]].append((at, granted[1]))
+            granted = access_in(line.text)
+            if granted is not None:
+                self.bits[handles[0], self.asked_bits[at]].append((at, granted))
 
     def take_told(self, at: int, one: Told) -> None:
         own = one.handle, one.name

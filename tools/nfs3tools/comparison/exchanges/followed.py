@@ -8,12 +8,12 @@ other id stays, and differs.
 """
 from __future__ import annotations
 
-import re
 from collections import Counter, defaultdict
 from collections.abc import Iterable, Iterator, Mapping
 from typing import NamedTuple
 
 from ...exchanges.listing import Line, line_of
+from ...exchanges.searches import cookies_in, cookies_of_names_in, verifier_in
 from ...recordings.records import LAST_FRAGMENT
 from ...recordings.spool import Spool, Stored
 from ...recordings.taken import Taken, TakenStream, whole
@@ -22,8 +22,6 @@ from ...shared.places import SIDES, Side
 from .facts import LISTINGS, Facts, Known, answer_in
 from .pairing import Listing, Pairing
 
-ENTRY = re.compile(r' name="([^"]*)" cookie=(\d+)')
-VERIFIER, COOKIE = re.compile(r' createverf=(\w+)'), re.compile(r' cookie=(\d+)')
 CREATE = 'NFSPROC3_CREATE'
 
 
@@ -73,8 +71,8 @@ class Followed:
         """Returns the verifiers of exclusive creates, by what is created and the second run's
         verifier."""
         firsts, seconds = (
-            {at: found[1] for at, line in outlines.located(map(line_of, listing()))
-             if line.is_call and line.procedure == CREATE and (found := VERIFIER.search(line.text))}
+            {at: verifier for at, line in outlines.located(map(line_of, listing()))
+             if line.is_call and line.procedure == CREATE and (verifier := verifier_in(line.text))}
             for outlines, listing in zip((self.pairing.here, self.pairing.there), listings))
         out = dict[tuple[int, str], str]()
         for at, to in self.pairing.pairs():
@@ -85,10 +83,10 @@ class Followed:
     def cookies_of(self, listings: tuple[Listing, Listing]) -> dict[tuple[int, str], str]:
         """Returns the cookies of the first run, by the second run's folders and cookies."""
         first, second = (
-            {(outlines.folders[at], found[1]): found[2]
+            {(outlines.folders[at], name): cookie
              for at, line in outlines.located(map(line_of, listing()))
              if not line.is_call and line.procedure in LISTINGS
-             for found in ENTRY.finditer(line.text)}
+             for name, cookie in cookies_of_names_in(line.text)}
             for outlines, listing in zip((self.pairing.here, self.pairing.there), listings))
         return {(folder, cookie): first[self.partners.get(folder, 0), name]
                 for (folder, name), cookie in second.items()
@@ -97,13 +95,13 @@ class Followed:
     def of_call(self, at: int, line: Line) -> Values:
         if line.procedure in LISTINGS:
             return self.of_cookies(at, line.text)
-        found = VERIFIER.search(line.text) if line.procedure == CREATE else None
-        new = self.verifiers.get((self.pairing.there.asked[at], found[1])) if found else None
-        return {('createverf', found[1]): new} if found and new else {}
+        own = verifier_in(line.text) if line.procedure == CREATE else None
+        new = self.verifiers.get((self.pairing.there.asked[at], own)) if own else None
+        return {('createverf', own): new} if own and new else {}
 
     def of_cookies(self, at: int, text: str) -> Values:
         folder = self.pairing.there.folders[at]
-        return {('cookie', cookie): new for cookie in COOKIE.findall(text)
+        return {('cookie', cookie): new for cookie in cookies_in(text)
                 if (new := self.cookies.get((folder, cookie)))}
 
     def of_reply(self, at: int, line: Line) -> Values:

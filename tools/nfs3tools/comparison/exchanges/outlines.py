@@ -18,13 +18,11 @@ from operator import attrgetter
 from ...exchanges.answering import Answering
 from ...exchanges.listing import Line, Message, line_of
 from ...exchanges.objects import MAKING
+from ...exchanges.searches import (
+    alike_in, first_handle_in, first_name_in, handles_in, names_and_handles_in, values_of)
 from ..values.bindings import RENAMED
 from ..values.classes import CLASSES, Mask, Way
 
-HANDLE = re.compile(r' fh=([0-9a-f]{1,8})(?!\S)')
-NAME = re.compile(r' (?:name|dirpath)="([^"]*)"')
-NAME_OR_HANDLE = re.compile(r' name="([^"]*)"| fh=([0-9a-f]{1,8})(?!\S)')
-ALIKE = re.compile(r' (?:prog|vers|proc|name|dirpath|offset)=("[^"]*"|\S+)')
 # Calls that change what others are answered.
 CHANGING = frozenset(f'NFSPROC3_{name}' for name in (
     'SETATTR', 'WRITE', 'CREATE', 'MKDIR', 'SYMLINK', 'MKNOD', 'REMOVE', 'RMDIR', 'RENAME', 'LINK'))
@@ -45,7 +43,7 @@ def classes_of_items(mask: Mask) -> dict[str, str]:
 
 def renamed_values(mask: Mask) -> re.Pattern[str]:
     """Returns what finds the names and values of renamed items in a line."""
-    return re.compile(f' ({"|".join(sorted(classes_of_items(mask)))})=([^\\s"]+)')
+    return values_of(classes_of_items(mask))
 
 
 # When a call was sent, by its connection and record: a number that grows
@@ -166,9 +164,9 @@ class Outlines:
                 if earlier is not None:
                     self.again.setdefault(owners[-1], []).append(line.record)
                     continue
-                name = NAME.search(line.text) if line.procedure in NAMING else None
-                if name:
-                    named[len(self)] = hash(name[1])
+                name = first_name_in(line.text) if line.procedure in NAMING else None
+                if name is not None:
+                    named[len(self)] = hash(name)
                 self.add_call(line, said)
                 continue
             at = owners[rule.reply(line.xid)]
@@ -184,11 +182,11 @@ class Outlines:
             self.learn(at, line.procedure, line.text, named.get(at, 0))
 
     def add_call(self, line: Line, said: int) -> None:
-        handles = HANDLE.findall(line.text)
+        handles = handles_in(line.text)
         if len(handles) > 1:
-            self.seconds[len(self)] = int(handles[1], 16)
+            self.seconds[len(self)] = handles[1]
         self.kinds.append(self.procedures.setdefault(line.procedure, len(self.procedures)))
-        self.folders.append(int(handles[0], 16) if handles else 0)
+        self.folders.append(handles[0] if handles else 0)
         self.records.append(line.record)
         self.found.append(0)
         self.replies.append(0)
@@ -206,17 +204,17 @@ class Outlines:
         """Learns from a reply which objects its call has reached."""
         folder = self.folders[at]
         if procedure in NAMING:
-            found = HANDLE.search(rest)
+            found = first_handle_in(rest)
             if found:
-                self.found[at] = int(found[1], 16)
+                self.found[at] = found
                 known = SEEN if procedure == 'NFSPROC3_LOOKUP' else MADE
-                self.objects.learn(self.found[at], folder, name, known, at)
+                self.objects.learn(found, folder, name, known, at)
         elif procedure == LISTING:
-            for found in NAME_OR_HANDLE.finditer(rest):
-                if found[2] is None:
-                    name = hash(found[1])
+            for one in names_and_handles_in(rest):
+                if isinstance(one, int):
+                    self.objects.learn(one, folder, name, SEEN, at)
                 else:
-                    self.objects.learn(int(found[2], 16), folder, name, SEEN, at)
+                    name = hash(one)
 
     def ask_of_objects(self, when: Callable[[int], int]) -> None:
         """Handles have another number in each run. So what a call asks has the objects in their
@@ -335,7 +333,7 @@ class Outlines:
     def calls_alike(self, lines: Iterable[str], wanted: set[int]) -> dict[int, tuple[object, ...]]:
         """Returns of some exchanges what alike calls have in common: procedure, objects, names and
         offset. The lines are those of the listing."""
-        return {at: (self.procedure_of(at), tuple(ALIKE.findall(line.text)),
+        return {at: (self.procedure_of(at), alike_in(line.text),
                      *map(self.identities.__getitem__, self.objects_of(at)))
                 for at, line in self.located(map(line_of, lines)) if line.is_call and at in wanted}
 

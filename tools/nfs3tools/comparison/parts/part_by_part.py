@@ -198,6 +198,4 @@ class PartByPart:
 def named_by(finding: Finding | Silent) -> tuple[Message, bool]:
     """Returns the message by which a finding or a call that is left out is named, and whether it is
     of the second run."""
-    message = finding.first or finding.second
-    assert message
-    return message, finding.first is None
+    return finding.message, finding.first is None

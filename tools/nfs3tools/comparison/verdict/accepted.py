@@ -109,8 +109,8 @@ def lonely_without(compared: Compared, taken: Iterable[Finding]) -> tuple[int, i
 
 def fits(entry: Entry, finding: Finding, mask: Mask) -> bool:
     """Whether an entry is about the message of a finding. None is about whole connections."""
-    message = finding.first or finding.second
-    if message is None or finding.kind in ('connection', 'order') or kind_of(entry) != finding.kind:
+    message = finding.message
+    if finding.kind in ('connection', 'order') or kind_of(entry) != finding.kind:
         return False
     if entry['procedure'] not in (ANY, message.procedure):
         return False
@@ -241,8 +241,8 @@ def file_of(findings: Iterable[Finding], mask: Mask) -> bytes:
 def entries_of(finding: Finding, mask: Mask) -> Iterator[Entry]:
     """Iterates over the entries that accept a finding. Whole connections are not accepted, nor is
     the order of all replies of one."""
-    message = finding.first or finding.second
-    if message is None or finding.kind in ('connection', 'order'):
+    message = finding.message
+    if finding.kind in ('connection', 'order'):
         return
     path = None if finding.path is None else glob.escape(finding.path)
     entry = {'procedure': message.procedure, 'path': path}

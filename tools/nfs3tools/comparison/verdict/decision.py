@@ -100,6 +100,4 @@ def with_position(verdict: str, found: Found, is_any: bool) -> str:
     if not found.compared.findings:
         return f'{words} at {verdict.partition(" at ")[2]}'
     first = found.compared.findings[0]
-    message = first.first or first.second
-    only = '' if first.first else ' of the second run'
-    return f'{words} at {message.place}{only}' if message else words
+    return f'{words} at {first.message.place}{"" if first.first else " of the second run"}'

@@ -49,6 +49,18 @@ class Finding:
     arguments: tuple[Argument, ...] = ()
     statuses: tuple[str, str] = ('', '')
 
+    @property
+    def message(self) -> Message:
+        """That of the first run, or else that of the second."""
+        message = self.first or self.second
+        assert message
+        return message
+
+    @property
+    def run(self) -> str:
+        """The run of that message."""
+        return 'first' if self.first else 'second'
+
 
 @dataclass(frozen=True)
 class Silent:
@@ -65,10 +77,10 @@ class Silent:
     why: str = ''
 
     @property
-    def call(self) -> Message:
-        call = self.first or self.second
-        assert call
-        return call
+    def message(self) -> Message:
+        message = self.first or self.second
+        assert message
+        return message
 
 
 @dataclass
@@ -106,9 +118,8 @@ class Compared:
 
     def fields(self) -> Counter[tuple[str, str]]:
         """Returns how often each field of each procedure differs."""
-        return Counter((message.procedure, difference.field) for finding in self.findings
-                       if (message := finding.first or finding.second)
-                       for difference in finding.differences)
+        return Counter((finding.message.procedure, difference.field)
+                       for finding in self.findings for difference in finding.differences)
 
 
 class Apart:

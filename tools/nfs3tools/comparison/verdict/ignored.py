@@ -59,8 +59,7 @@ def without(compared: Compared,
     procedure was left out."""
     left_out, findings = Counter[tuple[str, str]](), list[Finding]()
     for finding in compared.findings:
-        message = finding.first or finding.second
-        procedure = message.procedure if message else ''
+        procedure = finding.message.procedure
         is_out = [any(one.has(procedure, difference) for one in ignored)
                   for difference in finding.differences]
         left_out.update((procedure, difference.field)

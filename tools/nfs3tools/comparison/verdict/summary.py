@@ -48,7 +48,7 @@ def of_both(compared: Compared) -> Iterator[str]:
     paths = defaultdict[tuple[str, str], list[str]](list)
     for call in compared.silent:
         if call.kind != 'only':
-            paths[call.kind, call.call.procedure].append(call.path or '?')
+            paths[call.kind, call.message.procedure].append(call.path or '?')
     for (kind, procedure), some in sorted(paths.items()):
         where = some[0] if len(set(some)) == 1 else f'{len(set(some)):,} paths'
         how = 'sent again' if kind == 'sent again' else 'explained by order'
@@ -88,8 +88,7 @@ def fields_of(compared: Compared) -> Iterator[str]:
     """The fields that differ most often, over all procedures."""
     fields = Counter[tuple[str, bool]]()
     for finding in compared.findings:
-        message = finding.first or finding.second
-        fields.update((difference.field, message is not None and message.is_call)
+        fields.update((difference.field, finding.message.is_call)
                       for difference in finding.differences)
     for (name, is_call), number in fields.most_common(FIELDS_AT_MOST):
         yield f'{name} in ' + (count(number, 'call') if is_call else replies(number))

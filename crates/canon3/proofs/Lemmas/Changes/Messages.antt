@@ -1,10 +1,9 @@
 -- Messages whose items become others are messages of the same procedures, and no longer.
 use Rattle.canon3.proofs.Common.{◌≡◌, ℕ, ◌<◌, ◌≤◌, ◌^◌, List, [], ◌∷◌, ◌++◌, length, refl, sym, ap, ◌∙◌, subst, arith, if◌then◌else◌, false, nat_eq, Item, Word, Opaque, Spells, zero_spelling, more, ProcId, call_head, reply_head, arguments_of, results_of, Decides-eqb}
 use Rattle.capture3.proofs.Lemmas.Connections.RankLemmas.{by_test}
-use Rattle.xdr3.specs.Item.{Var}
+use Rattle.xdr3.specs.Item.{Var, called}
 use Rattle.xdr3.specs.Shape.{Shape, ◌then◌, both, listed, nothing, word, Fits}
 use Rattle.xdr3.specs.Layout.{Layout, exactly, FitsLayout}
-use Rattle.rpc_head.specs.Names.{head_names}
 use Rattle.rpc_head.specs.Messages.{has_results, procedure_in}
 use Rattle.rpc_head.specs.Shapes.{accept, credential, verifier}
 use Rattle.canon3.proofs.Lemmas.Changes.Shapes.{Become, IsSpelledAnew, RowTakes, Takes, WordStays, become_append, fits_become, row_becomes, spelled_anew}
@@ -21,15 +20,15 @@ first_word name s items p = (
   rw (p.4, p.2.4, p.2.3) refl,
 )
 
-pub mtype_is : (types : List ℕ) (items : List Item) → Fits (listed head_names.mtype types) items
-    → (n : ℕ) × (items ≡ Word head_names.mtype n ∷ [])
+pub mtype_is : (types : List ℕ) (items : List Item) → Fits (listed (called "mtype") types) items
+    → (n : ℕ) × (items ≡ Word (called "mtype") n ∷ [])
 mtype_is types items p = (p.0, rw (p.4, p.3) refl)
 
 -- the words of a call before its credential
 abbrev pub four_words : (version prog vers proc : ℕ) → List Item → List Item
 four_words version prog vers proc back =
-    Word head_names.rpcvers version ∷ Word head_names.prog prog ∷ Word head_names.vers vers
-    ∷ Word head_names.proc proc ∷ back
+    Word (called "rpcvers") version ∷ Word (called "prog") prog ∷ Word (called "vers") vers
+    ∷ Word (called "proc") proc ∷ back
 
 call_words : (head : List Item) → Fits call_head head
     → (version prog vers proc : ℕ) × (back : List Item)
@@ -37,22 +36,22 @@ call_words : (head : List Item) → Fits call_head head
 unfolding call_head
 call_words head p =
     let a =
-    first_word head_names.prog
-    (word head_names.vers then word head_names.proc then credential then verifier) p.1 p.3 in
+    first_word (called "prog")
+    (word (called "vers") then word (called "proc") then credential then verifier) p.1 p.3 in
     let b =
-    first_word head_names.vers (word head_names.proc then credential then verifier) a.1 a.2 in
-    let c = first_word head_names.proc (credential then verifier) b.1 b.2 in
+    first_word (called "vers") (word (called "proc") then credential then verifier) a.1 a.2 in
+    let c = first_word (called "proc") (credential then verifier) b.1 b.2 in
     (p.0, a.0, b.0, c.0, c.1, cc (p.4, a.3, b.3, c.3))
 
 -- the items of a reply's head up to the word that tells whether it has results
 abbrev accepted_words : (flavor : ℕ) (body : List ℕ) (stat : ℕ) → List Item → List Item
 accepted_words flavor body stat back =
-    Word head_names.reply_stat 0 ∷ Word head_names.verf_flavor flavor
-    ∷ Opaque Var head_names.verf_body body ∷ Word head_names.accept_stat stat ∷ back
+    Word (called "reply_stat") 0 ∷ Word (called "verf_flavor") flavor
+    ∷ Opaque Var (called "verf_body") body ∷ Word (called "accept_stat") stat ∷ back
 
 are_accepted : (items : List Item) → Fits (verifier then accept) items
     → (flavor : ℕ) × (body : List ℕ) × (stat : ℕ) × (back : List Item)
-    × (Word head_names.reply_stat 0 ∷ items ≡ accepted_words flavor body stat back)
+    × (Word (called "reply_stat") 0 ∷ items ≡ accepted_words flavor body stat back)
 unfolding verifier accept
 are_accepted items p =
     let v = p.2 in
@@ -61,11 +60,11 @@ are_accepted items p =
 module _ (R : Item → Item → Type 0) where
   -- the words of heads that choose what follows
   pub record HeadsStay : Type 0 where
-    pub prog : WordStays R head_names.prog
-    pub vers : WordStays R head_names.vers
-    pub proc : WordStays R head_names.proc
-    pub reply_stat : WordStays R head_names.reply_stat
-    pub accept_stat : WordStays R head_names.accept_stat
+    pub prog : WordStays R (called "prog")
+    pub vers : WordStays R (called "vers")
+    pub proc : WordStays R (called "proc")
+    pub reply_stat : WordStays R (called "reply_stat")
+    pub accept_stat : WordStays R (called "accept_stat")
 
   -- its first word may become any other
   pub record ChangesTo (items others : List Item) : Type 0 where
@@ -113,9 +112,9 @@ module _ (R : Item → Item → Type 0) where
   module _ (stay : HeadsStay) where
     procedure_stays : (name : List ℕ) (x y mtype version prog vers proc : ℕ)
         (back later : List Item)
-        → Become R (Word head_names.mtype mtype ∷ four_words version prog vers proc back) later
+        → Become R (Word (called "mtype") mtype ∷ four_words version prog vers proc back) later
         → procedure_in (Word name y ∷ later)
-        ≡ procedure_in (Word name x ∷ Word head_names.mtype mtype
+        ≡ procedure_in (Word name x ∷ Word (called "mtype") mtype
         ∷ four_words version prog vers proc back)
     procedure_stays name x y mtype version prog vers proc back later
         (more a (more b (more p (more v (more q r))))) =
@@ -123,35 +122,35 @@ module _ (R : Item → Item → Type 0) where
 
     results_stay : (name : List ℕ) (x y mtype flavor : ℕ) (body : List ℕ) (stat : ℕ)
         (back later : List Item)
-        → Become R (Word head_names.mtype mtype ∷ accepted_words flavor body stat back) later
+        → Become R (Word (called "mtype") mtype ∷ accepted_words flavor body stat back) later
         → has_results (Word name y ∷ later)
-        ≡ has_results (Word name x ∷ Word head_names.mtype mtype
+        ≡ has_results (Word name x ∷ Word (called "mtype") mtype
         ∷ accepted_words flavor body stat back)
     results_stay name x y mtype flavor body stat back later
         (more a (more b (more c (more d (more s r))))) =
         rw (stay.reply_stat 0 _ b, stay.accept_stat stat _ s) refl
 
     denial_stays : (name : List ℕ) (x y mtype stat : ℕ) (back later : List Item)
-        → Become R (Word head_names.mtype mtype ∷ Word head_names.reply_stat stat ∷ back) later
+        → Become R (Word (called "mtype") mtype ∷ Word (called "reply_stat") stat ∷ back) later
         → nat_eq stat 0 ≡ false
         → has_results (Word name y ∷ later)
-        ≡ has_results (Word name x ∷ Word head_names.mtype mtype
-        ∷ Word head_names.reply_stat stat ∷ back)
+        ≡ has_results (Word name x ∷ Word (called "mtype") mtype
+        ∷ Word (called "reply_stat") stat ∷ back)
     denial_stays name x y mtype stat back later (more a (more s r)) f =
         rw (stay.reply_stat stat _ s, f) refl
 
-    module _ (starts : (types : List ℕ) → Takes R (listed head_names.mtype types)) where
+    module _ (starts : (types : List ℕ) → Takes R (listed (called "mtype") types)) where
       pub call_becomes : Takes R call_head → ((id : ProcId) → RowTakes R (arguments_of id))
           → (items others : List Item) → FitsCall items → ChangesTo items others
           → FitsCall others
       call_becomes heads rows items others p c =
-          headed_call_fits others (headed_becomes head_names.xid
-          (listed head_names.mtype (0 ∷ [])) call_head call_next (starts (0 ∷ [])) heads
+          headed_call_fits others (headed_becomes (called "xid")
+          (listed (called "mtype") (0 ∷ [])) call_head call_next (starts (0 ∷ [])) heads
           (λ l. rows (procedure_in l))
           (λ m n start head front q r k.
           let s = mtype_is (0 ∷ []) start q in
           let w = call_words head r in
-          ap arguments_of (rw (s.1, w.5) (procedure_stays head_names.xid m n s.0 w.0 w.1 w.2 w.3 w.4
+          ap arguments_of (rw (s.1, w.5) (procedure_stays (called "xid") m n s.0 w.0 w.1 w.2 w.3 w.4
           front (rw (s.1, w.5) at k)))) items others (is_headed_call items p) c)
 
       pub reply_becomes : Takes R reply_head
@@ -160,8 +159,8 @@ module _ (R : Item → Item → Type 0) where
           → FitsReply id others
       unfolding reply_head
       reply_becomes heads rows id items others p c =
-          headed_reply_fits id others (headed_becomes head_names.xid
-          (listed head_names.mtype (1 ∷ [])) reply_head (reply_next id) (starts (1 ∷ [])) heads
+          headed_reply_fits id others (headed_becomes (called "xid")
+          (listed (called "mtype") (1 ∷ [])) reply_head (reply_next id) (starts (1 ∷ [])) heads
           (rows id)
           (λ m n start head front q r k.
           let s = mtype_is (1 ∷ []) start q in
@@ -170,10 +169,10 @@ module _ (R : Item → Item → Type 0) where
           let w = are_accepted r.1 (rw t at r.3) in
           let zero : r.0 ≡ 0 = (Decides-eqb r.0 0).0 t in
           let is : head ≡ accepted_words w.0 w.1 w.2 w.3 = cc (r.4, zero, w.4) in
-          rw (s.1, is) (results_stay head_names.xid m n s.0 w.0 w.1 w.2 w.3 front
+          rw (s.1, is) (results_stay (called "xid") m n s.0 w.0 w.1 w.2 w.3 front
           (rw (s.1, is) at k)))
           (λ f.
-          rw (s.1, r.4) (denial_stays head_names.xid m n s.0 r.0 r.1 front
+          rw (s.1, r.4) (denial_stays (called "xid") m n s.0 r.0 r.1 front
           (rw (s.1, r.4) at k) f)))) items others (is_headed_reply id items p) c)
 
     pub procedure_becomes : (items others : List Item) → FitsCall items → ChangesTo items others
@@ -183,7 +182,7 @@ module _ (R : Item → Item → Type 0) where
         let s = mtype_is (0 ∷ []) h.start h.start_fits in
         let w = call_words h.head h.head_fits in
         let e : c.first.more
-        ≡ Word head_names.mtype s.0 ∷ four_words w.0 w.1 w.2 w.3 (w.4 ++ h.back) =
+        ≡ Word (called "mtype") s.0 ∷ four_words w.0 w.1 w.2 w.3 (w.4 ++ h.back) =
         cc (c.first.is, h.is, s.1, w.5) in
         rw (c.is, c.first.is, e)
         (procedure_stays c.first.name c.first.number c.number s.0 w.0 w.1 w.2 w.3 (w.4 ++ h.back)

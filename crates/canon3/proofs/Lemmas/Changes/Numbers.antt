@@ -4,7 +4,7 @@ use Rattle.xdr3.specs.Shape.{Shape, choose, hyper, fixed, write_verf, opaque, no
 use Rattle.xdr3.specs.Layout.{Layout, exactly, rest, after}
 use Rattle.xdr3.proofs.Lemmas.Shapes.ShapeParts.{HasParts, Part, RowHasParts, opaque_part, parts_weaker, row_weaker, write_verf_part}
 use Rattle.rpc_head.specs.Messages.{procedure_in}
-use Rattle.rpc_head.specs.Names.{head_names}
+use Rattle.xdr3.specs.Item.{called}
 use Rattle.capture3.specs.Capture.{total_size}
 use Rattle.procs3.proofs.HeadParts.{call_head_parts, reply_head_parts}
 use Rattle.procs3.proofs.ProcedureParts.{IsProtocolRow, arguments_have_parts, reply_has_parts}
@@ -93,8 +93,8 @@ module _ (hs vs : List (List ℕ)) where
     accept_stat = λ n j e. e;
   }
 
-  starts : (types : List ℕ) → Takes IsNumbered (listed head_names.mtype types)
-  starts types = takes (listed head_names.mtype types) (tt, λ n. tt)
+  starts : (types : List ℕ) → Takes IsNumbered (listed (called "mtype") types)
+  starts types = takes (listed (called "mtype") types) (tt, λ n. tt)
 
   module _ (xs : List ℕ) where
     abbrev under : List Item → List Item

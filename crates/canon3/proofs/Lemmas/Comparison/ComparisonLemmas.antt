@@ -1,10 +1,9 @@
 -- A comparison of two captures, entry by entry.
-use Rattle.canon3.proofs.Common.{◌≡◌, ◌≢◌, ℕ, List, [], ◌∷◌, ◌++◌, append-nil, Option, None, Some, Result, Ok, Err, refl, sym, ap, ◌∙◌, Gave, Observed, IsPrefixOf, Error, Place, Entry, Typed, MessageWriter, AreFirst, WriterRests, WriterStands, values_before, Same, HasPassed, place_from, IsMetBy, Progress, SameError, bytes_after, HasSpelled, spelling_of, ◌+◌, ◌≤◌, ◌<◌, ◌^◌, length, length-append, arith}
+use Rattle.canon3.proofs.Common.{◌≡◌, ◌≢◌, ℕ, List, [], ◌∷◌, ◌++◌, append-nil, Option, None, Some, Result, Ok, Err, refl, sym, ap, ◌∙◌, Gave, Observed, IsPrefixOf, Error, Place, Entry, Typed, MessageWriter, AreFirst, WriterRests, WriterStands, values_before, Same, HasPassed, place_from, IsMetBy, Progress, SameError, bytes_after, HasSpelled, spelling_of, ◌+◌, ◌<◌, ◌^◌, length, length-append, arith}
 use Rattle.std.specs.Option.{IsSomeAnd, MatchOption}
 use Rattle.std.specs.declared.hash.BuildHasher as BuildHasher
 use Rattle.std.specs.declared.hash.Hasher as Hasher
 use Rattle.capture3.specs.declared.fault.Error.TheVariants as errors
-use Rattle.capture3.specs.Laws.{most_entries}
 use Rattle.capture3.specs.MessageVisit.{Hears}
 use Rattle.canon3.specs.declared.comparison.Comparison.{Comparison}
 use Rattle.canon3.specs.declared.comparison.Finding.{Finding}
@@ -149,9 +148,9 @@ read_out r Wrote handed (Err (errors.Refused fault)) (given, gave, (entries, met
 read_out r Wrote handed (Err _) s = tt
 
 -- so many entries were handed out, and more may be left
-pub one_fewer : (a : List Entry) (e : Entry) (left : ℕ)
-    → length (a ++ e ∷ []) + left ≤ most_entries → length a + 1 < 2 ^ 32
-one_fewer a e left few = omega (arith, few, length-append a (e ∷ []))
+pub one_fewer : (a : List Entry) (e : Entry) → length (a ++ e ∷ []) < 2 ^ 32
+    → length a + 1 < 2 ^ 32
+one_fewer a e few = omega (arith, few, length-append a (e ∷ []))
 
 -- ---- along two readers
 

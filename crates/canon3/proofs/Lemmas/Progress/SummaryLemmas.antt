@@ -1,16 +1,17 @@
 -- From what was handed out to what a capture has.
-use Rattle.std.proofs.Common.{◌≡◌, ℕ, min, Result, Ok, Err, List, [], ◌∷◌, ◌++◌, length, refl, subst, sym, append-nil, arith, inl, inr}
+use Rattle.std.proofs.Common.{◌≡◌, ℕ, min, Result, Ok, Err, List, [], ◌∷◌, ◌++◌, length, refl, subst, sym, append-nil, arith, inl, inr, ◌⊎◌}
 use Rattle.canon3.proofs.Common.{bytes_eq, Gave, Observed, IsPrefixOf, flat_map-append, Error, Entry, items_of, Typed, distinct, number_limit, handles, Summary}
 use Rattle.std.specs.Cmp.Lexicographic.{nat_list_eq_equiv}
 use Rattle.capture3.specs.declared.fault.Error.TheVariants as errors
 use Rattle.capture3.specs.declared.fault.Fault.{Fault}
 use Rattle.capture3.specs.Entries.{IsShownBy}
 use Rattle.capture3.specs.FirstFault.{FirstFault}
+use Rattle.capture3.specs.Observed.{IsSpent}
 use Rattle.std.specs.Prelude.{IfErr, Option, ◌≢◌}
 use Rattle.canon3.specs.EntryWriter.{WritesGiven}
 use Rattle.canon3.specs.HandleTable.{all_items, nothing}
 use Rattle.canon3.specs.WriteErrors.{CountsWriting}
-use Rattle.canon3.specs.Summary.{ConcludesAll, ConcludesGiven, IsFirstGiven}
+use Rattle.canon3.specs.Summary.{ConcludesAll, ConcludesGiven}
 use Rattle.canon3.proofs.Lemmas.Order.InOrder.{typed_in_order}
 use Rattle.capture3.proofs.Lemmas.Connections.RankLemmas.{length-with_keys}
 
@@ -29,6 +30,11 @@ few_distinct bytes entries typed =
       length-with_keys bytes_eq nat_list_eq_equiv (handles entries) [],
     )
 
+-- the bytes given show this fault
+abbrev IsFirstGiven : (observed : Observed) (given : List ℕ) → Fault → Type 0
+IsFirstGiven observed given fault = ((rest : List ℕ) → FirstFault (given ++ rest) fault)
+    ⊎ (IsSpent observed × FirstFault given fault)
+
 -- what was handed out is left out
 pub first_given : (observed : Observed) (given : List ℕ) (handed : List Entry) (fault : Fault)
     → IsShownBy observed given handed fault → IsFirstGiven observed given fault
@@ -46,10 +52,10 @@ first_of_all observed given bytes fault p (inr (ended, first)) =
 pub concluded : (bytes : List ℕ) (old new : Observed) (result : Result Summary Error)
     → ((given : List ℕ) → Gave old new given → IsPrefixOf new given bytes)
     → ConcludesGiven old new result → ConcludesAll bytes result
-concluded bytes old new (Ok summary) prefix (given, gave, (ended, is)) =
+concluded bytes old new (Ok summary) prefix (given, gave, ended, is) =
     (rw ((prefix given gave).all ended) at is, tt)
-concluded bytes old new (Err (errors.Refused fault)) prefix (given, gave, first) =
-    (tt, first_of_all new given bytes fault (prefix given gave) first)
+concluded bytes old new (Err (errors.Refused fault)) prefix shown =
+    (tt, first_of_all new shown.given bytes fault (prefix shown.given shown.gave) shown.first)
 concluded bytes old new (Err _) prefix c = (tt, tt)
 
 -- what is concluded where nothing was written
@@ -57,13 +63,13 @@ pub concludes : (old new : Observed) (result : Result Summary Error) (written : 
     → IfErr result (λ error. error ≢ errors.Write)
     → WritesGiven nothing (old, new) (written, written) result → ConcludesGiven old new result
 concludes old new (Ok summary) written never (entries, all, is, appends) =
-    (all.given, all.gave, (all.ended, is))
+    (all.given, all.gave, all.ended, is)
 concludes old new (Err (errors.Refused fault)) written never
     (given, gave, (entries, shown, appends)) =
-    (given, gave, first_given new given entries fault shown)
-concludes old new (Err errors.Read) written never (given, gave, met) = (given, gave, tt)
+    record { given = given; gave = gave; first = first_given new given entries fault shown }
+concludes old new (Err errors.Read) written never (given, gave, met) = (given, gave)
 concludes old new (Err errors.Write) written never w = absurd (never refl)
-concludes old new (Err errors.Memory) written never (given, gave, met) = (given, gave, tt)
+concludes old new (Err errors.Memory) written never (given, gave, met) = (given, gave)
 
 -- where no write failed
 pub no_write : {X : Type 0} (result : Result X Error) → CountsWriting 0 0 result

@@ -98,13 +98,13 @@ is_connection c h = record {
   rest = client_bytes c ++ server_bytes c;
   split = refl;
   one = IsWord-big_bytes 1 (omega arith);
-  both = record {
-    front = client_bytes c;
-    last = server_bytes c;
-    split = refl;
-    client = is_stream c.calls (all_weaker _ _ (λ m p. p.1) c.calls h.calls_are);
-    server = is_stream (reply_items c.replies) (small_items c.replies h.replies_are);
-  };
+  both = (
+    client_bytes c,
+    server_bytes c,
+    refl,
+    is_stream c.calls (all_weaker _ _ (λ m p. p.1) c.calls h.calls_are),
+    is_stream (reply_items c.replies) (small_items c.replies h.replies_are),
+  );
 }
 
 joined_connections : (cs : List Conversation) → AllByRecursion AreConversing cs

@@ -3,9 +3,9 @@ use Rattle.canon3.proofs.Common.{◌≡◌, ℕ, List, [], ◌∷◌, ◌++◌, 
 use Rattle.xdr3.specs.Shape.{Shape, ◌then◌, both, nothing, word, listed, Fits}
 use Rattle.xdr3.specs.Layout.{Layout, exactly, after, FitsLayout}
 use Rattle.xdr3.proofs.Lemmas.Shapes.ShapeParts.{HasParts, Part, RowHasParts, parts_weaker, row_weaker}
-use Rattle.rpc_head.specs.Names.{head_names}
-use Rattle.rpc_head.specs.Messages.{procedure_in, call_start, reply_start, call_layout, reply_layout, has_results}
-use Rattle.procs3.proofs.HeadParts.{call_head_parts, call_start_parts, reply_head_parts, reply_start_parts}
+use Rattle.xdr3.specs.Item.{called}
+use Rattle.rpc_head.specs.Messages.{procedure_in, start_of_type, call_layout, reply_layout, has_results}
+use Rattle.procs3.proofs.HeadParts.{call_head_parts, reply_head_parts, start_parts}
 use Rattle.procs3.proofs.ProcedureParts.{IsProtocolRow, arguments_have_parts, reply_has_parts}
 use Rattle.procs3.proofs.ProtocolParts.{AreProtocolParts, IsProtocolPart}
 use Rattle.canon3.proofs.Lemmas.WellFormed.Items.{all_in_message, short_part, IsEach, IsShort}
@@ -64,14 +64,14 @@ call_next items = arguments_of (procedure_in items)
 
 abbrev pub IsHeadedCall : List Item → Type 0
 IsHeadedCall items =
-    IsHeaded head_names.xid (listed head_names.mtype (0 ∷ [])) call_head call_next items
+    IsHeaded (called "xid") (listed (called "mtype") (0 ∷ [])) call_head call_next items
 
 abbrev pub reply_next : ProcId → List Item → Layout
 reply_next id items = if has_results items then results_of id else exactly nothing
 
 abbrev pub IsHeadedReply : ProcId → List Item → Type 0
 IsHeadedReply id items =
-    IsHeaded head_names.xid (listed head_names.mtype (1 ∷ [])) reply_head (reply_next id) items
+    IsHeaded (called "xid") (listed (called "mtype") (1 ∷ [])) reply_head (reply_next id) items
 
 abbrev pub FitsCall : List Item → Type 0
 FitsCall items = FitsLayout (call_layout arguments_of) items
@@ -80,26 +80,26 @@ abbrev pub FitsReply : ProcId → List Item → Type 0
 FitsReply id items = FitsLayout (reply_layout (results_of id)) items
 
 pub is_headed_call : (items : List Item) → FitsCall items → IsHeadedCall items
-unfolding call_layout call_start
+unfolding call_layout start_of_type
 is_headed_call items p =
-    is_headed head_names.xid (listed head_names.mtype (0 ∷ [])) call_head call_next items p
+    is_headed (called "xid") (listed (called "mtype") (0 ∷ [])) call_head call_next items p
 
 pub headed_call_fits : (items : List Item) → IsHeadedCall items → FitsCall items
-unfolding call_layout call_start
+unfolding call_layout start_of_type
 headed_call_fits items p =
-    headed_fits head_names.xid (listed head_names.mtype (0 ∷ [])) call_head call_next items p
+    headed_fits (called "xid") (listed (called "mtype") (0 ∷ [])) call_head call_next items p
 
 pub is_headed_reply : (id : ProcId) (items : List Item) → FitsReply id items
     → IsHeadedReply id items
-unfolding reply_layout reply_start
+unfolding reply_layout start_of_type
 is_headed_reply id items p =
-    is_headed head_names.xid (listed head_names.mtype (1 ∷ [])) reply_head (reply_next id) items p
+    is_headed (called "xid") (listed (called "mtype") (1 ∷ [])) reply_head (reply_next id) items p
 
 pub headed_reply_fits : (id : ProcId) (items : List Item) → IsHeadedReply id items
     → FitsReply id items
-unfolding reply_layout reply_start
+unfolding reply_layout start_of_type
 headed_reply_fits id items p =
-    headed_fits head_names.xid (listed head_names.mtype (1 ∷ [])) reply_head (reply_next id) items p
+    headed_fits (called "xid") (listed (called "mtype") (1 ∷ [])) reply_head (reply_next id) items p
 
 -- ---- what is so of each item of a message
 
@@ -110,20 +110,20 @@ module _ (P : Item → Type 0) (each : (part : Part) → IsProtocolPart part →
   each_in_row : (layout : Layout) → IsProtocolRow layout → RowHasParts (IsEach P) layout
   each_in_row layout h = row_weaker IsProtocolPart (IsEach P) each layout h
 
-  pub each_of_call : ((version : ℕ) → P (Word head_names.rpcvers version)) → (items : List Item)
+  pub each_of_call : ((version : ℕ) → P (Word (called "rpcvers") version)) → (items : List Item)
       → FitsCall items → AllByRecursion P items
   unfolding call_layout
   each_of_call version items p =
-      all_in_message P (call_start then call_head) call_next items
-      (each_fitting call_start call_start_parts, call_head_parts (IsEach P) each version)
+      all_in_message P (start_of_type 0 then call_head) call_next items
+      (each_fitting (start_of_type 0) (start_parts 0), call_head_parts (IsEach P) each version)
       (λ front. each_in_row (call_next front) (arguments_have_parts (procedure_in front))) p
 
   pub each_of_reply : (id : ProcId) (items : List Item) → FitsReply id items
       → AllByRecursion P items
   unfolding reply_layout
   each_of_reply id items p =
-      all_in_message P (reply_start then reply_head) (reply_next id) items
-      (each_fitting (reply_start then reply_head) (reply_start_parts, reply_head_parts))
+      all_in_message P (start_of_type 1 then reply_head) (reply_next id) items
+      (each_fitting (start_of_type 1 then reply_head) (start_parts 1, reply_head_parts))
       (λ front. each_in_row (reply_next id front) (reply_has_parts id front)) p
 
 each_short : (part : Part) → IsProtocolPart part → IsEach IsShort part

@@ -1,5 +1,5 @@
 -- What is written of the entries that a reader hands out.
-use Rattle.std.proofs.Common.{⊎_elim, ◌≡◌, ◌<◌, ◌^◌, ℕ, List, [], ◌∷◌, ◌++◌, refl, subst, sym, length, Option, None, Some, Result, Ok, Err, arith, append_assoc, append-nil}
+use Rattle.std.proofs.Common.{⊎_elim, ◌≡◌, ◌≤◌, ◌+◌, ℕ, List, [], ◌∷◌, ◌++◌, refl, subst, sym, length, Option, None, Some, Result, Ok, Err, arith, append_assoc, append-nil}
 use Rattle.std.specs.Prelude.{MatchResult}
 use Rattle.canon3.proofs.Common.{Gave, Observed, IsPrefixOf, shown_of_all, Appends, Item, Entries, Error, Entry, Kind, gave_none, gave_on, AppendsFront, Appends-nil, AreFirst, IsLentAfter, IsMetBy, source_of, StandsFor, LentEntry, AreFirstReached, Reached, reached_by_machine}
 use Rattle.std.specs.declared.hash.BuildHasher as BuildHasher
@@ -9,11 +9,12 @@ use Rattle.capture3.specs.declared.reader.entry.LentEntry.TheVariants as lent
 use Rattle.capture3.specs.Handing.{HandsOutGiven}
 use Rattle.capture3.specs.Kept.{IsLent, kind_of}
 use Rattle.capture3.specs.Lending.{IsNextLent}
+use Rattle.capture3.specs.Laws.{most_entries}
 use Rattle.capture3.specs.MessageVisit.{HasHeard, Hears}
 use Rattle.capture3.specs.Progress.{HasPassed}
 use Rattle.capture3.specs.declared.reader.progress.Progress.{Progress}
 use Rattle.capture3.specs.machinery.Stepping.{IsOfKind}
-use Rattle.canon3.specs.EntryWriter.{IsStoppedBy, KeepsPrefixes, StopsWriting, WritesAllCounted, WritesGivenCounted}
+use Rattle.canon3.specs.EntryWriter.{IsNextEntry, IsStoppedBy, KeepsPrefixes, StopsWriting, WritesAllCounted, WritesGivenCounted}
 use Rattle.canon3.specs.Summary.{GaveAll}
 use Rattle.canon3.specs.machinery.WritingSteps.{HasGiven, HasWritten, ReaderSince, since, source_since}
 use Rattle.canon3.specs.WriteErrors.{IsOfWriting}
@@ -34,6 +35,13 @@ pub lent_kind : (one : LentEntry) (kind : Kind) (entry : Entry) → kind ≡ kin
     → IsLent one entry → IsOfKind kind entry
 lent_kind one kind entry is lends =
     subst (λ k. IsOfKind k entry) (sym is) (of_its_kind one entry lends)
+
+pub comes_next : {progress : Progress} {lent : LentEntry} (entries : List Entry) (one : Entry)
+    (left : ℕ) → IsLentAfter entries lent one → AreFirst (entries ++ one ∷ [])
+    → length (entries ++ one ∷ []) + left ≤ most_entries → HasPassed progress entries
+    → IsNextEntry progress entries lent one
+comes_next entries one left is_lent first few passed =
+    record { is_lent = is_lent; first = first; few = omega (arith, few); passed = passed }
 
 module _ (form : List Entry → List ℕ) (prefixes : KeepsPrefixes form) where
   cut_reached : (old new : Option (List ℕ)) (given : List ℕ) (entries : List Entry)
@@ -192,8 +200,7 @@ module _ {R S H T : Type 0} {builds : BuildHasher.Ghosts S H} {hashes : Hasher.G
   abbrev WritesOne : {X : Type 0} (now : T) (new : Option (List ℕ)) → Result X Error → Type 0
   WritesOne now new result =
       (old : Option (List ℕ)) (entries : List Entry) (one : Entry)
-      → IsLentAfter entries lent one → AreFirst (entries ++ one ∷ [])
-      → length (entries ++ one ∷ []) < 2 ^ 32 → HasPassed progress entries
+      → IsNextEntry progress entries lent one
       → HasHeard rests stands heard (before entries) one → Appends old between (form entries)
       → WroteOrCut now old new (entries ++ one ∷ []) result
 
@@ -204,9 +211,10 @@ module _ {R S H T : Type 0} {builds : BuildHasher.Ghosts S H} {hashes : Hasher.G
   came_of now new result wrote =
       let (one, (is, adds), reached, reads) = a.hands_out in
       let all = handed ++ u.more in
-      wrote old all one is
-      (first_reached (u.has_given.given ++ a.more) (all ++ one ∷ []) reached)
-      (omega (arith, reads.few)) passed (adds (before all) u.wrote.stands_for) u.wrote.written
+      wrote old all one
+      (comes_next all one _ is
+      (first_reached (u.has_given.given ++ a.more) (all ++ one ∷ []) reached) reads.few passed)
+      (adds (before all) u.wrote.stands_for) u.wrote.written
 
   -- it was written
   pub writes_on : {X : Type 0} {now : T} {new : Option (List ℕ)} (x : X)

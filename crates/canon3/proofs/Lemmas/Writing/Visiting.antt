@@ -4,10 +4,9 @@ use Rattle.std.proofs.lemmas.List.{nil_from_length}
 use Rattle.xdr3.specs.declared.plain.PlainField.TheVariants as fields
 use Rattle.xdr3.specs.View.{word_of}
 use Rattle.rpc_head.specs.MessageStart.{start_items}
-use Rattle.rpc_head.specs.Names.{head_names}
 use Rattle.rpc_head.specs.declared.values.message_start.MessageStart.{MessageStart}
 use Rattle.capture3.specs.MessageVisit.{OpensMessage}
-use Rattle.xdr3.specs.Item.{Item, Fixed, Hyper, Word, WriteVerf, Opaque, Rest, Kind, Handle, residue, word_bytes}
+use Rattle.xdr3.specs.Item.{Item, Fixed, Hyper, Word, WriteVerf, Opaque, Rest, Kind, Handle, residue, word_bytes, called}
 use Rattle.nfs3_types.specs.declared.values.handle.Handle as declared
 use Rattle.canon3.specs.machinery.MessageWriter.{AreFew, Before, IsNotedAs, IsNotedMessage, in_front_of, items_of_writer, WriterRests, WriterStands}
 use Rattle.canon3.proofs.Lemmas.Canonical.CanonicalStreamLemmas.{items_after-push}
@@ -222,7 +221,7 @@ module _ {S H : Type 0} (n : MessageWriter S H) (noted : Noted) where
   unfolding OpensMessage
   opens s keeps all rests going =
       let b = rests going in
-      let mtype = Word head_names.mtype (word_of s.is_reply) in
+      let mtype = Word (called "mtype") (word_of s.is_reply) in
       record {
         before = b.before;
         items = start_items s;
@@ -230,7 +229,7 @@ module _ {S H : Type 0} (n : MessageWriter S H) (noted : Noted) where
             ap (λ (l : List Item). l ++ start_items s) b.are
             ∙ sym (items_of_writer-append b.before [] (start_items s));
         under_way = record {
-          name = head_names.xid;
+          name = (called "xid");
           xid = s.xid;
           rest = mtype ∷ [];
           begins = refl;
@@ -238,7 +237,7 @@ module _ {S H : Type 0} (n : MessageWriter S H) (noted : Noted) where
           verifiers = rw append-nil b.holds.verifiers;
           noted =
               λ few. notes_kept n.patches noted (mtype ∷ []) 4
-              (word_fixed head_names.mtype (word_of s.is_reply)) keeps [] []
+              (word_fixed (called "mtype") (word_of s.is_reply)) keeps [] []
               (noted_none n.patches b.fresh);
         };
       }

@@ -117,8 +117,7 @@ module _ (context : Position) where
         streams = streams;
         calls = calls;
         replies = replies;
-        whole =
-            record { front = front; last = last; split = split; client = first; server = h.closed };
+        whole = (front, last, split, first, h.closed);
         converses = conversed streams calls replies holds h.holds;
         at_is = omega (lengths, ap length split);
         total_is = omega (arith, h.total_is);
@@ -255,21 +254,20 @@ module _ (context : Position) where
       (entries : List Entry) → ClosesConnection version context bytes at total entries
       → opening_taken version context bytes ≡ Stops (Closes at total entries)
   opening_closes One bytes at total entries h =
-      let w = h.whole in
+      let (front, last, split, client, server) = h.whole in
       let holds = calls_hold h.streams h.calls h.replies h.converses in
-      rw h.entries_are (after_two _ _ w.front w.last w.split
-      (turned w.front h.streams.client h.calls w.client holds (omega (arith, h.fits, h.total_is)))
-      (stops_inside (in_server context.connection h.calls) w.last 0
-      (siding_from (context.start + length w.front) (context.before + length h.streams.client))
-      (side_closes (the_replies h.calls) Server (server_position context w.front h.streams.client)
-      w.last
-      at total h.replies
+      rw h.entries_are (after_two _ _ front last split
+      (turned front h.streams.client h.calls client holds (omega (arith, h.fits, h.total_is)))
+      (stops_inside (in_server context.connection h.calls) last 0
+      (siding_from (context.start + length front) (context.before + length h.streams.client))
+      (side_closes (the_replies h.calls) Server (server_position context front h.streams.client)
+      last at total h.replies
       (record {
         stream = h.streams.server;
-        closed = w.server;
+        closed = server;
         holds = replies_hold h.streams h.calls h.replies h.converses;
         fits = h.fits;
-        at_is = omega (lengths, ap length w.split);
+        at_is = omega (lengths, ap length split);
         total_is = omega (arith, h.total_is);
       }))))
   opening_closes Two bytes at total entries h =

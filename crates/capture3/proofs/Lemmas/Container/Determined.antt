@@ -1,5 +1,5 @@
 -- A file tells its version and its streams: it is a capture of them in one way.
-use Rattle.capture3.proofs.Common.{◌≡◌, ℕ, ◌<◌, List, [], ◌∷◌, ◌++◌, length, get_or, refl, sym, ap, ap₂, subst, ◌∙◌, append_assoc, arith, concat, IsWord, Joins, number, Side, Client, Server, IsChunk, IsStream, Entry, Typed, Streams, side_word, IsSidedChunk, gathered, AreMixed, Version, One, Two, magic, AreInTurn, AreStreams, IsConnection, IsCapture, HaveSameEntries}
+use Rattle.capture3.proofs.Common.{◌≡◌, ℕ, ◌<◌, List, [], ◌∷◌, ◌++◌, length, get_or, refl, sym, ap, ap₂, subst, ◌∙◌, append_assoc, arith, concat, IsWord, Joins, number, Side, Client, Server, IsChunk, IsStream, Entry, Typed, Streams, side_word, IsSidedChunk, gathered, AreMixed, Version, One, Two, magic, AreStreams, IsConnection, IsCapture, HaveSameEntries}
 use Rattle.capture3.proofs.Lemmas.Files.FileMachineLemmas.{length_magic}
 
 -- bytes tell which thing they begin with, and what comes after it
@@ -123,16 +123,15 @@ stream_told a b r s x y is_a is_b e =
     (parts a b is_a.front is_b.front is_a.last is_b.last r s is_a.split is_b.split e) in
     (is_a.chunks.carried ∙ ap concat all.0 ∙ sym is_b.chunks.carried, all.1)
 
-in_turn_told : IsDetermined AreInTurn
-in_turn_told a b r s x y is_a is_b e =
-    let client =
-    stream_told is_a.front is_b.front (is_a.last ++ r) (is_b.last ++ s) x.client y.client
-    is_a.client is_b.client
-    (parts a b is_a.front is_b.front is_a.last is_b.last r s is_a.split is_b.split e) in
-    let server =
-    stream_told is_a.last is_b.last r s x.server y.server is_a.server is_b.server client.1 in (
-      ap₂ (λ (c : List ℕ) (z : List ℕ). record { client = c; server = z }) client.0 server.0,
-      server.1,
+in_turn_told : IsDetermined (AreStreams One)
+in_turn_told a b r s x y (front, last, split, client, server)
+    (others, more, parted, other_client, other_server) e =
+    let first =
+    stream_told front others (last ++ r) (more ++ s) x.client y.client client other_client
+    (parts a b front others last more r s split parted e) in
+    let second = stream_told last more r s x.server y.server server other_server first.1 in (
+      ap₂ (λ (c : List ℕ) (z : List ℕ). record { client = c; server = z }) first.0 second.0,
+      second.1,
     )
 
 mixed_told : IsDetermined AreMixed
@@ -165,19 +164,24 @@ same_version Two Two e = refl
 same_version One Two e = absurd (omega (arith, ap (λ (l : List ℕ). get_or l 7 0) e))
 same_version Two One e = absurd (omega (arith, ap (λ (l : List ℕ). get_or l 7 0) e))
 
+after_magic : (version : Version) (file : List ℕ) (connections : List Streams)
+    (h : IsCapture version file connections) → file ≡ magic version ++ (h.bytes ++ h.last)
+after_magic version file connections h =
+    h.split ∙ append_assoc (magic version) h.bytes h.last
+
 version_told : (version other : Version) (file : List ℕ) (connections others : List Streams)
     → IsCapture version file connections → IsCapture other file others → version ≡ other
 version_told version other file connections others h k =
     same_version version other (same_front (magic version) (magic other) (h.bytes ++ h.last)
     (k.bytes ++ k.last) (length_magic version ∙ sym (length_magic other))
-    (sym h.split ∙ k.split)).0
+    (sym (after_magic version file connections h) ∙ after_magic other file others k)).0
 
 connections_told : (version : Version) (file : List ℕ) (connections others : List Streams)
     → IsCapture version file connections → IsCapture version file others → connections ≡ others
 connections_told version file connections others h k =
     let rest =
     same_front (magic version) (magic version) (h.bytes ++ h.last) (k.bytes ++ k.last) refl
-    (sym h.split ∙ k.split) in
+    (sym (after_magic version file connections h) ∙ after_magic version file others k) in
     (all_told (IsConnection version) (connection_told version) (connection_begins version)
     connections others h.bytes k.bytes h.last k.last [] [] h.joined k.joined h.closes k.closes
     (sym (append_assoc h.bytes h.last []) ∙ ap (λ (z : List ℕ). z ++ []) rest.1

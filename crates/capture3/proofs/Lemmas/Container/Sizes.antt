@@ -87,13 +87,13 @@ connection_size : (version : Version) (bytes : List ℕ) (streams : Streams)
     → IsConnection version bytes streams
     → length bytes ≤ words_size version + chunk_size version * size streams
 connection_size One bytes streams h =
-    let both = h.both in
+    let (front, last, split, client, server) = h.both in
     omega (
       lengths,
       ap length h.split,
-      ap length both.split,
-      stream_size both.front streams.client both.client,
-      stream_size both.last streams.server both.server,
+      ap length split,
+      stream_size front streams.client client,
+      stream_size last streams.server server,
     )
 connection_size Two bytes streams h =
     omega (lengths, ap length h.split, mixed_size h.rest streams h.both)

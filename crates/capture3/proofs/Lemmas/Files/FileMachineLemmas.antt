@@ -52,6 +52,10 @@ total_size-snoc (s ∷ connections) streams =
 
 -- ---- in the magic
 
+pub magic_parts : (version : Version) → magic_front ++ digit version ∷ [] ≡ magic version
+magic_parts One = refl
+magic_parts Two = refl
+
 module _ (bytes : List ℕ) (byte : ℕ) where
   at_more : length bytes + 1 ≡ length (bytes ++ byte ∷ [])
   at_more = omega lengths
@@ -66,7 +70,7 @@ module _ (bytes : List ℕ) (byte : ℕ) where
         rest = [];
         split =
             ap₂ (λ (b : List ℕ) (n : ℕ). b ++ n ∷ []) (sym (append-nil bytes) ∙ sym begins) is
-            ∙ sym (append-nil (magic version));
+            ∙ magic_parts version ∙ sym (append-nil (magic version));
         joined = refl;
         messages = refl;
         few = omega arith;
@@ -81,7 +85,7 @@ module _ (bytes : List ℕ) (byte : ℕ) where
       let same =
       append_cancel_left bytes (due ∷ more ++ digit other ∷ []) (expected ∷ rest)
       (sym (append_assoc bytes (due ∷ more) (digit other ∷ []))
-      ∙ ap (λ (b : List ℕ). b ++ digit other ∷ []) (sym begins) ∙ others) in
+      ∙ ap (λ (b : List ℕ). b ++ digit other ∷ []) (sym begins) ∙ magic_parts other ∙ others) in
       cc
 
   other_digits : (other : Version) (expected : ℕ) (rest : List ℕ) → magic_front ≡ bytes ++ []
@@ -94,7 +98,7 @@ module _ (bytes : List ℕ) (byte : ℕ) where
           let same =
           append_cancel_left bytes (digit other ∷ []) (expected ∷ rest)
           (ap (λ (b : List ℕ). b ++ digit other ∷ []) (sym (append-nil bytes) ∙ sym begins)
-          ∙ others) in
+          ∙ magic_parts other ∙ others) in
           cc
 
       go : (v : Version) → expected ≡ digit v → ⊥
@@ -428,7 +432,7 @@ pub magic_stops : (version : Version) (bytes front more : List ℕ) (byte due : 
 magic_stops version bytes front more byte due split begins differs =
     let at_is : 0 + length front ≡ length front = omega arith in
     let fault_is = ap (λ n. Stops (refusal (file_fault n BadMagic))) at_is in
-    elim (magic_split magic_front front (digit version) due more begins) [
+    elim (magic_split magic_front front (digit version) due more (magic_parts version ∙ begins)) [
       | inl l ↦
           after_two _ _ front (byte ∷ []) split
           (magic_runs front (due ∷ l.0) 0 magic_front l.1)

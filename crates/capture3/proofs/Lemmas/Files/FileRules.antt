@@ -155,19 +155,18 @@ module _ (context : Position) where
       → AreStreams version bytes streams
       → ClosedConnection (context.start + length bytes) (context.before + size streams)
       (opening_taken version context bytes)
-  connection_or One bytes streams h =
-      let end_is : context.start + length h.front + length h.last ≡ context.start + length bytes =
-      omega (lengths, ap length h.split) in
+  connection_or One bytes streams (front, last, split, client, server) =
+      let end_is : context.start + length front + length last ≡ context.start + length bytes =
+      omega (lengths, ap length split) in
       let sum_is : context.before + length streams.client + length streams.server
       ≡ context.before + size streams =
       omega arith in
-      comes_on _ _ h.front h.last h.split (turned_or h.front streams.client h.client)
+      comes_on _ _ front last split (turned_or front streams.client client)
       (λ calls.
-      comes_inside (in_server context.connection calls.0) h.last 0
-      (siding_from (context.start + length h.front) (context.before + length streams.client))
-      (side_closed_or (the_replies calls.0) Server (server_position context h.front streams.client)
-      h.last
-      streams.server h.server)
+      comes_inside (in_server context.connection calls.0) last 0
+      (siding_from (context.start + length front) (context.before + length streams.client))
+      (side_closed_or (the_replies calls.0) Server (server_position context front streams.client)
+      last streams.server server)
       (λ replies.
       At (connection_entries calls.0 replies.0)
       (ap₂ (λ n m. Stops (Closes n m (connection_entries calls.0 replies.0))) end_is sum_is)))

@@ -1,9 +1,9 @@
 -- Bodies of calls and of replies, judged from left to right, against what they are.
-use Rattle.capture3.proofs.Common.{WrongSide, XidConflict, Stop, reads_whole, ProcId, call_layout, call_start, reply_layout, reply_start, procedure_in, arguments_of, results_of, calls_in_turn, replies_to, judge_replies, Item, Word, AreBytes, Spells, ◌>>=◌, reading, refused, complete, head_names, ◌≡◌, ◌≢◌, ◌⊎◌, ℕ, ◌+◌, Bool, true, false, cond, nat_eq, IsTrue, List, [], ◌∷◌, ◌++◌, length, drop, Option, Some, None, Result, Ok, Err, refl, sym, ap, ap₂, subst, ◌∙◌, append_assoc, inl, inr, arith, eqb-true, eq-eqb, ◌&&◌, Layout, ReadsLayout, word_in, Spells-split, ReplyItems, IsCall, xid_in, procedure_of, Starts, AcceptsCall, RefusesCall, AReply, BadCall, LongCall, OtherCall, AcceptsReply, RefusesReply, ACall, Unasked, BadReply, LongReply}
+use Rattle.capture3.proofs.Common.{WrongSide, XidConflict, Stop, reads_whole, ProcId, call_layout, start_of_type, reply_layout, procedure_in, arguments_of, results_of, calls_in_turn, replies_to, judge_replies, Item, Word, AreBytes, Spells, ◌>>=◌, reading, refused, complete, called, ◌≡◌, ◌≢◌, ◌⊎◌, ℕ, ◌+◌, Bool, true, false, cond, nat_eq, IsTrue, List, [], ◌∷◌, ◌++◌, length, drop, Option, Some, None, Result, Ok, Err, refl, sym, ap, ap₂, subst, ◌∙◌, append_assoc, inl, inr, arith, eqb-true, eq-eqb, ◌&&◌, Layout, ReadsLayout, word_in, Spells-split, ReplyItems, IsCall, xid_in, procedure_of, Starts, AcceptsCall, RefusesCall, AReply, BadCall, LongCall, OtherCall, AcceptsReply, RefusesReply, ACall, Unasked, BadReply, LongReply}
 use Rattle.xdr3.specs.Shape.{Fits, Reads, Refuses, ◌then◌, is_listed, listed, word}
 use Rattle.xdr3.proofs.Lemmas.Reading.Bytes.{ok_is}
 use Rattle.xdr3.proofs.Lemmas.Reading.Decided.{both_ways}
-use Rattle.rpc_head.specs.Shapes.{message_start, message_types}
+use Rattle.rpc_head.specs.Shapes.{message_start}
 use Rattle.capture3.specs.Bodies as bodies
 use Rattle.capture3.specs.BodyProgram.{read_whole, is_same, agrees, agreed, call_after, answering, reply_after, judge_call, judge_reply}
 use Rattle.capture3.proofs.Lemmas.Messages.BodyProgramLemmas.{Judged, by_result}
@@ -15,7 +15,7 @@ use Rattle.capture3.proofs.Lemmas.Messages.Layouts.{whole_read, refused_read, mo
 
 -- the items of a message's start
 abbrev pub start_of : ℕ → ℕ → List Item
-start_of xid mtype = Word head_names.xid xid ∷ Word head_names.mtype mtype ∷ []
+start_of xid mtype = Word (called "xid") xid ∷ Word (called "mtype") mtype ∷ []
 
 -- the start is read, and it is these two words
 pub start_read : (body : List ℕ) (xid mtype : ℕ) → Starts body xid mtype
@@ -44,16 +44,16 @@ listed_fits name words items f =
 
 -- a start has two words
 pub two_words : (words : List ℕ) (items : List Item)
-    → Fits (word head_names.xid then listed head_names.mtype words) items
+    → Fits (word (called "xid") then listed (called "mtype") words) items
     → (xid : ℕ) × (mtype : ℕ) × IsTrue (is_listed words mtype) × (items ≡ start_of xid mtype)
 two_words words items f =
-    let x = word_fits head_names.xid f.0 f.2 in
-    let m = listed_fits head_names.mtype words f.1 f.3 in (
+    let x = word_fits (called "xid") f.0 f.2 in
+    let m = listed_fits (called "mtype") words f.1 f.3 in (
       x.0,
       m.0,
       m.1,
       f.4 ∙ ap (λ (b : List Item). b ++ f.1) x.1
-          ∙ ap (λ (b : List Item). Word head_names.xid x.0 ∷ b) m.2,
+          ∙ ap (λ (b : List Item). Word (called "xid") x.0 ∷ b) m.2,
     )
 
 -- an mtype that is listed
@@ -68,9 +68,9 @@ zero_or_one n h = grind (arith, h)
 
 -- a message that begins with the start has its xid and its mtype
 starts_of : (mtype : ℕ) (body front left : List ℕ) (items xs ys zs : List Item)
-    → IsTrue (is_listed message_types mtype)
+    → IsTrue (is_listed (0 ∷ 1 ∷ []) mtype)
     → ((n : ℕ) → IsTrue (is_listed (mtype ∷ []) n) → n ≡ mtype)
-    → Fits (word head_names.xid then listed head_names.mtype (mtype ∷ [])) xs
+    → Fits (word (called "xid") then listed (called "mtype") (mtype ∷ [])) xs
     → Spells (xs ++ ys) front → body ≡ front ++ left → items ≡ (xs ++ ys) ++ zs
     → Starts body (xid_in items) mtype
 unfolding message_start
@@ -83,8 +83,8 @@ starts_of mtype body front left items xs ys zs known only fits spells whole is =
       record {
         front = p.0;
         fits = (
-          Word head_names.xid (xid_in items) ∷ [],
-          Word head_names.mtype mtype ∷ [],
+          Word (called "xid") (xid_in items) ∷ [],
+          Word (called "mtype") mtype ∷ [],
           (xid_in items, [], refl, refl, refl),
           (mtype, [], known, refl, refl),
           refl,
@@ -98,7 +98,7 @@ starts_of mtype body front left items xs ys zs known only fits spells whole is =
 
 pub call_starts : (body : List ℕ) (items : List Item) (left : List ℕ)
     → ReadsLayout (call_layout arguments_of) body items left → Starts body (xid_in items) 0
-unfolding call_layout call_start
+unfolding call_layout start_of_type
 call_starts body items left r =
     let p = r.3.fits in
     starts_of 0 body r.3.front r.2 items p.0 p.1 r.1 refl only_zero p.2 (rw p.4 at r.3.spells)
@@ -106,7 +106,7 @@ call_starts body items left r =
 
 pub reply_starts : (results : Layout) (body : List ℕ) (items : List Item) (left : List ℕ)
     → ReadsLayout (reply_layout results) body items left → Starts body (xid_in items) 1
-unfolding reply_layout reply_start
+unfolding reply_layout start_of_type
 reply_starts results body items left r =
     let p = r.3.fits in
     starts_of 1 body r.3.front r.2 items p.0 p.1 r.1 refl only_one p.2 (rw p.4 at r.3.spells)
@@ -125,7 +125,7 @@ pub is_started : (body : List ℕ) (start : List Item) (to : ℕ) → AreBytes b
 unfolding message_start
 is_started body start to are e =
     let r = (((both_ways message_start body 0 are (omega arith)).reads start to).0 e).reads in
-    let two = two_words message_types start r.fits in
+    let two = two_words (0 ∷ 1 ∷ []) start r.fits in
     record {
       xid = two.0;
       mtype = two.1;

@@ -3,8 +3,8 @@ use Rattle.capture3.proofs.Common.{◌≡◌, ◌⊎◌, inl, inr, arith, ℕ, L
 use Rattle.std.specs.Prelude.{if◌then◌else◌}
 use Rattle.xdr3.specs.Shape.{Shape, Fits, Refuses, ◌then◌, nothing}
 use Rattle.xdr3.proofs.Lemmas.Shapes.ShapeParts.{parts_weaker, row_weaker}
-use Rattle.rpc_head.specs.Messages.{call_layout, call_start, has_results, procedure_in, reply_layout, reply_start}
-use Rattle.procs3.proofs.HeadParts.{after_version, after_version_parts, call_start_parts, message_start_parts, reply_head_parts, reply_start_parts}
+use Rattle.rpc_head.specs.Messages.{call_layout, start_of_type, has_results, procedure_in, reply_layout}
+use Rattle.procs3.proofs.HeadParts.{after_version, after_version_parts, message_start_parts, reply_head_parts, start_parts}
 use Rattle.procs3.proofs.ProcedureParts.{IsProtocolRow, arguments_have_parts, reply_has_parts}
 use Rattle.procs3.proofs.ProtocolParts.{AreProtocolParts, IsProtocolPart}
 use Rattle.capture3.proofs.Lemmas.Messages.BodiesLemmas.{start_of, two_words}
@@ -33,7 +33,7 @@ pub reply_refused_for : (id : ProcId) (bytes : List ℕ) (at : ℕ) (reason : Re
     → RefusesLayout (reply_layout (results_of id)) bytes at reason → IsOfItem reason
 unfolding reply_layout
 reply_refused_for id bytes at reason (inl p) =
-    shape_refused_for (reply_start then reply_head) (reply_start_parts, reply_head_parts) bytes at
+    shape_refused_for (start_of_type 1 then reply_head) (start_parts 1, reply_head_parts) bytes at
     reason p
 reply_refused_for id bytes at reason (inr (front, fits, p)) =
     layout_refused_for (if has_results front then results_of id else exactly nothing)
@@ -42,9 +42,9 @@ reply_refused_for id bytes at reason (inr (front, fits, p)) =
 -- ---- calls
 
 -- a call begins with two words
-start_size : (items : List Item) (front : List ℕ) → Fits call_start items → Spells items front
-    → length front ≡ 8
-unfolding call_start
+start_size : (items : List Item) (front : List ℕ) → Fits (start_of_type 0) items
+    → Spells items front → length front ≡ 8
+unfolding start_of_type
 start_size items front fits spells =
     let two = two_words (0 ∷ []) items fits in
     omega (
@@ -59,7 +59,7 @@ pub call_refused_for : (bytes : List ℕ) (at : ℕ) (reason : Reason)
     → IsOfItem reason ⊎ ((reason ≡ RpcVersion) × (at ≡ 8))
 unfolding call_layout call_head
 call_refused_for bytes at reason (inl (inl p)) =
-    inl (shape_refused_for call_start call_start_parts bytes at reason p)
+    inl (shape_refused_for (start_of_type 0) (start_parts 0) bytes at reason p)
 call_refused_for bytes at reason (inl (inr p)) = version p.7
   where
     version : Refuses call_head p.2 p.3 reason

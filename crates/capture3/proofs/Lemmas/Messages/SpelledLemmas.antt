@@ -1,5 +1,5 @@
 -- A body that spells a message is read without a stop, and as a message of that procedure.
-use Rattle.capture3.proofs.Common.{◌≡◌, ℕ, Bool, true, false, cond, List, [], ◌∷◌, Some, None, Result, Ok, Err, ap, ◌∙◌, eq-eqb, Stop, reading, reads_whole, ProcId, MessageStart, call_layout, reply_layout, procedure_in, message_start, start_items, arguments_of, results_of, judge_call, judge_reply, read_whole, SpellsCall, SpellsReply, Item, Word, head_names, IsCall, IsReply, Starts, ∥∥₁_elim, xid_in, procedure_of}
+use Rattle.capture3.proofs.Common.{◌≡◌, ℕ, Bool, true, false, cond, List, [], ◌∷◌, Some, None, Result, Ok, Err, ap, ◌∙◌, eq-eqb, Stop, reading, reads_whole, ProcId, MessageStart, call_layout, reply_layout, procedure_in, message_start, start_items, arguments_of, results_of, judge_call, judge_reply, read_whole, SpellsCall, SpellsReply, Item, Word, called, IsCall, IsReply, Starts, ∥∥₁_elim, xid_in, procedure_of}
 use Rattle.capture3.proofs.Lemmas.Messages.BodiesLemmas.{call_accepts, call_starts, reply_accepts, reply_starts, start_of, start_read}
 use Rattle.capture3.proofs.Lemmas.Messages.Layouts.{whole_read}
 use mathlib.Core.HLevel.{⊥_prop}
@@ -72,9 +72,9 @@ one_reply id body a b p q =
 -- the items of some call with this xid and procedure
 abbrev pub asking : ℕ → ProcId → List Item
 asking xid id =
-    Word head_names.xid xid ∷ Word head_names.mtype 0 ∷ Word head_names.rpcvers 2
-    ∷ Word head_names.prog id.prog ∷ Word head_names.vers id.vers
-    ∷ Word head_names.proc id.proc_no ∷ []
+    Word (called "xid") xid ∷ Word (called "mtype") 0 ∷ Word (called "rpcvers") 2
+    ∷ Word (called "prog") id.prog ∷ Word (called "vers") id.vers
+    ∷ Word (called "proc") id.proc_no ∷ []
 
 pub reply_never_stops : (id : ProcId) (body : List ℕ) (xid : ℕ) (own : ProcId) (stop : Stop)
     → own ≡ id

@@ -3,7 +3,7 @@ pub use Rattle.capture3.proofs.Lemmas.Messages.BodiesLemmas.{is_same_self, same_
 pub use Rattle.capture3.proofs.Lemmas.Messages.MessageScanLemmas.{error_stops, stop_stops}
 pub use Rattle.capture3.specs.Bodies.{IsCall, IsReply, procedure_of, xid_in}
 unfoldable pub use Rattle.capture3.specs.BodyProgram.{judge_call, judge_reply}
-unfoldable pub use Rattle.nfs3_types.specs.Names.{names}
+unfoldable pub use Rattle.xdr3.specs.Item.{called}
 pub use Rattle.rpc_head.specs.Calls.{call_head_items}
 pub use Rattle.rpc_head.specs.Replies.{reply_head_items}
 pub use Rattle.std.proofs.Common.{Bool, Err, IfErr, List, None, Ok, Result, Some, [], ap, append-nil, arith, cond, eq-eqb, length, refl, subst, sym, true, ℕ, ◌∙◌, ◌∷◌, ◌≡◌, ◌≢◌}

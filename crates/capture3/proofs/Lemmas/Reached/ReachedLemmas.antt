@@ -2,7 +2,7 @@
 use Rattle.capture3.proofs.Common.{◌≡◌, inl, inr, ℕ, suc, ◌+◌, List, [], ◌∷◌, ◌++◌, length, map, refl, sym, ap, ◌∙◌, append_assoc, append-nil, arith, BeginsStream, next_position, server_position, calls_in_turn, replies_to, ReachesInside, AreWhole, InMagic, BetweenConnections, InConnection, Reading, Judgement, HoldsSoFar, Position, reply_entry, Version, One, Two, digit, magic_front, magic, total_size, parsing_in, reading_with, Opening, InClient, InServer, InMixed, opening_entries, Siding}
 use Rattle.capture3.specs.Entry.{Entry, Begin, Call, Turn}
 use Rattle.capture3.specs.FileMachine.{Mark, Ended, Parsing, emitted, magic_left, spot_entries}
-use Rattle.capture3.proofs.Lemmas.Files.FileMachineLemmas.{Stands, AtMagic, AtMark, AtInside, AtEnd, at_mark, inside_at, magic_split}
+use Rattle.capture3.proofs.Lemmas.Files.FileMachineLemmas.{Stands, AtMagic, AtMark, AtInside, AtEnd, at_mark, inside_at, magic_parts, magic_split}
 use Rattle.capture3.proofs.Lemmas.Container.SidedChunksMachineLemmas.{mixed_state}
 use Rattle.capture3.proofs.Lemmas.Connections.ConnectionMachineLemmas.{HasOpening}
 use Rattle.capture3.proofs.Lemmas.Sides.SideMachineLemmas.{HasSide, side_state}
@@ -141,7 +141,7 @@ magic_stands bytes version [] e = record {
   emits = refl;
 }
 magic_stands bytes version (due ∷ more) e =
-    elim (magic_split magic_front bytes (digit version) due more e) [
+    elim (magic_split magic_front bytes (digit version) due more (magic_parts version ∙ e)) [
       | inl l ↦ part_stands bytes (due ∷ l.0) l.1
       | inr r ↦ part_stands bytes [] (r ∙ sym (append-nil bytes))
     ]

@@ -1,19 +1,18 @@
 -- A step of the reader returns a kind; the calls above it lend the entry.
-use Rattle.capture3.proofs.Common.{◌≡◌, inl, inr, ap, subst, sym, refl, ℕ, Option, None, Some, Result, Ok, Err, IfSome, IsSome, List, [], ◌∷◌, ◌++◌, Error, Entry, Kind, Item}
+use Rattle.capture3.proofs.Common.{◌≡◌, ap, subst, sym, refl, ℕ, Option, None, Some, Result, Ok, Err, IfSome, IsSome, List, [], ◌∷◌, ◌++◌, Error, Entry, Kind, Item}
 use Rattle.std.specs.declared.hash.BuildHasher as BuildHasher
 use Rattle.std.specs.declared.hash.Hasher as Hasher
-use Rattle.capture3.specs.declared.fault.Error.TheVariants.{Memory}
 use Rattle.capture3.specs.declared.reader.entries.Entries.{Entries}
 use Rattle.capture3.specs.declared.reader.entry.LentEntry.{LentEntry}
 use Rattle.capture3.specs.declared.reader.entry_ref.EntryRef.{EntryRef}
-use Rattle.capture3.specs.Entries.{KeepsErrors, UsesSource, failure_of, last_of}
+use Rattle.capture3.specs.Entries.{KeepsErrors, UsesSource}
 use Rattle.capture3.specs.Handing.{HandsOutGiven}
 use Rattle.capture3.specs.Kept.{IsLent, kind_of}
 use Rattle.capture3.specs.Lending.{IsNextLent, LendsNext}
 use Rattle.capture3.specs.MessageVisit.{Hears}
 use Rattle.capture3.specs.Numbering.{number_after, number_lent}
 use Rattle.capture3.specs.ReadAs.{IsReadAs, kind_of_read}
-use Rattle.capture3.specs.ReadEntries.{PassesOver, ReadsNext}
+use Rattle.capture3.specs.ReadEntries.{ReadsNext}
 use Rattle.capture3.specs.Observed.{Observed}
 use Rattle.capture3.specs.machinery.EntriesHistory.{LeavesKind, StandsFor}
 use Rattle.capture3.specs.machinery.Stepping.{IsNextOfKind, kind_lent, kind_read}
@@ -67,14 +66,6 @@ module _ {R S H : Type 0} {builds : BuildHasher.Ghosts S H} {hashes : Hasher.Gho
         same_block = u.same_block;
         same_reference = u.same_reference;
       }
-
-  -- no error came before a step that succeeds
-  went_on : {X : Type 0} (x : X) → KeepsErrors old new (Ok x) → failure_of old ≡ None
-  went_on x k = by_failure (failure_of old) refl
-    where
-      by_failure : (failure : Option Error) → failure_of old ≡ failure → failure_of old ≡ None
-      by_failure None is = is
-      by_failure (Some error) is = let same : Ok x ≡ Err error = k.again error is in absurd (cc)
 
   module _ {V : Type 0} (rests stands : V → List Item → Type 0) (was now : V) where
     -- what the step said of each history for which the reader stood
@@ -165,22 +156,22 @@ module _ {R S H : Type 0} {builds : BuildHasher.Ghosts S H} {hashes : Hasher.Gho
     reads_kind None answers is_read left =
         record {
           answers = λ given handed s.
-              inl (none_handed (IsNextOfKind (Hears rests stands was now)) (λ before. IsReadAs)
-              given handed (answers given handed s));
+              none_handed (IsNextOfKind (Hears rests stands was now)) (λ before. IsReadAs)
+              given handed (answers given handed s);
           end = λ same. absurd (cc);
           over = λ over_now. (refl, (left.over over_now).1);
           fewer = λ some. absurd (cc);
-          errors = inl (errors_kept None None left.errors);
+          errors = errors_kept None None left.errors;
           device = source_used None None left.device;
         }
     reads_kind (Some next) answers is_read left =
         record {
           answers = λ given handed s.
-              inl (read_of (kind_of_read next) next given handed (answers given handed s) is_read);
+              read_of (kind_of_read next) next given handed (answers given handed s) is_read;
           end = λ same. left.end (ap kind_read_in same);
           over = λ over_now. absurd (let none = (left.over over_now).0 in cc);
           fewer = left.fewer;
-          errors = inl (errors_kept (Some (kind_of_read next)) (Some next) left.errors);
+          errors = errors_kept (Some (kind_of_read next)) (Some next) left.errors;
           device = source_used (Some (kind_of_read next)) (Some next) left.device;
         }
 
@@ -191,37 +182,3 @@ module _ {R S H : Type 0} {builds : BuildHasher.Ghosts S H} {hashes : Hasher.Gho
     reads next last same answers is_read left =
         reads_kind next (subst Answers (sym same) answers) is_read
         (subst (λ kind. LeavesKind failures old new was now (Ok kind)) (sym same) left)
-
-    passed_over : (last : Option Kind) → IsSome last → (given : List ℕ) (handed : List Entry)
-        → HandsOutGiven observed (IsNextOfKind (Hears rests stands was now)) old new given handed
-        (Ok last) → PassesOver observed old new given handed
-    passed_over None none given handed h = absurd (cc)
-    passed_over (Some kind) some given handed h =
-        let (entry, is, reached, stands_for) = h.hands_out in
-        record {
-          more = h.more;
-          consumed = h.consumed;
-          entry = entry;
-          reached = reached;
-          stands = stands_for;
-        }
-
-    -- memory ran out for the value
-    pub reads_over : IsSome (last_of new) → Answers (last_of new)
-        → LeavesKind failures old new was now (Ok (last_of new))
-        → ReadsNext observed failures old (Err Memory) new
-    reads_over some answers left =
-        record {
-          answers = λ given handed s.
-              inr (refl, passed_over (last_of new) some given handed (answers given handed s));
-          end = λ same. absurd (cc);
-          over = λ over_now. absurd (let none = (left.over over_now).0 in cc);
-          fewer = tt;
-          errors = inr (refl, went_on (last_of new) left.errors, left.errors.going);
-          device = record {
-            read = left.device.read;
-            write = λ same. absurd (cc);
-            same_block = left.device.same_block;
-            same_reference = left.device.same_reference;
-          };
-        }

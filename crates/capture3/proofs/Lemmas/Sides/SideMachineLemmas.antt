@@ -1,5 +1,6 @@
 -- The machine for one side against chunks, records and messages.
 use Rattle.capture3.proofs.Common.{lengths, ◌≡◌, inl, inr, ℕ, zero, suc, ◌+◌, ◌<◌, ◌≤◌, List, [], ◌∷◌, ◌++◌, length, refl, sym, ap, ap₂, ◌∙◌, append_assoc, append-nil, arith, nat_lt, ltb-true, ltb-false, le-ltb, concat, Ends, Run, Runs, Stops, landed, after, IsWord, Joins, word_next, Joining, Between, Header, Bytes, IsOpen, AreBytes, RecordCut, max_bytes, IsChunk, AreChunks, BeginsStream, IsStream, Judgement, Holds, RecordFault, Side, Fault, SideShows, PassesBytes, CutsRecord, ShowsRecord, CutsOpen, fault_at, Reading, stream_next, unread, Position, place_at, Leads, leads_within, after-append, ran_to, IsPart, word_leads, Joins-snoc, siding_from, siding_in, reading_with, concat-snoc, WithinChunk}
+use Rattle.record_mark.proofs.Takings.{opened}
 use Rattle.capture3.specs.SideMachine.{Length, Chunk, Siding, SideEnd, SideCloses, SideRefuses, awaiting, closing, counted, side_next}
 use Rattle.capture3.proofs.Lemmas.Connections.RankLemmas.{by_test}
 use Rattle.capture3.proofs.Lemmas.Container.BytesOf.{split_bytes, AreBytes-append, chunk_bytes}
@@ -108,9 +109,11 @@ module _ {M : Type 0} (judge : Judged M) (side : Side) (position : Position) whe
         fits = fits;
       }
   closing_ends bytes stream closed messages (Header body part) read fits =
-      open_cut bytes stream body closed read (inl (part, read.joined))
+      open_cut bytes stream body closed read
+      (opened read.last body (Header body part) refl read.joined)
   closing_ends bytes stream closed messages (Bytes body last left) read fits =
-      open_cut bytes stream body closed read (inr (last, left, read.joined))
+      open_cut bytes stream body closed read
+      (opened read.last body (Bytes body last left) refl read.joined)
 
   counted_leads : (bytes front header stream : List ℕ) (reading : Reading M) (n : ℕ)
       → bytes ≡ front ++ header → AreChunks front stream

@@ -1,24 +1,15 @@
 -- A rule of one side: where it holds of bytes, the machine stops with its fault, or had stopped
 -- before.
-use Rattle.capture3.proofs.Common.{lengths, ◌≡◌, inl, inr, ℕ, zero, suc, ◌+◌, ◌<◌, ◌≤◌, List, [], ◌∷◌, ◌++◌, length, refl, sym, ap, ap₂, ◌∙◌, append_assoc, arith, nat_lt, ltb-false, lt-ltb, concat, Run, Runs, Stops, Stopped, landed, Joining, Between, Header, Bytes, IsWord, Joins, after-append, TooManyBytes, RecordCut, Fault, max_bytes, IsChunk, AreChunks, IsStream, Reading, unread, siding_in, reading_with, IsOpen, HasJoined, RecordFault, fault_at, IsCut, CutsOpen, Position, Side, file_fault, place_at, PassesBytes, CutsRecord, ShowsRecord, SideShows, Siding, SideEnd, SideCloses, SideRefuses, awaiting, closing, counted}
+use Rattle.capture3.proofs.Common.{lengths, ◌≡◌, inl, inr, ℕ, zero, suc, ◌+◌, ◌<◌, ◌≤◌, List, [], ◌∷◌, ◌++◌, length, refl, sym, ap, ap₂, ◌∙◌, append_assoc, arith, nat_lt, ltb-false, lt-ltb, concat, Run, Runs, Stops, Stopped, landed, Joining, Between, Header, Bytes, IsWord, Joins, after-append, TooManyBytes, RecordCut, Fault, max_bytes, IsChunk, AreChunks, IsStream, Reading, unread, siding_in, reading_with, RecordFault, fault_at, IsCut, CutsOpen, Position, Side, file_fault, place_at, PassesBytes, CutsRecord, ShowsRecord, SideShows, Siding, SideEnd, SideCloses, SideRefuses, awaiting, closing, counted}
+use Rattle.record_mark.proofs.Takings.{IsIn, open_in}
 use Rattle.capture3.proofs.Lemmas.Messages.BodyProgramLemmas.{Judged}
 use Rattle.capture3.proofs.Lemmas.Connections.RankLemmas.{by_test}
-use Rattle.capture3.proofs.Lemmas.Files.EndedMachines.{Over, Comes, At, Fails, after_two, comes_on, over_on, gone_inside, over_inside, runs_inside, runs_not_gone}
+use Rattle.capture3.proofs.Lemmas.Files.EndedMachines.{Over, Comes, At, Fails, after_two, comes_on, over_on, gone_inside, over_inside, runs_inside}
 use Rattle.capture3.proofs.Lemmas.Sides.SideMachineLemmas.{AnyFault, RefusedSide, at_length, in_chunk, length_runs, side_after, side_taken}
 use Rattle.capture3.proofs.Lemmas.Sides.StreamMachineLemmas.{shown_stops, stream_after, stream_runs}
 
 word_some : (word : List ℕ) (n : ℕ) → IsWord word n → 0 < length word
 word_some word n h = omega (arith, h.0)
-
--- the machine in an open record
-abbrev IsIn : List ℕ → Joining → Type 0
-IsIn body Between = ⊥
-IsIn body (Header other part) = other ≡ body
-IsIn body (Bytes other last left) = other ≡ body
-
-open_in : (last body : List ℕ) → IsOpen last body → (j : Joining) × IsIn body j × HasJoined last j
-open_in last body (inl o) = (Header body o.0, refl, o.1)
-open_in last body (inr o) = (Bytes body o.0 o.1, refl, o.2)
 
 -- a stream's machine runs, or it has stopped
 reads_or : {M : Type 0} (run : Run (Reading M) RecordFault)

@@ -1,5 +1,6 @@
 -- A whole stream, with its messages or its first fault.
-use Rattle.capture3.proofs.Common.{◌≡◌, inl, inr, ℕ, List, [], ◌∷◌, ◌++◌, refl, sym, ap, ◌∙◌, append_assoc, append-nil, Ok, Ends, Run, Runs, Stops, Stopped, after, landed, last_running, Joining, Between, Header, Bytes, Joined, Whole, TooLong, join_next, AreBytes, RecordTooLong, Judgement, Holds, RecordFault, fault_at, FirstRecordFault, RefusesRecord, PassesLimit, CutsOpen, record_stops, too_long_stops, Judge, Reading, judged, recorded, stream_next, unread, StreamEnd, Held, Faulty, left_in, end_of, rest_end, stream_end, reading_with, HasJoined, Tells, after-append, after_stopped, nested_last, nested_runs, nested_stops, last_running-append, last_stopped}
+use Rattle.capture3.proofs.Common.{◌≡◌, inl, inr, ℕ, List, [], ◌∷◌, ◌++◌, length, refl, sym, ap, ◌∙◌, append_assoc, append-nil, Ok, Ends, Run, Runs, Stops, Stopped, after, landed, last_running, Joining, Between, Header, Bytes, Joined, Whole, TooLong, join_next, AreBytes, RecordTooLong, RecordCut, Judgement, Holds, RecordFault, fault_at, FirstRecordFault, RefusesRecord, PassesLimit, CutsOpen, record_stops, too_long_stops, Judge, Reading, judged, recorded, stream_next, unread, StreamEnd, Held, Faulty, left_in, end_of, rest_end, stream_end, reading_with, HasJoined, Tells, after-append, after_stopped, nested_last, nested_runs, nested_stops, last_running-append, last_stopped}
+use Rattle.record_mark.proofs.Takings.{IsIn, open_in, opened}
 use Rattle.capture3.proofs.Lemmas.Messages.BodyProgramLemmas.{Judged}
 use Rattle.capture3.proofs.Lemmas.Sides.StreamMachineLemmas.{HasRead, ShowsFault, stream_leads, between_holds, nothing_read, held_runs, stream_runs}
 use Rattle.capture3.proofs.Lemmas.Files.Telling.{tells_bytes}
@@ -108,10 +109,8 @@ stream_ends judge stream (Faulty messages fault) (inl (
     (fault_at messages at RecordTooLong) holds (too_long_stops last at long) refl)
 stream_ends {M} judge stream (Faulty messages fault)
     (inr (CutsOpen front last body split holds is_open is)) =
-    elim is_open [
-      | inl o ↦ at_joining (Header body o.0) o.1 ∙ ap (Faulty messages) (sym is)
-      | inr o ↦ at_joining (Bytes body o.0 o.1) o.2 ∙ ap (Faulty messages) (sym is)
-    ]
+    let o = open_in last body is_open in
+    at_joining o.0 o.2 ∙ left_open o.0 o.1 ∙ ap (Faulty messages) (sym is)
   where
     at_joining : (j : Joining) → HasJoined last j
         → stream_end judge.decide stream ≡ left_in messages j
@@ -119,14 +118,22 @@ stream_ends {M} judge stream (Faulty messages fault)
         rw (stream_runs judge stream (reading_with messages j)
         (record { front = front; last = last; split = split; holds = holds; joined = joined }))
 
+    left_open : (j : Joining) → IsIn body j
+        → left_in messages j ≡ Faulty messages (fault_at messages (length body) RecordCut)
+    left_open Between h = absurd h
+    left_open (Header other part) h = rw h refl
+    left_open (Bytes other more left) h = rw h refl
+
 left_ends : {M : Type 0} (judge : Judgement M) (stream : List ℕ) (messages : List M)
     (joining : Joining) → HasRead judge stream (reading_with messages joining)
     → EndsStream judge stream (left_in messages joining)
 left_ends judge stream messages Between h = between_holds judge stream messages h
 left_ends judge stream messages (Header body part) h =
-    inr (CutsOpen h.front h.last body h.split h.holds (inl (part, h.joined)) refl)
+    inr (CutsOpen h.front h.last body h.split h.holds
+    (opened h.last body (Header body part) refl h.joined) refl)
 left_ends judge stream messages (Bytes body last left) h =
-    inr (CutsOpen h.front h.last body h.split h.holds (inr (last, left, h.joined)) refl)
+    inr (CutsOpen h.front h.last body h.split h.holds
+    (opened h.last body (Bytes body last left) refl h.joined) refl)
 
 -- it ends in one way that holds
 ends_somehow : {M : Type 0} (judge : Judged M) (stream : List ℕ) (run : Run (Reading M) RecordFault)

@@ -1,5 +1,6 @@
 -- The machine for a stream against records and messages.
-use Rattle.capture3.proofs.Common.{◌≡◌, inl, inr, ℕ, List, [], ◌∷◌, ◌++◌, refl, sym, ap, subst, ◌∙◌, append_assoc, append-nil, Result, Ok, Err, Run, Runs, Stops, landed, after, Leads, leads_within, after-append, nested_runs, nested_stops, Joins-snoc, AreBytes, Stop, Reading, judged, recorded, stream_next, unread, joined_body, reading_with, IsRecord, IsUnfinished, Marks, Joining, Between, Header, Bytes, Joined, Whole, TooLong, join_next, HasJoined, EndsRecord, join_leads, record_stops, joining_runs, Judgement, AreMessages, Holds, HoldsSoFar, RecordFault, RefusesRecord, PassesLimit, StreamShows, too_long_stops}
+use Rattle.capture3.proofs.Common.{◌≡◌, ℕ, List, [], ◌∷◌, ◌++◌, refl, sym, ap, subst, ◌∙◌, append_assoc, append-nil, Result, Ok, Err, Run, Runs, Stops, landed, after, Leads, leads_within, after-append, nested_runs, nested_stops, Joins-snoc, AreBytes, Stop, Reading, judged, recorded, stream_next, unread, joined_body, reading_with, IsRecord, Marks, Joining, Between, Joined, Whole, TooLong, join_next, HasJoined, EndsRecord, join_leads, record_stops, joining_runs, Judgement, AreMessages, Holds, HoldsSoFar, RecordFault, RefusesRecord, PassesLimit, StreamShows, too_long_stops}
+use Rattle.record_mark.proofs.Takings.{standing, unfinished}
 use Rattle.capture3.proofs.Lemmas.Container.BytesOf.{split_bytes, record_bytes}
 use Rattle.capture3.proofs.Lemmas.Messages.BodyProgramLemmas.{Judged}
 
@@ -184,24 +185,20 @@ shown_stops judge stream messages fault (PassesLimit front last at split holds l
 
 -- ---- what is not whole
 
--- where the machine stands in an unfinished record
-pub has_joined : (last body : List ℕ) → IsUnfinished last body → (j : Joining) × HasJoined last j
-has_joined last body (inl none) = (Between, none.0)
-has_joined last body (inr (inl o)) = (Header body o.0, o.1)
-has_joined last body (inr (inr o)) = (Bytes body o.0 o.1, o.2)
-
-pub is_unfinished : (last : List ℕ) (j : Joining) → HasJoined last j
-    → IsUnfinished last (joined_body j)
-is_unfinished last Between h = inl (h, refl)
-is_unfinished last (Header body part) h = inr (inl (part, h))
-is_unfinished last (Bytes body l left) h = inr (inr (l, left, h))
-
 pub has_read : {M : Type 0} (judge : Judgement M) (stream : List ℕ) (messages : List M)
     → HoldsSoFar judge stream messages
     → (j : Joining) × HasRead judge stream (reading_with messages j)
 has_read judge stream messages h =
-    let j = has_joined h.last h.body h.unfinished in
-    (j.0, record { front = h.front; last = h.last; split = h.split; holds = h.holds; joined = j.1 })
+    let is = standing h.last h.body h.unfinished in (
+      is.joining,
+      record {
+        front = h.front;
+        last = h.last;
+        split = h.split;
+        holds = h.holds;
+        joined = is.joined;
+      },
+    )
 
 pub holds_so_far : {M : Type 0} (judge : Judgement M) (stream : List ℕ) (s : Reading M)
     → HasRead judge stream s → HoldsSoFar judge stream s.messages
@@ -212,5 +209,5 @@ holds_so_far judge stream s h =
       body = joined_body s.joining;
       split = h.split;
       holds = h.holds;
-      unfinished = is_unfinished h.last s.joining h.joined;
+      unfinished = unfinished h.last s.joining h.joined;
     }

@@ -202,14 +202,14 @@ impl Counts {
             streams joining result }
     {
         match (n, so_far) {
-            (0, None) => Ok(self.stream_closed(side, count)),
+            (0, None) => Ok(self.after_stream(side, count)),
             (0, Some(byte)) => Err(self.next_record_fault(side, byte, Reason::RecordCut)),
             _ => self.chunk_opened(count, n, Spot::Chunk(side, n)),
         }
     }
 
     /// Returns the position after a stream's word 0, if no record is open.
-    fn stream_closed(self, side: Side, count: usize) -> Transition
+    fn after_stream(self, side: Side, count: usize) -> Transition
         requires sound { IsSoundBefore self (WordOf.Length side) }
         ensures count { result.count ≡ count }
         ensures steps { StepsOver self (WordOf.Length side) result }

@@ -1,5 +1,5 @@
 -- Fields whose classes are known by their names.
-use Rattle.masking3.proofs.Common.{◌≡◌, ℕ, ◌+◌, true, false, List, [], ◌∷◌, ◌++◌, refl, sym, ap, ap₂, ◌∙◌, subst, by_test, and_parts, bytes_eq, bytes_eq-Decides, drop, map, list_all, AllByRecursion, Option, None, Some, Item, Word, Hyper, Class, ItemSpot, Ways, head_names, names, class_of, class_of_hyper, class_of_word, class_value, big_number, substitute, value_where, values_in, masked_items, with_text, with_value, handle_in, handles_in, next_spot, spot_after, Way, Keep, Number, way_of, InCall, Owners}
+use Rattle.masking3.proofs.Common.{◌≡◌, ℕ, ◌+◌, true, false, List, [], ◌∷◌, ◌++◌, refl, sym, ap, ap₂, ◌∙◌, subst, by_test, and_parts, bytes_eq, bytes_eq-Decides, drop, map, list_all, AllByRecursion, Option, None, Some, Item, Word, Hyper, Class, ItemSpot, Ways, called, class_of, class_of_hyper, class_of_word, class_value, big_number, substitute, value_where, values_in, masked_items, with_text, with_value, handle_in, handles_in, next_spot, spot_after, Way, Keep, Number, way_of, InCall, Owners}
 use Rattle.std.proofs.lemmas.List.{drop-drop}
 use Rattle.std.specs.List.{list_any}
 use Rattle.xdr3.specs.declared.plain.PlainField.{PlainField}
@@ -26,21 +26,21 @@ module _ (name : List ℕ) (free : is_free_name name ≡ true) where
   none_of (other ∷ others) (f, all) = rw (apart other f, none_of others all) refl
 
   free_classless : (spot : ItemSpot) → class_of_word spot name ≡ None
-  unfolding names head_names
+  unfolding called
   free_classless spot =
       rw (
         none_of names_of_times (refl, (refl, (refl, (refl, (refl, (refl, tt)))))),
-        none_of (head_names.stamp ∷ []) (refl, tt),
-        none_of (names.invarsec ∷ []) (refl, tt),
+        none_of ((called "stamp") ∷ []) (refl, tt),
+        none_of ((called "invarsec") ∷ []) (refl, tt),
         none_of names_of_owners (refl, (refl, tt)),
-        none_of (head_names.group ∷ []) (refl, tt),
-        none_of (names.nlink ∷ []) (refl, tt),
+        none_of ((called "group") ∷ []) (refl, tt),
+        none_of ((called "nlink") ∷ []) (refl, tt),
       ) refl
 
   free_moves_not : (spot : ItemSpot) (n : ℕ) → next_spot spot (Word name n) ≡ spot
-  unfolding names head_names
+  unfolding called
   free_moves_not spot n =
-      still_name spot name n (apart names.before refl) (apart names.type refl)
+      still_name spot name n (apart (called "before") refl) (apart (called "type") refl)
 
 -- the class is none, or that of users and groups
 abbrev IsOwned : Option Class → Type 0
@@ -56,8 +56,9 @@ group_owned InCall d is = cc
 group_owned spot d is = absurd cc
 
 is_owner : (own name : List ℕ) → bytes_eq name own ≡ true
-    → ((spot : ItemSpot) → IsOwned (class_of_word spot own)) → bytes_eq own names.before ≡ false
-    → bytes_eq own names.type ≡ false → IsOwnerName name
+    → ((spot : ItemSpot) → IsOwned (class_of_word spot own))
+    → bytes_eq own (called "before") ≡ false
+    → bytes_eq own (called "type") ≡ false → IsOwnerName name
 is_owner own name t owned f g =
     subst IsOwnerName (sym ((bytes_eq-Decides name own).0 t)) (record {
       owned = owned;
@@ -65,13 +66,13 @@ is_owner own name t owned f g =
     })
 
 among_owners : (name : List ℕ) → is_one_of owner_names name ≡ true → IsOwnerName name
-unfolding names head_names
-among_owners name t = by_test (bytes_eq name names.uid)
-    (λ u. is_owner names.uid name u (λ spot d is. cc) refl refl)
-    (λ u. by_test (bytes_eq name names.gid)
-    (λ g. is_owner names.gid name g (λ spot d is. cc) refl refl)
-    (λ g. by_test (bytes_eq name head_names.group)
-    (λ r. is_owner head_names.group name r group_owned refl refl)
+unfolding called
+among_owners name t = by_test (bytes_eq name (called "uid"))
+    (λ u. is_owner (called "uid") name u (λ spot d is. cc) refl refl)
+    (λ u. by_test (bytes_eq name (called "gid"))
+    (λ g. is_owner (called "gid") name g (λ spot d is. cc) refl refl)
+    (λ g. by_test (bytes_eq name (called "group"))
+    (λ r. is_owner (called "group") name r group_owned refl refl)
     (λ r. let none : is_one_of owner_names name ≡ false = rw (u, g, r) refl in
     absurd (cc (t, none)))))
 
@@ -178,7 +179,7 @@ kept_run owners (fields.Hyper name ∷ more) bytes t = absurd cc
 
 pub free_name_is_kept : (owners : Way) (name : List ℕ) → is_free_name name ≡ true
     → is_kept_name owners name ≡ true
-unfolding names head_names
+unfolding called
 free_name_is_kept owners name t = rw (none_of name t owner_names (refl, (refl, (refl, tt)))) t
 
 -- ---- attributes
@@ -227,6 +228,6 @@ known_hyper at spot own name n same known =
     rw same (sym known, sym (still_after spot (Hyper name n) tt))
 
 pub known : (spot : ItemSpot) (own : Option Class) (name : List ℕ) → class_of_word spot name ≡ own
-    → bytes_eq name names.before ≡ false → bytes_eq name names.type ≡ false
+    → bytes_eq name (called "before") ≡ false → bytes_eq name (called "type") ≡ false
     → IsKnown spot own name
 known spot own name is f g = (is, λ n. still_name spot name n f g)

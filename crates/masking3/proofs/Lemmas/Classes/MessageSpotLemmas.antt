@@ -1,5 +1,5 @@
 -- How messages begin, by their sides.
-use Rattle.masking3.proofs.Common.{◌≡◌, ℕ, Bool, true, false, List, [], ◌∷◌, ◌++◌, refl, sym, ap, ap₂, ◌∙◌, subst, arith, Decides-eqb, Item, Word, ProcId, head_names, Side, Client, Server, Entry, Call, Reply, FitsCall, FitsReply, is_headed_call, is_headed_reply, by_test, ⊤, ◌==◌, ◌||◌, IsTrue, is_listed, listed, Fits, BeginsOn, mtype_of, side_by}
+use Rattle.masking3.proofs.Common.{◌≡◌, ℕ, Bool, true, false, List, [], ◌∷◌, ◌++◌, refl, sym, ap, ap₂, ◌∙◌, subst, arith, Decides-eqb, Item, Word, ProcId, called, Side, Client, Server, Entry, Call, Reply, FitsCall, FitsReply, is_headed_call, is_headed_reply, by_test, ⊤, ◌==◌, ◌||◌, IsTrue, is_listed, listed, Fits, BeginsOn, mtype_of, side_by}
 use Rattle.xdr3.specs.View.{word_of}
 
 listed_is : (k n : ℕ) → IsTrue (is_listed (k ∷ []) n) → n ≡ k
@@ -9,15 +9,15 @@ listed_is k n a = by_test (k == n)
     absurd (cc none))
 
 begins_at : (side : Side) (x : ℕ) (items start head back : List Item)
-    → items ≡ Word head_names.xid x ∷ ((start ++ head) ++ back)
-    → Fits (listed head_names.mtype (mtype_of side ∷ [])) start → BeginsOn side items
+    → items ≡ Word (called "xid") x ∷ ((start ++ head) ++ back)
+    → Fits (listed (called "mtype") (mtype_of side ∷ [])) start → BeginsOn side items
 begins_at side x items start head back is p =
     let mtype : p.0 ≡ mtype_of side = listed_is (mtype_of side) p.0 p.2 in
-    let start_is : start ≡ Word head_names.mtype (mtype_of side) ∷ [] =
-    p.4 ∙ ap₂ (λ (n : ℕ) (l : List Item). Word head_names.mtype n ∷ l) mtype p.3 in (
+    let start_is : start ≡ Word (called "mtype") (mtype_of side) ∷ [] =
+    p.4 ∙ ap₂ (λ (n : ℕ) (l : List Item). Word (called "mtype") n ∷ l) mtype p.3 in (
       x,
       head ++ back,
-      is ∙ ap (λ (l : List Item). Word head_names.xid x ∷ ((l ++ head) ++ back)) start_is,
+      is ∙ ap (λ (l : List Item). Word (called "xid") x ∷ ((l ++ head) ++ back)) start_is,
     )
 
 pub begins_call : (items : List Item) → FitsCall items → BeginsOn Client items

@@ -1,5 +1,5 @@
 -- Where the items of a message stand.
-use Rattle.masking3.proofs.Common.{◌≡◌, ℕ, false, true, List, [], ◌∷◌, ◌++◌, refl, sym, ap, ◌∙◌, subst, append_assoc, bytes_eq-Decides, Item, Word, head_names, names, Side, Client, Server, by_test, cond_either, Class, ItemSpot, InCall, InReply, InDirectory, InWcc, Ways, class_of, class_of_word, masked_item, masked_items, value_in, values_in, ⊤, ◌==◌, bytes_eq, None, Some, after_word, next_spot, spot_after}
+use Rattle.masking3.proofs.Common.{◌≡◌, ℕ, false, true, List, [], ◌∷◌, ◌++◌, refl, sym, ap, ◌∙◌, subst, append_assoc, bytes_eq-Decides, Item, Word, called, Side, Client, Server, by_test, cond_either, Class, ItemSpot, InCall, InReply, InDirectory, InWcc, Ways, class_of, class_of_word, masked_item, masked_items, value_in, values_in, ⊤, ◌==◌, bytes_eq, None, Some, after_word, next_spot, spot_after}
 
 -- what is so of the spot, and of those after words, is so of the next one
 by_next : (P : ItemSpot → Type 0) (spot : ItemSpot) (i : Item) → P spot
@@ -19,12 +19,12 @@ pub still_after : (spot : ItemSpot) (i : Item) → IsNoWord i → next_spot spot
 still_after spot i other =
     by_next (λ s. s ≡ spot) spot i refl (λ name n e. absurd (subst IsNoWord e other))
 
-before_free : (spot : ItemSpot) → class_of_word spot names.before ≡ None
-unfolding names head_names
+before_free : (spot : ItemSpot) → class_of_word spot (called "before") ≡ None
+unfolding called
 before_free spot = refl
 
-type_free : (spot : ItemSpot) → class_of_word spot names.type ≡ None
-unfolding names head_names
+type_free : (spot : ItemSpot) → class_of_word spot (called "type") ≡ None
+unfolding called
 type_free spot = refl
 
 pub free_name : (spot : ItemSpot) (name free : List ℕ) → class_of_word spot free ≡ None
@@ -36,10 +36,10 @@ free_name spot name free none t =
 word_still : (spot : ItemSpot) (name : List ℕ) (n : ℕ) (d : Class)
     → class_of_word spot name ≡ Some d
     → after_word spot name n ≡ spot
-word_still spot name n d is = by_test (bytes_eq name names.before)
-    (λ t. absurd (cc (is, free_name spot name names.before (before_free spot) t)))
-    (λ f. by_test (bytes_eq name names.type)
-    (λ t. absurd (cc (is, free_name spot name names.type (type_free spot) t)))
+word_still spot name n d is = by_test (bytes_eq name (called "before"))
+    (λ t. absurd (cc (is, free_name spot name (called "before") (before_free spot) t)))
+    (λ f. by_test (bytes_eq name (called "type"))
+    (λ t. absurd (cc (is, free_name spot name (called "type") (type_free spot) t)))
     (λ g. rw (f, g) refl))
 
 -- an item of a class
@@ -50,8 +50,8 @@ still spot i d is =
     (λ name n e. word_still spot name n d (subst (λ k. class_of spot k ≡ Some d) e is))
 
 -- a word that is neither a `before` nor a `type` moves nowhere
-pub still_name : (spot : ItemSpot) (name : List ℕ) (n : ℕ) → bytes_eq name names.before ≡ false
-    → bytes_eq name names.type ≡ false → next_spot spot (Word name n) ≡ spot
+pub still_name : (spot : ItemSpot) (name : List ℕ) (n : ℕ) → bytes_eq name (called "before") ≡ false
+    → bytes_eq name (called "type") ≡ false → next_spot spot (Word name n) ≡ spot
 still_name InCall name n f g = refl
 still_name InReply name n f g = rw (f, g) refl
 still_name InDirectory name n f g = rw (f, g) refl
@@ -62,20 +62,20 @@ pub record IsFree (name : List ℕ) : Type 0 where
   pub classless : (spot : ItemSpot) → class_of_word spot name ≡ None
   pub moves_not : (spot : ItemSpot) (n : ℕ) → next_spot spot (Word name n) ≡ spot
 
-pub xid_free : IsFree head_names.xid
-unfolding names head_names
+pub xid_free : IsFree (called "xid")
+unfolding called
 xid_free =
     record {
       classless = λ spot. refl;
-      moves_not = λ spot n. still_name spot head_names.xid n refl refl;
+      moves_not = λ spot n. still_name spot (called "xid") n refl refl;
     }
 
-pub mtype_free : IsFree head_names.mtype
-unfolding names head_names
+pub mtype_free : IsFree (called "mtype")
+unfolding called
 mtype_free =
     record {
       classless = λ spot. refl;
-      moves_not = λ spot n. still_name spot head_names.mtype n refl refl;
+      moves_not = λ spot n. still_name spot (called "mtype") n refl refl;
     }
 
 -- ---- the spots of each side
@@ -90,8 +90,9 @@ IsOn _ _ = ⊥
 word_on : (spot : ItemSpot) (name : List ℕ) (n : ℕ) → IsOn Server spot
     → IsOn Server (after_word spot name n)
 word_on spot name n on =
-    cond_either (IsOn Server) (bytes_eq name names.before) tt
-    (cond_either (IsOn Server) (bytes_eq name names.type) (cond_either (IsOn Server) (n == 2) tt tt)
+    cond_either (IsOn Server) (bytes_eq name (called "before")) tt
+    (cond_either (IsOn Server) (bytes_eq name (called "type"))
+    (cond_either (IsOn Server) (n == 2) tt tt)
     on)
 
 pub on_next : (side : Side) (spot : ItemSpot) (i : Item) → IsOn side spot

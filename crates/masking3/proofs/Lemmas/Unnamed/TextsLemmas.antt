@@ -1,5 +1,5 @@
 -- Masked texts, apart from the values that are masked.
-use Rattle.masking3.proofs.Common.{◌≡◌, ℕ, ◌+◌, ◌≤◌, List, [], ◌∷◌, length, map, refl, sym, ap, ◌∙◌, arith, ◌==◌, bytes_eq, Option, None, Some, Decides-eqb, Item, Opaque, Text, residue, names, by_test, Class, ItemSpot, Way, Keep, Ways, class_of, class_value, KeepsAll, MasksAsMuch, RevealsNoMore, way_of, Machines, Raw, SillyNames, masked_item, masked_items, substitute, values_in, with_value, next_spot, emptied, less_by, text_size, and_parts, host_by, is_silly_name, silly_by, raw_by, text_by, with_text, zero_name, length-replicate, replicate, Rest}
+use Rattle.masking3.proofs.Common.{◌≡◌, ℕ, ◌+◌, ◌≤◌, List, [], ◌∷◌, length, map, refl, sym, ap, ◌∙◌, arith, ◌==◌, bytes_eq, Option, None, Some, Decides-eqb, Item, Opaque, Text, residue, called, by_test, Class, ItemSpot, Way, Keep, Ways, class_of, class_value, KeepsAll, MasksAsMuch, RevealsNoMore, way_of, Machines, Raw, SillyNames, masked_item, masked_items, substitute, values_in, with_value, next_spot, emptied, less_by, text_size, and_parts, host_by, is_silly_name, silly_by, raw_by, text_by, with_text, zero_name, length-replicate, replicate, Rest}
 use Rattle.masking3.proofs.Lemmas.Classes.SpotLemmas.{still_after}
 
 -- ---- an item and its masked text
@@ -95,9 +95,9 @@ pub by_name : (name : List ℕ) (P : (Ways → List ℕ → List ℕ) → Type 0
     → P (λ ways b. host_by (way_of ways Machines) b)
     → P (λ ways b. b) → P (λ ways b. text_by ways name b)
 by_name name P file host other =
-    by_test (bytes_eq name names.name)
+    by_test (bytes_eq name (called "name"))
     (λ t. rw t file)
-    (λ f. by_test (bytes_eq name names.hostname) (λ t. rw (f, t) host) (λ g. rw (f, g) other))
+    (λ f. by_test (bytes_eq name (called "hostname")) (λ t. rw (f, t) host) (λ g. rw (f, g) other))
 
 pub text_shorter : (ways : Ways) (name b : List ℕ) → length (text_by ways name b) ≤ length b
 text_shorter ways name b =

@@ -1,7 +1,7 @@
 -- Calls without the names of machines are calls of the same procedures, and no longer.
 use Rattle.std.proofs.lemmas.Bool.Decides.{nat_tests}
 use Rattle.xdr3.proofs.Lemmas.Reading.Decided.{zero_spelled_all}
-use Rattle.masking3.proofs.Common.{◌≡◌, ℕ, zero, suc, ◌+◌, ◌-◌, ◌<◌, ◌≤◌, true, List, [], ◌∷◌, ◌++◌, length, refl, ap, sym, ◌∙◌, subst, arith, length-append, ◌==◌, IsTrue, bytes_eq, if◌then◌else◌, length-replicate, bytes_eq-Decides, procedure_in, head_names, arguments_of, xid_in, FitsCall, headed_call_fits, is_headed_call, Keep, Way, Item, Word, Opaque, Var, Text, Spells, residue, zero_spelling, FitsLayout, word_in, Shape, ◌then◌, is_listed, listed, opaque, word, Fits, after_first, named_by, unnamed_credential, unnamed_items, body_by, unnamed_body, auth_sys, call_head, credential, credential_flavors, gids, parameters, rpc_versions, verifier}
+use Rattle.masking3.proofs.Common.{◌≡◌, ℕ, zero, suc, ◌+◌, ◌-◌, ◌<◌, ◌≤◌, true, List, [], ◌∷◌, ◌++◌, length, refl, ap, sym, ◌∙◌, subst, arith, length-append, ◌==◌, IsTrue, bytes_eq, if◌then◌else◌, length-replicate, bytes_eq-Decides, procedure_in, called, arguments_of, xid_in, FitsCall, headed_call_fits, is_headed_call, Keep, Way, Item, Word, Opaque, Var, Text, Spells, residue, zero_spelling, FitsLayout, word_in, Shape, ◌then◌, is_listed, listed, opaque, word, Fits, after_first, named_by, unnamed_credential, unnamed_items, body_by, unnamed_body, auth_sys, call_head, credential, gids, parameters, verifier}
 use Rattle.canon3.proofs.Lemmas.Changes.Messages.{four_words, mtype_is}
 use Rattle.masking3.proofs.Lemmas.Unnamed.UnnamedSpellings.{unnamed_spelled}
 use Rattle.masking3.proofs.Lemmas.Unnamed.UnnamedBodyLemmas.{not_spliced, spliced}
@@ -13,23 +13,24 @@ words_stay : (n : ℕ) (l : List Item) (i : ℕ) → i < n
     → word_in (after_first n unnamed_credential l) i ≡ word_in l i
 words_stay (suc n) (x ∷ l) (suc i) low = words_stay n l i (omega (arith, low))
 words_stay zero l i low = absurd (omega (arith, low))
+words_stay n (Word name k ∷ l) i low = refl
 words_stay n l i low = refl
 
 -- ---- the head of a call
 
 -- what follows the name of the machine
 abbrev owners : Shape
-owners = word head_names.uid then word head_names.gid then gids
+owners = word (called "uid") then word (called "gid") then gids
 
 -- the parameters, from the stamp on
 abbrev stamped : (stamp : ℕ) (name : List ℕ) → List Item → List Item
 stamped stamp name more =
-    Word head_names.stamp stamp ∷ Opaque Text head_names.machinename name ∷ more
+    Word (called "stamp") stamp ∷ Opaque Text (called "machinename") name ∷ more
 
 -- an AUTH_SYS credential with these parameters, and its verifier
 abbrev auth_with : List Item → List Item → List Item
 auth_with inner last =
-    Word head_names.cred_flavor 1 ∷ Word head_names.cred_length (length (zero_spelling inner))
+    Word (called "cred_flavor") 1 ∷ Word (called "cred_length") (length (zero_spelling inner))
     ∷ (inner ++ last)
 
 word_fits : (name : List ℕ) (s : Shape) (n : ℕ) (rest : List Item) → Fits s rest
@@ -39,18 +40,18 @@ word_fits name s n rest fit = (_, _, (n, [], refl, refl, refl), fit, refl)
 -- what is so with a credential of no parameters, and with an AUTH_SYS credential, is so of a head
 module _ (P : List Item → Type 0)
     (plain : (version prog vers proc flavor : ℕ) (body verf_body : List ℕ)
-    → P (four_words version prog vers proc (Word head_names.cred_flavor 0
-    ∷ Opaque Var head_names.cred_body body ∷ Word head_names.verf_flavor flavor
-    ∷ Opaque Var head_names.verf_body verf_body ∷ [])))
+    → P (four_words version prog vers proc (Word (called "cred_flavor") 0
+    ∷ Opaque Var (called "cred_body") body ∷ Word (called "verf_flavor") flavor
+    ∷ Opaque Var (called "verf_body") verf_body ∷ [])))
     (named : (version prog vers proc stamp : ℕ) (name : List ℕ) (more last : List Item)
-    → IsTrue (is_listed rpc_versions version) → length name ≤ 255 → Fits owners more
+    → IsTrue (is_listed (2 ∷ []) version) → length name ≤ 255 → Fits owners more
     → length (zero_spelling (stamped stamp name more)) ≤ 400 → Fits verifier last
     → P (four_words version prog vers proc (auth_with (stamped stamp name more) last))) where
   by_flavor : (version prog vers proc flavor : ℕ) (body last : List Item)
-      → IsTrue (is_listed rpc_versions version) → IsTrue (is_listed credential_flavors flavor)
-      → Fits (if flavor == 0 then opaque Var head_names.cred_body 400 else auth_sys) body
+      → IsTrue (is_listed (2 ∷ []) version) → IsTrue (is_listed (0 ∷ 1 ∷ []) flavor)
+      → Fits (if flavor == 0 then opaque Var (called "cred_body") 400 else auth_sys) body
       → Fits verifier last
-      → P (four_words version prog vers proc (Word head_names.cred_flavor flavor ∷ (body ++ last)))
+      → P (four_words version prog vers proc (Word (called "cred_flavor") flavor ∷ (body ++ last)))
   unfolding auth_sys parameters verifier
   by_flavor version prog vers proc zero body last a f c v =
       rw (c.2, v.4, v.3.2) (plain version prog vers proc v.0 c.0 v.3.0)
@@ -77,8 +78,8 @@ module _ (P : List Item → Type 0)
 
 -- ---- the head without the name
 
-same_name : bytes_eq head_names.cred_length head_names.cred_length ≡ true
-same_name = (bytes_eq-Decides head_names.cred_length head_names.cred_length).1 refl
+same_name : bytes_eq (called "cred_length") (called "cred_length") ≡ true
+same_name = (bytes_eq-Decides (called "cred_length") (called "cred_length")).1 refl
 
 size_less : (stamp : ℕ) (name : List ℕ) (more : List Item)
     → length (zero_spelling (stamped stamp name more)) - (length name + residue (length name))
@@ -101,11 +102,11 @@ unnamed_head head p =
     let less = size_less stamp name more in
     let inner = stamped stamp [] more in
     let few' : length (zero_spelling inner) ≤ 400 = omega (arith, less, few) in
-    let d = opaque Text head_names.machinename 255 then owners in
+    let d = opaque Text (called "machinename") 255 then owners in
     let c = credential then verifier in
-    let b = word head_names.proc then c in
+    let b = word (called "proc") then c in
     let fits : Fits parameters inner =
-    word_fits head_names.stamp d stamp _ (_, more, ([], omega arith, refl), fit, refl) in
+    word_fits (called "stamp") d stamp _ (_, more, ([], omega arith, refl), fit, refl) in
     let back_fits : Fits c (auth_with inner last) =
     (_, last, (1, _, refl, (inner, fits, few', refl), refl), v, refl) in (
       four_words version prog vers proc (auth_with inner last),
@@ -113,8 +114,8 @@ unnamed_head head p =
         version,
         _,
         a,
-        word_fits head_names.prog (word head_names.vers then b) prog _
-            (word_fits head_names.vers b vers _ (word_fits head_names.proc c proc _ back_fits)),
+        word_fits (called "prog") (word (called "vers") then b) prog _
+            (word_fits (called "vers") b vers _ (word_fits (called "proc") c proc _ back_fits)),
         refl,
       ),
       (λ i j. refl),
@@ -128,14 +129,14 @@ call_unnamed m p =
     let h = is_headed_call m p in
     let s = mtype_is (0 ∷ []) h.start h.start_fits in
     let u = unnamed_head h.head h.head_fits in
-    let x = Word head_names.xid h.number in
-    let t = Word head_names.mtype s.0 in
+    let x = Word (called "xid") h.number in
+    let t = Word (called "mtype") s.0 in
     headed_call_fits (unnamed_items m) (record {
       number = h.number;
       start = t ∷ [];
       head = u.0;
       back = h.back;
-      start_fits = subst (Fits (listed head_names.mtype (0 ∷ []))) s.1 h.start_fits;
+      start_fits = subst (Fits (listed (called "mtype") (0 ∷ []))) s.1 h.start_fits;
       head_fits = u.1;
       back_fits =
           subst (λ id. FitsLayout (arguments_of id) h.back)
@@ -155,14 +156,14 @@ call_bytes : (m : List Item) → FitsCall m → IsSpliced m
 call_bytes m p =
     let h = is_headed_call m p in
     let s = mtype_is (0 ∷ []) h.start h.start_fits in
-    let x = Word head_names.xid h.number in
+    let x = Word (called "xid") h.number in
     subst IsSpliced
     (sym (h.is ∙ ap (λ (l : List Item). x ∷ ((l ++ h.head) ++ h.back)) s.1))
-    (by_head (λ l. IsSpliced (x ∷ Word head_names.mtype s.0 ∷ (l ++ h.back)))
+    (by_head (λ l. IsSpliced (x ∷ Word (called "mtype") s.0 ∷ (l ++ h.back)))
     (λ version prog vers proc flavor body verf_body.
-    not_spliced h.number s.0 version prog vers proc (zero_spelling (Opaque Var head_names.cred_body
-    body ∷ Word head_names.verf_flavor flavor
-    ∷ Opaque Var head_names.verf_body verf_body ∷ h.back)))
+    not_spliced h.number s.0 version prog vers proc (zero_spelling (Opaque Var (called "cred_body")
+    body ∷ Word (called "verf_flavor") flavor
+    ∷ Opaque Var (called "verf_body") verf_body ∷ h.back)))
     (λ version prog vers proc stamp name more last a short fit few v.
     spliced h.number s.0 version prog vers proc
     (length (zero_spelling (stamped stamp name more))) stamp name

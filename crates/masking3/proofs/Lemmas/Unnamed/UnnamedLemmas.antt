@@ -1,14 +1,14 @@
 -- Names of machines and masked texts, apart from the values that are masked.
-use Rattle.masking3.proofs.Common.{◌≡◌, ℕ, zero, suc, ◌-◌, true, false, List, [], ◌∷◌, map, refl, sym, ap, ◌∙◌, arith, bytes_eq, Option, None, Some, bytes_eq-Decides, Item, Word, Opaque, Text, head_names, names, Entry, Call, Reply, by_test, Class, ItemSpot, InCall, InReply, Way, Keep, Ways, class_of, class_of_word, class_value, masked_entry, masked_item, masked_items, masked_values, substitute, value_in, values, values_in, values_in_entry, with_value, KeepsAll, MasksAsMuch, RevealsNoMore, way_of, Machines, with_text, after_first, emptied, host_by, less_by, named_by, named_entry, names_by, text_size, unnamed_credential, unnamed_items}
+use Rattle.masking3.proofs.Common.{◌≡◌, ℕ, zero, suc, ◌-◌, true, false, List, [], ◌∷◌, map, refl, sym, ap, ◌∙◌, arith, bytes_eq, Option, None, Some, bytes_eq-Decides, Item, Word, Opaque, Text, called, Entry, Call, Reply, by_test, Class, ItemSpot, InCall, InReply, Way, Keep, Ways, class_of, class_of_word, class_value, masked_entry, masked_item, masked_items, masked_values, substitute, value_in, values, values_in, values_in_entry, with_value, KeepsAll, MasksAsMuch, RevealsNoMore, way_of, Machines, with_text, after_first, emptied, host_by, less_by, named_by, named_entry, names_by, text_size, unnamed_credential, unnamed_items}
 use Rattle.masking3.proofs.Lemmas.Classes.ClassLemmas.{seen_alike}
 use Rattle.masking3.proofs.Lemmas.Unnamed.TextsLemmas.{same_size, text_absorbed, text_emptied, text_less, texts_absorbed, texts_kept, texts_masked, texts_values}
 
 -- ---- the length of a credential is of no class
 
-pub free_length : (spot : ItemSpot) (name : List ℕ) → bytes_eq name head_names.cred_length ≡ true
+pub free_length : (spot : ItemSpot) (name : List ℕ) → bytes_eq name (called "cred_length") ≡ true
     → class_of_word spot name ≡ None
-unfolding names head_names
-free_length spot name t = rw ((bytes_eq-Decides name head_names.cred_length).0 t) refl
+unfolding called
+free_length spot name t = rw ((bytes_eq-Decides name (called "cred_length")).0 t) refl
 
 -- what is so where items stay, and where the name becomes empty, is so of each way
 pub any_way : (P : (List Item → List Item) → Type 0) → P (λ l. l) → P unnamed_items → (way : Way)
@@ -20,7 +20,7 @@ any_way P keep empty way = empty
 
 module _ (d : Class) where
   less_values : (size : ℕ) (i : Item) → value_in d InCall (less_by size i) ≡ value_in d InCall i
-  less_values size (Word name n) = by_test (bytes_eq name head_names.cred_length)
+  less_values size (Word name n) = by_test (bytes_eq name (called "cred_length"))
       (λ t. rw (free_length InCall name t) refl)
       (λ f. rw f refl)
   less_values size i = refl
@@ -53,7 +53,7 @@ module _ (d : Class) where
 
 -- a name that is no length's
 abbrev pub IsNoLength : Item → Type 0
-IsNoLength (Word name n) = bytes_eq name head_names.cred_length ≡ false
+IsNoLength (Word name n) = bytes_eq name (called "cred_length") ≡ false
 IsNoLength _ = Unit
 
 pub less_stays : (n : ℕ) (i : Item) → IsNoLength i → less_by n i ≡ i
@@ -85,7 +85,7 @@ module _ (ways : Ways) (seen : Class → List ℕ) where
   stands i = substitute ways seen (class_of InCall i) (class_value i)
 
   less_masked : (size : ℕ) (i : Item) → under (less_by size i) ≡ less_by size (under i)
-  less_masked size (Word name n) = by_test (bytes_eq name head_names.cred_length)
+  less_masked size (Word name n) = by_test (bytes_eq name (called "cred_length"))
       (λ t. rw (free_length InCall name t) refl)
       (λ f. rw f (sym (less_with size (Word name n) (stands (Word name n)) f)))
   less_masked size i = sym (less_with size i (stands i) tt)
@@ -133,7 +133,7 @@ size_emptied i = refl
 less_nothing : (i : Item) → less_by 0 i ≡ i
 less_nothing (Word name n) =
     let none : n - 0 ≡ n = omega arith in
-    by_test (bytes_eq name head_names.cred_length) (λ t. rw (t, none) refl) (λ f. rw f refl)
+    by_test (bytes_eq name (called "cred_length")) (λ t. rw (t, none) refl) (λ f. rw f refl)
 less_nothing i = refl
 
 emptied_again : (i : Item) → emptied (emptied i) ≡ emptied i

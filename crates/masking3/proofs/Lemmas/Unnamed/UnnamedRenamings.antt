@@ -1,5 +1,5 @@
 -- Captures that are renamed, or whose values change, do so with masked names as well.
-use Rattle.masking3.proofs.Common.{◌≡◌, ⊎_elim, ℕ, zero, suc, List, map, refl, ap, subst, bytes_eq, Option, Item, Word, Opaque, Rest, Text, head_names, Entry, Pairs, by_test, Class, ItemSpot, InCall, InReply, Way, Keep, Ways, class_of, next_spot, with_text, after_first, emptied, less_by, named_by, named_entry, names_by, text_size, unnamed_credential, way_of, AreAlike, words, ChangesOf, ChangesItem, ChangesItems, over, along, ChangesEntry, call, reply, IsPlain, RenamesItem, plain, Pairwise, none, more, RenamesMessage, message, Renames, ended, begins, calls, turns, replies, closes, ends, Same, Machines}
+use Rattle.masking3.proofs.Common.{◌≡◌, ⊎_elim, ℕ, zero, suc, List, map, refl, ap, subst, bytes_eq, Option, Item, Word, Opaque, Rest, Text, called, Entry, Pairs, by_test, Class, ItemSpot, InCall, InReply, Way, Keep, Ways, class_of, next_spot, with_text, after_first, emptied, less_by, named_by, named_entry, names_by, text_size, unnamed_credential, way_of, AreAlike, words, ChangesOf, ChangesItem, ChangesItems, over, along, ChangesEntry, call, reply, IsPlain, RenamesItem, plain, Pairwise, none, more, RenamesMessage, message, Renames, ended, begins, calls, turns, replies, closes, ends, Same, Machines}
 use Rattle.masking3.proofs.Lemmas.Masked.SameButLemmas.{changed_is, same_by_renaming}
 use Rattle.masking3.proofs.Lemmas.Unnamed.TextsLemmas.{by_text, text_spot}
 use Rattle.masking3.proofs.Lemmas.Unnamed.UnnamedLemmas.{IsNoLength, any_way, free_length, less_stays}
@@ -119,7 +119,7 @@ module _ (ways : Ways) (pairs : Class → Pairs ℕ) where
 
   less_changed : (n : ℕ) (i j : Item) → ChangesItem ways pairs InCall i j
       → ChangesItem ways pairs InCall (less_by n i) (less_by n j)
-  less_changed n (Word name m) j h = by_test (bytes_eq name head_names.cred_length)
+  less_changed n (Word name m) j h = by_test (bytes_eq name (called "cred_length"))
       (λ t.
       rw (free_length InCall name t) (ap (less_by n) (rw (free_length InCall name t) at h)))
       (λ f.

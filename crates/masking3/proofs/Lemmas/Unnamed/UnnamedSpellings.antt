@@ -1,5 +1,5 @@
 -- A call without the name of its machine has a spelling, and no longer one.
-use Rattle.masking3.proofs.Common.{◌⊎◌, ◌≡◌, ◌≤◌, inl, inr, none, more, ℕ, zero, suc, List, [], ◌∷◌, length, refl, arith, bytes_eq, head_names, zero_spelled_one, by_test, Item, Word, Opaque, Text, Spells, SpellsItem, zero_spelling, zero_spelling_of, AreBytes-nil, after_first, emptied, length_of_opaque, less_by, text_size, unnamed_credential, unnamed_items}
+use Rattle.masking3.proofs.Common.{◌⊎◌, ◌≡◌, ◌≤◌, inl, inr, none, more, ℕ, zero, suc, List, [], ◌∷◌, length, refl, arith, bytes_eq, called, zero_spelled_one, by_test, Item, Word, Opaque, Text, Spells, SpellsItem, zero_spelling, zero_spelling_of, AreBytes-nil, after_first, emptied, length_of_opaque, less_by, text_size, unnamed_credential, unnamed_items}
 use Rattle.canon3.proofs.Lemmas.Changes.Shapes.{Become, IsSpelledAnew, spelled_anew}
 
 -- an item stays, or it is the length of a credential that is less, or a text without its bytes
@@ -20,7 +20,7 @@ unnamed_become n l = all_same l
 less_spelled : (size : ℕ) (i : Item) (bytes : List ℕ) → SpellsItem i bytes
     → SpellsItem (less_by size i) (zero_spelling_of (less_by size i))
     × (length (zero_spelling_of (less_by size i)) ≤ length (zero_spelling_of i))
-less_spelled size (Word name n) bytes p = by_test (bytes_eq name head_names.cred_length)
+less_spelled size (Word name n) bytes p = by_test (bytes_eq name (called "cred_length"))
     (λ t. rw t ((omega (arith, p.0), refl), omega arith))
     (λ f. rw f ((p.0, refl), omega arith))
 less_spelled size i bytes p = (zero_spelled_one i bytes p, omega arith)

@@ -1,5 +1,5 @@
 -- A message is masked item by item.
-use Rattle.masking3.proofs.Common.{HasMaskedUnderWay, ◌≡◌, ℕ, List, [], ◌∷◌, ◌++◌, length, map, refl, sym, ap, ap₂, ◌∙◌, subst, append_assoc, append-nil, arith, Option, None, Some, flat_map, flat_map-append, map-append, Item, Word, Hyper, zero_spelling, Side, Client, Entry, Begin, Call, Turn, Reply, Close, End, items_of, head_names, ItemSpot, Ways, Class, class_of, class_value, masked_item, masked_items, substitute, value_in, value_where, values_in, with_value, with_text, HoldsAt, HoldsValues, position, with_one, handle_in, handles_in, member-append_right, BeginsOn, first_spot, next_spot, side_by, spot_after, Adds, Keeps, Gathers, HoldsHandles, after_messages, HoldsMasked, HasMemory, MaskRests, MaskStands, visited_items, visited_value, values_so_far}
+use Rattle.masking3.proofs.Common.{HasMaskedUnderWay, ◌≡◌, ℕ, List, [], ◌∷◌, ◌++◌, length, map, refl, sym, ap, ap₂, ◌∙◌, subst, append_assoc, append-nil, arith, Option, None, Some, flat_map, flat_map-append, map-append, Item, Word, Hyper, zero_spelling, Side, Client, Entry, Begin, Call, Turn, Reply, Close, End, items_of, called, ItemSpot, Ways, Class, class_of, class_value, masked_item, masked_items, substitute, value_in, value_where, values_in, with_value, with_text, HoldsAt, HoldsValues, position, with_one, handle_in, handles_in, member-append_right, BeginsOn, first_spot, next_spot, side_by, spot_after, Adds, Keeps, Gathers, HoldsHandles, after_messages, HoldsMasked, HasMemory, MaskRests, MaskStands, visited_items, visited_value, values_so_far}
 use Rattle.nfs3_types.specs.declared.values.handle.Handle as handles
 use Rattle.canon3.proofs.Lemmas.Numbers.HandleTableLemmas.{gathers_none}
 use Rattle.masking3.specs.declared.values.class_tables.ClassTables.{ClassTables}
@@ -423,8 +423,8 @@ module _ {P S H : Type 0} (ways : Ways) (w : MaskingWriter P S H) where
 
   start_stays : (s : MessageStart) → AllStay ways (start_items s)
   start_stays s = (
-    free_stays ways head_names.xid xid_free s.xid,
-    (free_stays ways head_names.mtype mtype_free _, tt),
+    free_stays ways (called "xid") xid_free s.xid,
+    (free_stays ways (called "mtype") mtype_free _, tt),
   )
 
   pub opens : (bytes : List ℕ) (spot : ItemSpot) (s : MessageStart)
@@ -448,7 +448,7 @@ module _ {P S H : Type 0} (ways : Ways) (w : MaskingWriter P S H) where
         begins = (
           s.xid,
           [],
-          ap (λ n. Word head_names.xid s.xid ∷ Word head_names.mtype n ∷ []) (mtype_by s.is_reply),
+          ap (λ n. Word (called "xid") s.xid ∷ Word (called "mtype") n ∷ []) (mtype_by s.is_reply),
         );
         spot_is = spot_is ∙ sym (kept_spot ways (first_spot side) (start_items s) (start_stays s));
         holds = held_more u.front [] side bytes spot (start_items s) (start_stays s) h write;

@@ -1,4 +1,4 @@
-use Rattle.masking3.proofs.Common.{◌≢◌, ℕ, ◌<◌, ◌^◌, List, length, refl, arith, AllByRecursion, names, head_names, Entry, Class, Times, masked_values, values, SameButValues, usual}
+use Rattle.masking3.proofs.Common.{◌≢◌, ℕ, ◌<◌, ◌^◌, List, length, refl, arith, AllByRecursion, called, Entry, Class, Times, masked_values, values, SameButValues, usual}
 use Rattle.canon3.specs.Canonical.{canonical}
 use Rattle.canon3.proofs.Checks.{not_same_by, same_by}
 use Rattle.masking3.specs.Examples.{list_from, getattrs_of_two}
@@ -14,22 +14,22 @@ visited_by a b free d s =
     (same_from_same_but usual a b free s)
 
 free : (first second sec : ℕ) → AllByRecursion HasFreeXid (getattrs_of_two first second sec)
-unfolding names head_names
+unfolding called
 free first second sec = assumption xid_free
 
 free_cookie : (cookie : ℕ) → AllByRecursion HasFreeXid (list_from cookie)
-unfolding names head_names
+unfolding called
 free_cookie cookie = assumption xid_free
 
 room : (first second sec : ℕ) (d : Class)
     → length (values (getattrs_of_two first second sec) d) < 2 ^ 64
-unfolding names head_names
+unfolding called
 room first second sec d =
     elim d as (λ d. length (values (getattrs_of_two first second sec) d) < 2 ^ 64)
     [ Times ↦ omega arith | _ ↦ omega arith ]
 
 pub returns : goal.returns
-unfolding names head_names
+unfolding called
 returns c =
     let a = getattrs_of_two 77 78 1700000000 in
     let b = getattrs_of_two 6 5 1800000000 in

@@ -1,6 +1,6 @@
-use Rattle.masking3.proofs.Common.{refl, names, head_names}
+use Rattle.masking3.proofs.Common.{refl, called}
 use Rattle.masking3.proofs.examples.system_credential.Goals as goal
 
 pub returns : goal.returns
-unfolding names head_names
+unfolding called
 returns c = refl

@@ -1,4 +1,4 @@
-use Rattle.nfs3canon.proofs.Common.{◌≡◌, ◌*◌, List, map, take, string_bytes, Streams, reading_in, AreReadStreams}
+use Rattle.nfs3canon.proofs.Common.{◌*◌, List, map, take, string_bytes, Streams, reading_in, AreReadStreams}
 use Rattle.packing3.specs.Packing.{HasAdded}
 use Rattle.nfs3canon.proofs.packing.pack_streams.Given as goal
 

@@ -1,8 +1,8 @@
-use Rattle.rpc_head.proofs.Common.{refl, reading_layout, reading, reply_layout, reply_start, accept, deny, reply_head, verifier}
+use Rattle.rpc_head.proofs.Common.{refl, reading_layout, reading, reply_layout, start_of_type, accept, deny, reply_head, verifier}
 use Rattle.rpc_head.proofs.examples.replies.Goals as goal
 
 pub returns : goal.returns
-unfolding reading reading_layout reply_layout reply_start reply_head verifier accept deny
+unfolding reading reading_layout reply_layout start_of_type reply_head verifier accept deny
 returns c =
     record {
       success = refl;

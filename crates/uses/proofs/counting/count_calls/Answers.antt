@@ -1,6 +1,6 @@
 use Rattle.uses.proofs.Common.{ap, ℕ, refl, sym, arith, ◌∙◌, error_is}
 use Rattle.uses.proofs.CountingLemmas.{none_counted, one_counted}
-use Rattle.uses.proofs.Reading.{all_returned, going_on, handed, none_is, one_more, refused_read}
+use Rattle.uses.proofs.Reading.{all_returned, none_is, one_more, refused}
 use Rattle.uses.proofs.counting.count_calls.Goals as goal
 
 pub returns-in_err-entry-clause-refused : goal.returns-in_err-entry-clause-refused
@@ -8,7 +8,7 @@ returns-in_err-entry-clause-refused g c bytes tells =
     let u = c.loop-entries.invariant.returned in
     let ends = rw c.in_err-entry.was at c.next.follows.holds-at-none in
     rw (error_is _ _ c.from_residual-in_err-entry.ensures)
-    (refused_read _ _ _ _ _ _ u ℕ c.in_err-entry.field-0.0 bytes
+    (refused _ _ _ _ _ _ u ℕ c.in_err-entry.field-0.0 bytes
     (ap (λ s. (g.R.Source.observed s).left) c.in_ok-entries.ensures.unread ∙ tells)
     (ends.answers u.given u.handed u.stands))
 
@@ -17,11 +17,11 @@ loop-entries-preserved-then-is_call g c =
     let u = c.loop-entries.invariant.returned in
     let ends = rw (c.in_ok-entry.was, c.in-Some.is) at c.next.follows.holds-at-none in
     record {
-      going = going_on ends.errors;
+      going = ends.errors.going;
       room = omega (arith, c.loop-entries.invariant.room, ends.fewer refl);
       returned =
           one_more _ _ _ _ _ _ u _ c.in-Some.entry
-          (handed _ (ends.answers u.given u.handed u.stands))
+          (ends.answers u.given u.handed u.stands)
           (λ before one is count.
           one_counted c.args.procedure c.loop-entries.count before one count
           (sym c.if-is_call.true ∙ c.is_call.ensures one is));
@@ -32,11 +32,11 @@ loop-entries-preserved g c =
     let u = c.loop-entries.invariant.returned in
     let ends = rw (c.in_ok-entry.was, c.in-Some.is) at c.next.follows.holds-at-none in
     record {
-      going = going_on ends.errors;
+      going = ends.errors.going;
       room = omega (arith, c.loop-entries.invariant.room, ends.fewer refl);
       returned =
           one_more _ _ _ _ _ _ u _ c.in-Some.entry
-          (handed _ (ends.answers u.given u.handed u.stands))
+          (ends.answers u.given u.handed u.stands)
           (λ before one is count.
           none_counted c.args.procedure c.loop-entries.count before one count
           (sym c.if-is_call.false ∙ c.is_call.ensures one is));
@@ -50,5 +50,5 @@ returns-clause-counted g c bytes tells =
     let (entries, typed, counted) =
     all_returned _ _ _ _ _ _ u bytes
     (ap (λ s. (g.R.Source.observed s).left) c.in_ok-entries.ensures.unread ∙ tells)
-    (handed _ (ends.answers u.given u.handed u.stands)) in
+    (ends.answers u.given u.handed u.stands) in
     record { entries = entries; typed = typed; is = counted }

@@ -3,9 +3,9 @@ use Rattle.uses.proofs.naming.looked_up_name.Goals as goal
 
 pub returns-in-Lookup : goal.returns-in-Lookup
 returns-in-Lookup g = record {
-  message = g.in_ok-wanted.field-0;
+  message = g.read.result;
   what = g.in-Lookup.wanted;
-  is = g.in_ok-wanted.ensures.call;
+  is = g.read.ensures.call;
   arguments = g.in-Lookup.is;
   named = refl;
 }

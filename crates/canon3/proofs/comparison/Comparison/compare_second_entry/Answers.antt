@@ -6,7 +6,7 @@ use Rattle.canon3.proofs.comparison.Comparison.compare_second_entry.Goals as goa
 
 pub returns-in_ok-compare-in-Ok-Some-clause-meets :
     goal.returns-in_ok-compare-in-Ok-Some-clause-meets
-returns-in_ok-compare-in-Ok-Some-clause-meets g c source start a b e of order passed few so_far h =
+returns-in_ok-compare-in-Ok-Some-clause-meets g c source start a b e next so_far h =
     let ends = rw (c.in-Ok-Some.is, c.in-Ok-Some.field-0-is) at c.visit.follows.holds-at-none in
     let (f, (is, adds), second, given) = hands _ _ _ _ h (ends.answers h.given b h.stands) in
     let both =
@@ -14,17 +14,17 @@ returns-in_ok-compare-in-Ok-Some-clause-meets g c source start a b e of order pa
     compared_meets source _ c.compare.new.self a b e f given
     c.in_ok-compare-in-Ok-Some.field-0 c.map.result c.map.ensures.cases
     (c.in_ok-compare-in-Ok-Some.ensures.compares
-    a b e f of is order second passed few both)
+    a b e f next is second both)
 
 pub returns-in-Ok-None-clause-meets : goal.returns-in-Ok-None-clause-meets
-returns-in-Ok-None-clause-meets g c source start a b e of order passed few so_far h =
+returns-in-Ok-None-clause-meets g c source start a b e next so_far h =
     let ends = rw (c.in-Ok-None.is, c.in-Ok-None.field-0-is) at c.visit.follows.holds-at-none in
     let (all, given) = hands _ _ _ _ h (ends.answers h.given b h.stands) in
     not_ended source (since g.B.Source.observed start c.visit.follows.lender-at-none)
-    c.args.self.now a b e order so_far.agree all
+    c.args.self.now a b e next.first so_far.agree all
 
 pub returns-in-Err-clause-meets : goal.returns-in-Err-clause-meets
-returns-in-Err-clause-meets g c source start a b e of order passed few so_far h =
+returns-in-Err-clause-meets g c source start a b e next so_far h =
     let ends = rw c.in-Err.is at c.visit.follows.holds-at-none in
     rw c.finding_at_error.ensures
     (refused_meets source _ (with_second c.args.self.now c.visit.new.visitor) a b e c.in-Err.error

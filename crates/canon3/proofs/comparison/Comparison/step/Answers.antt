@@ -1,6 +1,6 @@
 use Rattle.canon3.proofs.Common.{source_of}
-use Rattle.canon3.proofs.Lemmas.Comparison.ComparisonLemmas.{first_stops, gave_error, one_fewer, stepped, received_first}
-use Rattle.canon3.proofs.Lemmas.Writing.EntryWriterLemmas.{hands}
+use Rattle.canon3.proofs.Lemmas.Comparison.ComparisonLemmas.{first_stops, gave_error, stepped, received_first}
+use Rattle.canon3.proofs.Lemmas.Writing.EntryWriterLemmas.{comes_next, hands}
 use Rattle.canon3.proofs.comparison.Comparison.step.Goals as goal
 
 pub returns-in-Ok-Some-clause-steps : goal.returns-in-Ok-Some-clause-steps
@@ -11,9 +11,10 @@ returns-in-Ok-Some-clause-steps g c start other_start u =
     let so_far =
     received_first c.args.self.now u.a u.b c.visit.new.visitor e adds u.compared in
     stepped _ _ c.compare_second_entry.new.self u.a u.b e given c.compare_second_entry.result
-    (c.compare_second_entry.ensures.meets _ other_start u.a u.b e is first
-    (c.progress-before.ensures u.first_given.given u.a u.first_given.stands c.requires.going_first)
-    (one_fewer u.a e _ given.stands.few) so_far u.second_given)
+    (c.compare_second_entry.ensures.meets _ other_start u.a u.b e
+    (comes_next u.a e _ is first given.stands.few
+    (c.progress-before.ensures u.first_given.given u.a u.first_given.stands c.requires.going_first))
+    so_far u.second_given)
 
 pub returns-in-Ok-None-clause-steps : goal.returns-in-Ok-None-clause-steps
 returns-in-Ok-None-clause-steps g c start other_start u =

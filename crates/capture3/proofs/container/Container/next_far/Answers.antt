@@ -13,22 +13,22 @@ returns-in-Ok-clause-ok c =
 pub returns-in-Err-clause-fault : goal.returns-in-Err-clause-fault
 returns-in-Err-clause-fault c = InNextKept c.in-Some.cursor c.in-Some.is c.in-Err.ensures.fault
 
-pub returns-in-Ok-first_recalled-clause-ok : goal.returns-in-Ok-first_recalled-clause-ok
-returns-in-Ok-first_recalled-clause-ok c =
+pub returns-in-Ok-recall_first-clause-ok : goal.returns-in-Ok-recall_first-clause-ok
+returns-in-Ok-recall_first-clause-ok c =
     let came = c.in-Ok-default-Some-Streams in
     let mid = c.advance.new.self in
     let reaches = rw (came.field-0-1-is, came.field-0-1-0-is) at came.ensures.reaches in
-    let recalled = c.in-Ok-first_recalled.ensures in
-    recalled_next c.args.self.now c.first_recalled.new.self c.args.piece.now came.count _ _ _
-    c.in-Ok-first_recalled.event recalled.recalled came.ensures.taken.within
+    let recalled = c.in-Ok-recall_first.ensures in
+    recalled_next c.args.self.now c.recall_first.new.self c.args.piece.now came.count _ _ _
+    c.in-Ok-recall_first.event recalled.recalled came.ensures.taken.within
     (λ some. absurd (some c.in-None.is))
-    (FirstKept mid c.in-Ok-first_recalled.event c.in-None.is reaches.machine reaches.stored refl
+    (FirstKept mid c.in-Ok-recall_first.event c.in-None.is reaches.machine reaches.stored refl
     recalled.recalled) recalled.joiner recalled.copied recalled.ready
     (omega (arith, recalled.room, reaches.room))
 
-pub returns-in-Err-first_recalled-clause-fault : goal.returns-in-Err-first_recalled-clause-fault
-returns-in-Err-first_recalled-clause-fault c =
+pub returns-in-Err-recall_first-clause-fault : goal.returns-in-Err-recall_first-clause-fault
+returns-in-Err-recall_first-clause-fault c =
     let came = c.in-Ok-default-Some-Streams in
     let mid = c.advance.new.self in
     let reaches = rw (came.field-0-1-is, came.field-0-1-0-is) at came.ensures.reaches in
-    InFirstKept mid came.count c.in-None.is reaches.machine c.in-Err-first_recalled.ensures.fault
+    InFirstKept mid came.count c.in-None.is reaches.machine c.in-Err-recall_first.ensures.fault

@@ -11,10 +11,16 @@ loop-taken-preserved-in-Continue-branch-2 c =
     let cost = ap entry_cost c.in-Some.is in
     record {
       within =
-          omega (arith, c.in-Ok.ensures.taken.within, length-take {A = ℕ}, length-drop {A = ℕ});
-      ready = c.in-Ok.ensures.ready;
+          omega (arith, c.in-Ok.ensures.ok.taken.within, length-take {A = ℕ}, length-drop {A = ℕ});
+      ready = c.in-Ok.ensures.ok.ready;
       room =
-          omega (arith, invariant.room, c.in-Ok.ensures.room, cost, c.in_ok-push-in-Ok.ensures.len);
+          omega (
+            arith,
+            invariant.room,
+            c.in-Ok.ensures.ok.room,
+            cost,
+            c.in_ok-push-in-Ok.ensures.len,
+          );
       machine =
           rw c.in_ok-push-in-Ok.ensures.items
           (keeps_more _ c.next.new.self.number _ c.args.bytes.now c.loop-taken.taken
@@ -32,9 +38,9 @@ loop-taken-preserved c =
     let cost = ap entry_cost c.in_default.is in
     record {
       within =
-          omega (arith, c.in-Ok.ensures.taken.within, length-take {A = ℕ}, length-drop {A = ℕ});
-      ready = c.in-Ok.ensures.ready;
-      room = omega (arith, invariant.room, c.in-Ok.ensures.room, cost);
+          omega (arith, c.in-Ok.ensures.ok.taken.within, length-take {A = ℕ}, length-drop {A = ℕ});
+      ready = c.in-Ok.ensures.ok.ready;
+      room = omega (arith, invariant.room, c.in-Ok.ensures.ok.room, cost);
       machine =
           keeps_on _ c.next.new.self.number _ c.args.bytes.now c.loop-taken.taken
           c.in-Ok.count

@@ -1,4 +1,4 @@
-use Rattle.listing3.proofs.Common.{◌∷◌, ◌+◌, subst, Word, ProcId, head_names, all_items, items_before, LineRests, LineStands, Spells, Appends, Appends-nil, Entry, items_of, client, entry_line, line, WritesText}
+use Rattle.listing3.proofs.Common.{◌∷◌, ◌+◌, subst, Word, ProcId, called, all_items, items_before, LineRests, LineStands, Spells, Appends, Appends-nil, Entry, items_of, client, entry_line, line, WritesText}
 use Rattle.capture3.specs.MessageVisit.{HasHeard}
 use Rattle.listing3.proofs.Lines.LineLemmas.{in_line, listed_call, listed_reply, next_is_small, no_line}
 use Rattle.listing3.proofs.line_writer.LineWriter.write_entry.Goals as goal
@@ -21,7 +21,7 @@ returns-in-Call-clause-writes g c entries one of spells first passed few =
     subst
     (λ (i : ProcId).
     WritesText before after
-    (line p.connections client (p.records + 1) i (Word head_names.xid n ∷ rest))
+    (line p.connections client (p.records + 1) i (Word (called "xid") n ∷ rest))
     c.write_line.result) asks
     (c.write_line.ensures.writes (all_items entries) rest n bound spelled
     (in_line g.H.Visit.stands c.args.self.now entries _ stands))) spells

@@ -1,10 +1,10 @@
 use Rattle.std.proofs.lemmas.Result.{on_ok_weaker}
-use Rattle.rpc_head.specs.Names.{head_names}
+use Rattle.xdr3.specs.Item.{called}
 use Rattle.listing3.proofs.Lines.LineLemmas.{opens}
 use Rattle.listing3.proofs.line_writer.LineWriterMessageVisit.begin.Goals as goal
 
 pub returns : goal.returns
-unfolding head_names
+unfolding called
 returns g c =
     on_ok_weaker c.word.result
     (opens g.H.Visit.stands g.met.H.Gathering.skips c.args.self.now c.word.new.self c.args.start

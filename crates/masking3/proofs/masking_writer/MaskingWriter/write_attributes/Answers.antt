@@ -1,10 +1,10 @@
-use Rattle.masking3.proofs.Common.{on_ok_weaker, arith, names, MaskStands}
+use Rattle.masking3.proofs.Common.{on_ok_weaker, arith, called, MaskStands}
 use Rattle.xdr3.proofs.Lemmas.Shapes.Walks.{adds_both}
 use Rattle.masking3.proofs.Lemmas.Writing.RunLemmas.{run_written}
 use Rattle.masking3.proofs.masking_writer.MaskingWriter.write_attributes.Goals as goal
 
 pub returns : goal.returns
-unfolding names
+unfolding called
 returns g c =
     let join = adds_both (MaskStands g.P.Plan.ways) in
     let two = join _ _ _ _ _ c.in_ok-put_word.ensures.ok c.in_ok-put_word-2.ensures.ok in

@@ -1,4 +1,4 @@
-use Rattle.rpc_head.proofs.Common.{◌<◌, ◌≤◌, ◌∙◌, subst, sym, head_names, Opening}
+use Rattle.rpc_head.proofs.Common.{◌<◌, ◌≤◌, ◌∙◌, subst, sym, called, Opening}
 use Rattle.rpc_head.proofs.HeadRunLemmas.{flavor_refused, opening_scans, run_size_is, version_refused}
 use Rattle.rpc_head.proofs.scans.call.scan_opening.Goals as goal
 
@@ -21,7 +21,7 @@ returns-then-opening-gt1-clause-err g c =
     c.opening_in-opening.ensures c.if-opening-gt1.true))
 
 pub returns-clause-ok : goal.returns-clause-ok
-unfolding head_names
+unfolding called
 returns-clause-ok g c =
     rw c.opening_in-opening.ensures
     (opening_scans g.V.Visit.stands c.in-Some.run'.now c.args.input.now c.run.new.self

@@ -1,4 +1,4 @@
-use Rattle.rpc_head.proofs.Common.{IfErr, OnOk, subst, sym, refl, GetError, Scans, Stops, Shape, head_names}
+use Rattle.rpc_head.proofs.Common.{IfErr, OnOk, subst, sym, refl, GetError, Scans, Stops, Shape, called}
 use Rattle.rpc_head.proofs.OwnerLemmas.{groups_shape, groups_size}
 use Rattle.rpc_head.proofs.scans.credential.scan_groups.Goals as goal
 
@@ -6,7 +6,7 @@ pub scan_plain-requires : goal.scan_plain-requires
 scan_plain-requires g c = sym (groups_size c.args.count _ c.requires refl)
 
 pub returns-clause-ok : goal.returns-clause-ok
-unfolding head_names
+unfolding called
 returns-clause-ok g c =
     subst
     (λ (s : Shape).
@@ -15,7 +15,7 @@ returns-clause-ok g c =
     (groups_shape c.args.count _ c.requires refl) c.scan_plain.ensures.ok
 
 pub returns-clause-err : goal.returns-clause-err
-unfolding head_names
+unfolding called
 returns-clause-err g c =
     subst
     (λ (s : Shape).

@@ -1,4 +1,4 @@
-use Rattle.rpc_head.proofs.Common.{IfErr, OnOk, ◌≤◌, ◌<◌, ℕ, subst, GetError, Scans, Stops, head_names, group_words}
+use Rattle.rpc_head.proofs.Common.{IfErr, OnOk, ◌≤◌, ◌<◌, ℕ, subst, GetError, Scans, Stops, called, group_words}
 use Rattle.rpc_head.proofs.OwnerLemmas.{count_refused, owner_scanned, owner_short, owner_stopped}
 use Rattle.rpc_head.proofs.scans.credential.scan_owner.Goals as goal
 
@@ -14,7 +14,7 @@ returns-then-count-gt16-clause-err g c =
     (subst (λ (n : ℕ). 16 < n) c.word_in-count.ensures c.if-count-gt16.true))
 
 pub returns-clause-ok : goal.returns-clause-ok
-unfolding head_names
+unfolding called
 returns-clause-ok g c =
     owner_scanned g.V.Visit.stands c.in-Some.run'.now c.args.input.now c.run.new.self
     c.scan_groups.new.input c.args.visitor.now c.plain.new.self c.scan_groups.new.visitor

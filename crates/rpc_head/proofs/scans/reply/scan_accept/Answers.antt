@@ -1,4 +1,4 @@
-use Rattle.rpc_head.specs.Names.{head_names}
+use Rattle.xdr3.specs.Item.{called}
 use Rattle.rpc_head.proofs.HeadScanLemmas.{accept_alone, accept_versions}
 use Rattle.rpc_head.proofs.scans.reply.scan_accept.Goals as goal
 
@@ -8,7 +8,7 @@ returns-then-stat-ne2-clause-ok g c =
     c.args.visitor.now c.scan_accept_stat.new.visitor c.in_ok-stat.ensures.ok c.if-stat-ne2.true
 
 pub returns-clause-ok : goal.returns-clause-ok
-unfolding head_names
+unfolding called
 returns-clause-ok g c =
     accept_versions g.V.Visit.stands c.in_ok-stat.stat c.in_ok-scan_word.field-0
     c.in_ok-scan_word-2.field-0

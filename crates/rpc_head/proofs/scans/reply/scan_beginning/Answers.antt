@@ -1,4 +1,4 @@
-use Rattle.rpc_head.proofs.Common.{◌<◌, ◌≤◌, ◌∙◌, ℕ, subst, sym, head_names}
+use Rattle.rpc_head.proofs.Common.{◌<◌, ◌≤◌, ◌∙◌, ℕ, subst, sym, called}
 use Rattle.rpc_head.proofs.HeadScanLemmas.{accepted_begins, denied_begins, flavor_refused_there, is_zero, reject_refused, stat_refused}
 use Rattle.rpc_head.proofs.scans.reply.scan_beginning.Goals as goal
 
@@ -16,7 +16,7 @@ returns-then-second-gt1-clause-err g c =
     (subst (λ (n : ℕ). 1 < n) c.word_in-second.ensures c.if-second-gt1.true))
 
 pub returns-then-reply_stat-eq1-clause-ok : goal.returns-then-reply_stat-eq1-clause-ok
-unfolding head_names
+unfolding called
 returns-then-reply_stat-eq1-clause-ok g c =
     rw c.word_in-second.ensures (denied_begins g.V.Visit.stands c.in-Some.run'.now c.args.input.now
     c.run.new.self c.args.visitor.now c.plain.new.self c.in-Some.ensures.read
@@ -34,7 +34,7 @@ returns-then-second-ne0-clause-err g c =
     (λ is. c.if-second-ne0.true (c.word_in-second.ensures ∙ is)))
 
 pub returns-clause-ok : goal.returns-clause-ok
-unfolding head_names
+unfolding called
 returns-clause-ok g c =
     accepted_begins g.V.Visit.stands c.in-Some.run'.now c.args.input.now c.run.new.self
     c.args.visitor.now c.plain-2.new.self c.in-Some.ensures.read c.in-Some.ensures.moves

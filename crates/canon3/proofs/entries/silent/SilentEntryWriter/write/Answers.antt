@@ -1,4 +1,4 @@
 use Rattle.canon3.proofs.entries.silent.SilentEntryWriter.write.Goals as goal
 
 pub returns-clause-writes : goal.returns-clause-writes
-returns-clause-writes g c old entries one of first few came observed written = (tt, tt, written)
+returns-clause-writes g c old entries one next observed written = (tt, tt, written)

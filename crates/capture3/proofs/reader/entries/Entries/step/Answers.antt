@@ -100,8 +100,8 @@ returns-then-is_some-clause-answers g c given handed s =
     (λ so_far out at.
     judged_piece g.R.Source.observed Passed self _ c.in-Ok-next.count c.deref.result.now so_far out
     c.next.new.self.last c.deref.ensures.value c.deref.ensures.len is is refl refl refl refl
-    next.taken.within next.room at
-    (λ judged h. rw c.loop-self.invariant.unmoved at (next.machine judged out h)) next.counted)
+    next.ok.taken.within next.ok.room at
+    (λ judged h. rw c.loop-self.invariant.unmoved at (next.machine judged out h)) next.ok.counted)
     refl)
 
 pub returns-clause-answers : goal.returns-clause-answers
@@ -144,10 +144,10 @@ loop-self-preserved g c =
           so_far
           out
           c.next.new.self.last c.deref.ensures.value c.deref.ensures.len filled.stays.2
-          filled.stays.2 refl refl refl refl next.taken.within next.room at
-          (λ judged h. next.machine judged out h) next.counted) refl);
-      unmoved = next.unmoved none ∙ invariant.unmoved;
-      fewer = omega (arith, next.room, here, left, same, invariant.fewer);
+          filled.stays.2 refl refl refl refl next.ok.taken.within next.ok.room at
+          (λ judged h. next.machine judged out h) next.ok.counted) refl);
+      unmoved = next.ok.unmoved none ∙ invariant.unmoved;
+      fewer = omega (arith, next.ok.room, here, left, same, invariant.fewer);
       read = filled.device.read ∙ invariant.read;
       same_block = filled.device.same_block ∙ invariant.same_block;
       same_reference = filled.device.same_reference ∙ invariant.same_reference;
@@ -166,5 +166,5 @@ invariant_of-self-clause-lies g c =
     let self = c.refill.new.self in
     ∣ lies_in_block c.next.new.self.last c.next.new.self.container.joiner self.block.items
     self.start c.in-Ok-next.count (self.end - self.start)
-    (rw c.deref.ensures.value at c.in-Ok-next.ensures.taken.within)
-    (rw c.deref.ensures.value at c.in-Ok-next.ensures.lies) ∣₁
+    (rw c.deref.ensures.value at c.in-Ok-next.ensures.ok.taken.within)
+    (rw c.deref.ensures.value at c.in-Ok-next.ensures.ok.lies) ∣₁

@@ -1,14 +1,14 @@
-use Rattle.nfs3_types.specs.Names.{names}
+use Rattle.xdr3.specs.Item.{called}
 use Rattle.nfs3_types.proofs.values.attributes.FattrWalk.walk.Goals as goal
 
 pub walk_fields-requires-clause-limit : goal.walk_fields-requires-clause-limit
-unfolding names
+unfolding called
 walk_fields-requires-clause-limit g c = rw c.number.ensures c.requires
 
 pub returns-clause-ok : goal.returns-clause-ok
-unfolding names
+unfolding called
 returns-clause-ok g c = rw (← c.number.ensures) c.walk_fields.ensures.ok
 
 pub returns-clause-err : goal.returns-clause-err
-unfolding names
+unfolding called
 returns-clause-err g c = rw (← c.number.ensures) c.walk_fields.ensures.err

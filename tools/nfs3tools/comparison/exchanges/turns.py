@@ -1,0 +1,100 @@
+"""When the calls of two runs were sent and answered, by frames.
+
+A change stands otherwise to a question if it was answered before the question was sent in one run
+and not in the other, or if it overlaps the question in either. Most often none does: that is known
+without reading what the runs say.
+"""
+from __future__ import annotations
+
+import operator
+from array import array
+from bisect import bisect_left
+from collections.abc import Callable
+from functools import cached_property
+from itertools import accumulate
+from typing import NamedTuple, Optional
+
+from ...recordings.taken import Taken
+from .matching import Pair
+from .outlines import CHANGING, Outlines
+from .pairing import NOBODY, Pairing
+
+NEVER = 1 << 62  # when a call is answered that has no reply
+
+
+class Before(NamedTuple):
+    """The changes that were answered before a call was sent: how many, and a hash of them that is
+    the same in both runs."""
+    number: int
+    digest: int
+
+
+class Turns:
+    """When the calls of a run were sent and answered, and its changes.
+
+    named: what an exchange is called in both runs
+    begins, ends: by exchanges, the frame with which the call begins, and that of its first reply
+    """
+
+    def __init__(self, taken: Taken, outlines: Outlines, named: Callable[[int], int]) -> None:
+        self.outlines, self.named = outlines, named
+        self.begins, self.ends = array('Q'), array('Q')
+        connections = {one.number: one for one in taken.connections}
+        for place, number in enumerate(outlines.connections):
+            own = outlines.exchanges_of(place)
+            calls = array('Q', connections[number].client.first_frames())
+            self.begins.extend(calls[record - 1]
+                               for record in outlines.records[own.start:own.stop])
+            replies = array('Q', connections[number].server.first_frames())
+            self.ends.extend(replies[record - 1] if record else NEVER
+                             for record in outlines.replies[own.start:own.stop])
+
+    def of(self, at: int) -> tuple[int, int]:
+        """Returns the frames with which a call and its reply begin."""
+        return self.begins[at], self.ends[at]
+
+    def is_change(self, at: int) -> bool:
+        return self.outlines.procedure_of(at) in CHANGING and at not in self.outlines.unmade
+
+    @cached_property
+    def sent(self) -> 'array[int]':
+        """When the changes were sent, sorted."""
+        return array('Q', sorted(map(self.begins.__getitem__, self.changes)))
+
+    @cached_property
+    def answered(self) -> 'array[int]':
+        """When the changes were answered, sorted."""
+        return array('Q', map(self.ends.__getitem__, self.changes))
+
+    @cached_property
+    def changes(self) -> 'array[int]':
+        """The changes in the order in which they were answered."""
+        some = filter(self.is_change, range(len(self.outlines)))
+        return array('I', sorted(some, key=self.ends.__getitem__))
+
+    @cached_property
+    def digests(self) -> 'array[int]':
+        """Hashes of the first changes that were answered: of none, of one, of two, .."""
+        hashes = (hash((self.named(at),)) for at in self.changes)
+        return array('q', accumulate(hashes, operator.xor, initial=0))
+
+    def before(self, at: int) -> Optional[Before]:
+        """Returns the changes before a call, or None if some overlap it."""
+        begin, end = self.of(at)
+        number = bisect_left(self.answered, begin)
+        others = bisect_left(self.sent, end) - (self.is_change(at) and begin < end)
+        return Before(number, self.digests[number]) if number == others else None
+
+
+def turns_of(taken: tuple[Taken, Taken], pairing: Pairing) -> tuple[Turns, Turns]:
+    """Returns when the calls of both runs were sent and answered."""
+    partners = {to: at for at, to in pairing.pairs()}
+    return (Turns(taken[0], pairing.here,
+                  lambda at: at if pairing.partners[at] != NOBODY else -2 - 2 * at),
+            Turns(taken[1], pairing.there, lambda to: partners.get(to, -3 - 2 * to)))
+
+
+def is_quiet(turns: tuple[Turns, Turns], pair: Pair) -> bool:
+    """Whether no change stands otherwise to a question."""
+    first, second = (own.before(at) for own, at in zip(turns, pair))
+    return first is not None and first == second

@@ -1,0 +1,142 @@
+"""What is searched for in the items of a message, without taking all of them apart.
+
+    handles_in(line.text)             # [1, 7]
+    names_in(line.text)               # ['a file']
+
+The texts are those of `Line`. Handles are numbers, as in a canonical form.
+"""
+from __future__ import annotations
+
+import re
+from collections.abc import Iterable, Iterator
+from sys import intern
+from typing import NamedTuple
+
+NANOSECONDS = 1_000_000_000
+HANDLE = re.compile(r' fh=([0-9a-f]{1,8})(?![^ ])')
+FIRST_NAME = re.compile(r' (?:name|dirpath)="([^"]*)"')
+NAME = re.compile(r' name="([^"]*)"')
+NAME_OR_HANDLE = re.compile(r' name="([^"]*)"| fh=([0-9a-f]{1,8})(?![^ ])')
+ALIKE = re.compile(r' (?:prog|vers|proc|name|dirpath|offset)=("[^"]*"|[^ ]+)')
+PART = re.compile(
+    r' type=(\d+) mode=(\d+) nlink=(\d+) uid=(\d+) gid=(\d+) size=(\d+) used=\d+ rdev1=(\d+) '
+    r'rdev2=(\d+) fsid=(\d+) fileid=(\d+) atime_sec=\d+ atime_nsec=\d+ mtime_sec=\d+ '
+    r'mtime_nsec=\d+ ctime_sec=(\d+) ctime_nsec=(\d+)'
+    r'| fileid=(\d+) name="([^"]*)"| fh=([0-9a-f]+)| attr=0')
+WRITTEN = re.compile(r' offset=(\d+) count=(\d+) stable=')
+SETTING = re.compile(r' set_(mode|uid|gid|size)=1')
+ACCESS = re.compile(r' access=(\d+)')
+ENTRY = re.compile(r' name="([^"]*)" cookie=(\d+)')
+COOKIE = re.compile(r' cookie=(\d+)')
+VERIFIER = re.compile(r' createverf=([^ ]+)')
+
+
+class SpelledAttributes(NamedTuple):
+    """The attributes of an object, but for its times and what space it uses."""
+    type: str
+    mode: str
+    nlink: str
+    uid: str
+    gid: str
+    size: str
+    rdev1: str
+    rdev2: str
+    fsid: str
+    fileid: str
+
+
+class ReplyPart(NamedTuple):
+    """A part of a reply: attributes with their ctime in nanoseconds, or that there are none; the
+    file id and the name with which an entry begins; or a handle."""
+    attributes: SpelledAttributes | None = None
+    ctime: int = 0
+    fileid: str = ''
+    name: str | None = None
+    handle: int | None = None
+
+    @property
+    def is_of_attributes(self) -> bool:
+        """Whether it is attributes, or that there are none."""
+        return self.name is None and self.handle is None
+
+
+def parts_in(text: str) -> Iterator[ReplyPart]:
+    """Iterates over the parts of a reply."""
+    for found in PART.finditer(text):
+        if found[1]:
+            # (one text for equal ones: there may be many answers)
+            attributes = SpelledAttributes._make(map(intern, found.group(*range(1, 11))))
+            yield ReplyPart(attributes, int(found[11]) * NANOSECONDS + int(found[12]),
+                       attributes.fileid)
+        elif found[15]:
+            yield ReplyPart(handle=int(found[15], 16))
+        else:
+            yield ReplyPart(fileid=found[13] or '', name=found[14])
+
+
+def handles_in(text: str) -> list[int]:
+    return [int(handle, 16) for handle in HANDLE.findall(text)]
+
+
+def first_handle_in(text: str) -> int:
+    """Returns the first handle, 0 if there is none."""
+    found = HANDLE.search(text)
+    return int(found[1], 16) if found else 0
+
+
+def names_in(text: str) -> list[str]:
+    return NAME.findall(text) if ' name="' in text else []
+
+
+def first_name_in(text: str) -> str | None:
+    """Returns the first name, or the path of a MNT."""
+    found = FIRST_NAME.search(text)
+    return found[1] if found else None
+
+
+def names_and_handles_in(text: str) -> Iterator[str | int]:
+    """Iterates over the names and the handles as they come."""
+    return (found[1] if found[2] is None else int(found[2], 16)
+            for found in NAME_OR_HANDLE.finditer(text))
+
+
+def alike_in(text: str) -> tuple[str, ...]:
+    """Returns what alike calls have in common: the procedure's numbers, names and an offset."""
+    return tuple(ALIKE.findall(text))
+
+
+def end_of_write_in(text: str) -> int | None:
+    """Returns where a WRITE ends."""
+    found = WRITTEN.search(text)
+    return int(found[1]) + int(found[2]) if found else None
+
+
+def settings_in(text: str) -> frozenset[str]:
+    """Returns the mode, owners and size among the attributes that a call sets."""
+    return frozenset(SETTING.findall(text) if ' set_' in text else ())
+
+
+def access_in(text: str) -> str | None:
+    """Returns what an ACCESS grants."""
+    found = ACCESS.search(text)
+    return found[1] if found else None
+
+
+def cookies_of_names_in(text: str) -> Iterator[tuple[str, str]]:
+    """Iterates over the names of entries, each with its cookie."""
+    return ((found[1], found[2]) for found in ENTRY.finditer(text))
+
+
+def cookies_in(text: str) -> list[str]:
+    return COOKIE.findall(text)
+
+
+def verifier_in(text: str) -> str | None:
+    """Returns the verifier of an exclusive CREATE."""
+    found = VERIFIER.search(text)
+    return found[1] if found else None
+
+
+def values_of(names: Iterable[str]) -> re.Pattern[str]:
+    """Returns what finds the names and values of some items, which are no strings."""
+    return re.compile(f' ({"|".join(sorted(names))})=([^ \\n"]+)')

@@ -1,0 +1,162 @@
+"""The items of a call or of a reply as values, by one pattern for each layout.
+
+    read_call('NFSPROC3_READ', said, values)   # {'fh': '01ab', 'offset': 0, 'count': 4096}
+    read_reply('NFSPROC3_READ', said, values)  # (0, {'obj.size': 5, .., 'data': b'alpha'})
+
+`said` is what the listing has after the name of the procedure. An item has the name of its layout,
+after the name of its owner if it has one. What is absent has no name. Numbers are integers, times
+pairs of seconds and nanoseconds, handles and verifiers digits, names as the listing spells them,
+and data bytes.
+"""
+from __future__ import annotations
+
+import functools
+import re
+from collections.abc import Callable, Mapping
+from operator import itemgetter
+from typing import Any, NamedTuple, Union
+
+from ..shared.layouts import BY_NAME, PARTS, RAW, cases_of
+from .answering import STATUS
+from .in_words import head_of
+from .stored import Long, Values as LongValues
+
+Values = dict[str, Any]
+Data = Union[bytes, Long]  # of a READ or a WRITE
+Time = tuple[int, int]  # seconds and nanoseconds
+LIST, DATA = 'list:', ' o:data'
+KEPT_AT_MOST = 1_024  # times that are made once
+
+
+@functools.lru_cache(KEPT_AT_MOST)
+def time_of(text: str) -> Time:
+    """Returns a time of the listing, as `5 mtime_nsec=0` after `mtime_sec=`."""
+    first, _, rest = text.partition(' ')
+    return int(first), int(rest.partition('=')[2])
+
+
+# Of each kind of item the pattern behind its name, and what makes a value of it.
+NUMBER = r'=(\d+)', int
+KINDS: Mapping[str, tuple[str, Callable[[str], object]]] = {
+    't': (r'="([^"]*)"', str), **dict.fromkeys(('o', 'x', 'fh'), (r'=(\w*)', str)),
+    **dict.fromkeys(('atime', 'mtime', 'ctime'), (r'_sec=(\d+ \w+=\d+)', time_of))}
+
+
+class Layout:
+    """How the items of a layout are read.
+
+    pattern, names, makers: a pattern, the names of its groups, and what makes a value of each
+    has_data: whether the data of a file follow
+    entry: the layout of the entries of a directory, if these follow
+    """
+
+    def __init__(self, text: str) -> None:
+        first, _, rest = text.partition(LIST)
+        self.names, self.makers = list[str](), list[Callable[[str], object]]()
+        self.has_data = first.endswith(DATA)
+        self.pattern = re.compile(self.of_part(first.removesuffix(DATA), ''))
+        self.entry = layout_of(rest.split()[0].partition('=')[2]) if rest else None
+
+    def of_part(self, part: str, owner: str) -> str:
+        """Returns the pattern of a part, and adds the names of its groups."""
+        return ''.join(self.of_item(item, owner) for item in PARTS.get(part, part).split())
+
+    def of_item(self, item: str, owner: str) -> str:
+        item, _, inner = item.partition('=')
+        whose, at, item = item.rpartition('@')
+        owner += f'{whose}.' if at else ''
+        kind, is_item, name = item.partition(':')
+        if not is_item and item not in KINDS:
+            return self.of_part(item, owner)
+        if kind == 'opt':
+            return f' {name}=(?:0|1{self.of_part(inner, owner)})'
+        pattern, maker = KINDS.get(kind.rstrip('0123456789'), NUMBER)
+        self.names.append(owner + (name or item))
+        self.makers.append(maker)
+        parts = dict.fromkeys(cases_of(inner).values()) if kind == 'case' else ()
+        cases = '|'.join(self.of_part(part, owner) for part in parts)
+        return f' {name or item}{pattern}' + (f'(?:{cases}|)' if cases else '')
+
+    def read(self, said: str, at: int, long_values: LongValues) -> Values:
+        """Reads the items from a place on."""
+        out, end = self.items(said, at)
+        if self.has_data:
+            data = long_values.value(said[end + len(' data='):])
+            out['data'] = data if isinstance(data, Long) else bytes.fromhex(data)
+        if self.entry is not None:
+            entries = out['entries'] = list[Values]()
+            while said.startswith(' entry=1', end):
+                entry, end = self.entry.items(said, end + len(' entry=1'))
+                entries.append(entry)
+            out['eof'] = int(said[end:].rpartition('eof=')[2])
+        return out
+
+    def items(self, said: str, at: int) -> tuple[Values, int]:
+        """Reads the items that the pattern has, and returns where they end as well."""
+        found = self.pattern.match(said, at)
+        assert found, said[at:at + 200]
+        values = zip(self.names, self.makers, found.groups())
+        return {name: make(value) for name, make, value in values if value is not None}, found.end()
+
+
+layout_of = functools.cache(Layout)
+
+
+def read_call(procedure: str, said: str, long_values: LongValues) -> Values:
+    """Returns the arguments of a call."""
+    head, _ = head_of(procedure, said)
+    return layout_of(BY_NAME[procedure].arguments).read(said, len(head), long_values)
+
+
+def read_reply(procedure: str, said: str, long_values: LongValues) -> tuple[int | None, Values]:
+    """Returns the status and the results of a reply: no status if the call was not accepted."""
+    found = STATUS.match(said)
+    assert found, said[:200]
+    if found[1] != '0' or procedure == RAW.name:
+        return None, {}
+    status, layouts = int(found[2] or 0), BY_NAME[procedure]
+    layout = layout_of(layouts.failed if status else layouts.done)
+    return status, layout.read(said, found.end(), long_values)
+
+
+class Attributes(NamedTuple):
+    """What a reply says of an object: its attributes (RFC 1813, section 2.5, fattr3), or of what it
+    was before an operation the first three (section 2.6, wcc_attr)."""
+    size: int
+    mtime: Time
+    ctime: Time
+    type: int = 0
+    mode: int = 0
+    uid: int = 0
+    gid: int = 0
+    fsid: int = 0
+    fileid: int = 0
+    nlink: int = 0
+    atime: Time = (0, 0)
+
+
+@functools.cache
+def getter(owner: str, number: int) -> Callable[[Values], tuple[Any, ...]]:
+    return itemgetter(*(owner + name for name in Attributes._fields[:number]))
+
+
+def attributes(values: Values, owner: str = '') -> Attributes | None:
+    """Returns what some values say of an owner's object, as `obj.after.`, if they do."""
+    if owner + 'size' not in values:
+        return None
+    number = len(Attributes._fields) if owner + 'type' in values else 3
+    return Attributes(*getter(owner, number)(values))
+
+
+def seconds(time: Time) -> str:
+    """Returns a time in words."""
+    return f'{time[0]}.{time[1]:09}'
+
+
+def size_of_entry(entry: Values) -> int:
+    """Returns how many bytes of XDR an entry of a directory has, with the word before it."""
+    # (the listing spells a byte that is no letter with four)
+    sizes: list[int] = [len(entry['name']) - 3 * entry['name'].count('\\x')]
+    sizes += [len(entry['fh']) // 2] if 'fh' in entry else []
+    of_plus = 8 + 84 * ('type' in entry) if 'listed.fileid' in entry else 0
+    return 4 + 8 + 8 + of_plus + sum(4 + (size + 3) // 4 * 4 for size in sizes)

@@ -1,0 +1,1 @@
+"""The pages for a browser that the tools write."""

@@ -1,0 +1,494 @@
+"""A comparison as one page for a browser, which needs no server: what differs at a glance, which
+fields differ, each difference, and the calls around that.
+
+A page has at most 2,000 findings, those that say the same as one. What does not count for the
+verdict is folded. It is made in pieces, and all that comes from a recording is escaped.
+"""
+from __future__ import annotations
+
+from collections import Counter, defaultdict
+from collections.abc import Iterator, Sequence
+from dataclasses import dataclass
+from functools import cached_property
+from html import escape
+from itertools import chain, starmap, zip_longest
+from typing import NamedTuple, Optional
+
+from ..comparison.values.classes import besides, told
+from ..comparison.verdict import summary
+from ..comparison.verdict.cover import Cover, Row as NotJudged, losses_of
+from ..comparison.verdict.excerpt import Connection, Gap, Row
+from ..comparison.verdict.findings import Compared, Finding, Run
+from ..comparison.verdict.ignored import Ignored
+from ..comparison.verdict.report import Report
+from ..exchanges.listing import Message
+from ..recordings.coverage import named
+from ..recordings.parts import Part
+from ..recordings.selection import count, plural
+from ..recordings.taken import FrameRef
+from ..reporting import telling
+from ..reporting.frames import time_of
+from . import fields, markup
+from .fields import SIDES, SIGNS
+from .glance import phrases
+from .markup import code
+
+SHOWN_AT_MOST = 2_000  # findings
+# Places of findings that say the same as one: of one, and about so many of all
+OTHERS_AT_MOST, OTHERS_OF_ALL = 300, 20_000
+NOT_JUDGED_AT_MOST = 20  # connections of a run that are named
+PHRASES_AT_MOST = 6  # of what differs, under the title
+MANY = 2_000  # messages whose calls are shown
+BOTH = (0, 1)
+RUNS = ('first', 'second')
+Places = tuple[Optional[str], Optional[str]]
+
+
+class Recorded(NamedTuple):
+    """What is known of a run's files: how many bytes they have (None of a pipe), the first and the
+    last frame that carries a message (None of a capture), and the parts of a recording that has
+    several."""
+    size: int | None
+    ends: tuple[FrameRef, FrameRef] | None
+    parts: Sequence[Part]
+
+
+@dataclass(frozen=True)
+class Content:
+    """What a page is made of: what is printed of the verdict, the report, the comparison, the
+    fields that are left out of it and how often each differs, and both runs."""
+    line: str
+    report: Report
+    compared: Compared
+    ignored: Sequence[Ignored]
+    left_out: Counter[tuple[str, str]]
+    runs: Sequence[Run]
+    recorded: Sequence[Recorded]
+
+
+def places_of(first: Message | None, second: Message | None) -> Places:
+    return first.place if first else None, second.place if second else None
+
+
+def together(row: Row) -> Iterator[tuple[Message | None, Message | None]]:
+    """Returns the messages of a row: its calls, and then its replies in their order."""
+    first, second = row.first, row.second
+    yield first.call if first else None, second.call if second else None
+    yield from zip_longest(first.replies if first else (), second.replies if second else ())
+
+
+# --- The whole ---
+
+def page(content: Content) -> Iterator[str]:
+    """The page, in pieces."""
+    word, names = content.report.word(), ' and '.join(run.name for run in content.runs)
+    yield markup.opening(f'{word}: {names}')
+    body = Body(content)
+    yield from head(content, word)
+    yield from markup.folded('about', 'About these runs', facts(content))
+    if body.groups:
+        yield markup.bar('difference', 'call')
+    yield from body.all()
+    yield markup.closing()
+
+
+def head(content: Content, word: str) -> Iterator[str]:
+    """The verdict in words, what differs, and what is not compared."""
+    report, is_same, said = content.report, word.startswith('same'), ''
+    look = 'differ' if not is_same else 'part' if report.is_in_part else 'same'
+    yield markup.heading(look, f'The runs {"are the " if is_same else ""}{word}')
+    if is_same:
+        # (how the order differs is told below)
+        said = content.line.partition(';')[0]
+        yield f'<p>{code(said)}</p>'
+    else:
+        yield from glance(content)
+    losses = losses_of(report.covers, summary.RUNS) if report.covers else ''
+    if losses not in said:
+        yield f'<p class=part>Compared in part: {escape(losses)}.</p>'
+
+
+def glance(content: Content) -> Iterator[str]:
+    """What differs, in a few phrases with paths."""
+    found = phrases(content.compared)
+    said = [f'{escape(one.before)}{code(one.path) if one.path else ""}{escape(one.after)}'
+            for one in found[:PHRASES_AT_MOST]]
+    more = len(found) - PHRASES_AT_MOST
+    if more > 0:
+        said.append(f'<a href=#findings>{count(more, "more difference")}</a>')
+    if said:
+        yield f'<p class=glance>{" · ".join(said)}</p>'
+
+
+def facts(content: Content) -> Iterator[str]:
+    """Both runs, how their calls are matched, what is masked, and what else does not count."""
+    yield ''.join(f'<p>{code(line)}</p>' for line in content.line.splitlines())
+    yield f'<p>{escape(summary.of_compared(content.compared))}.</p>'
+    yield ('<table class=runs><thead><tr><th></th><th>- first run</th><th>+ second run</th></tr>'
+           '</thead>')
+    for what, values in rows_of_runs(content):
+        yield f'<tr><th>{what}</th>{"".join(f"<td>{escape(value)}</td>" for value in values)}</tr>'
+    yield '</table><dl>'
+    for what, words in words_of_masks(content):
+        yield f'<dt>{what}</dt><dd>{words}</dd>'
+    yield '</dl>'
+
+
+def rows_of_runs(content: Content) -> Iterator[tuple[str, Sequence[str]]]:
+    """What both runs are, each with a name. What neither of them has is not there."""
+    report, compared = content.report, content.compared
+    yield 'name', [run.name for run in content.runs]
+    yield 'file', ['size not known' if one.size is None else count(one.size, 'byte')
+                   for one in content.recorded]
+    if any(one.ends for one in content.recorded):
+        for at, what in enumerate(('first frame', 'last frame')):
+            yield what, [f'{time_of(one.ends[at])}, frame {one.ends[at].number}' if one.ends
+                         else 'no frames' for one in content.recorded]
+    yield 'calls', [f'{size.calls:,}' for size in report.sizes]
+    yield 'connections', [f'{size.connections:,}' for size in report.sizes]
+    if report.covers:
+        yield from rows_of_counts(report.covers)
+    if any(compared.lonely):
+        yield 'only in this run', [count(number, 'call') for number in compared.lonely]
+    if any(compared.left_out):
+        yield 'calls left out', [', '.join(f'{number:,} {summary.short(name)}'
+                                           for name, number in sorted(some.items())) or 'nothing'
+                           for some in compared.left_out]
+
+
+def rows_of_counts(covers: Sequence[Cover]) -> Iterator[tuple[str, Sequence[str]]]:
+    """How much of both runs is compared: the four counts, the calls of other programs, and what is
+    not judged as a whole."""
+    if any(cover.missing for cover in covers):
+        yield 'missing', [count(cover.missing, 'byte') for cover in covers]
+    for name in covers[0].counts().numbers():
+        yield name, [f'{cover.counts().numbers()[name]:,}' for cover in covers]
+    if any(cover.counts().raw for cover in covers):
+        yield 'raw', [named(cover.counts().raw) or 'nothing' for cover in covers]
+    rows = [[said_of(row) for row in cover.rows()] for cover in covers]
+    if any(rows):
+        yield 'not judged as a whole', [more_of(some) for some in rows]
+
+
+def said_of(row: NotJudged) -> str:
+    number = f'connection {row.connection}: ' if row.connection is not None else ''
+    return f'{number}{row.ends}{": " if row.ends else ""}{row.word}: {row.reason}'
+
+
+def more_of(some: Sequence[str]) -> str:
+    more = (f'; .. and {len(some) - NOT_JUDGED_AT_MOST:,} more'
+            if len(some) > NOT_JUDGED_AT_MOST else '')
+    return '; '.join(some[:NOT_JUDGED_AT_MOST]) + more if some else 'nothing'
+
+
+def words_of_masks(content: Content) -> Iterator[tuple[str, str]]:
+    """What does not count, as HTML."""
+    report = content.report
+    yield 'masked', (f'{code(told(report.mask).replace(",", ", "))}. '
+                     'Xids, file handles and write verifiers are renamed one to one.')
+    is_turned = report.same_under is not None
+    more = besides(report.same_under or content.compared.mask, report.mask)
+    if more:
+        yield 'also masked', (f'{code(told(more).replace(",", ", "))}, ' + (
+            'in another order.' if is_turned
+            else 'since any order was tried. What differs in these alone is not shown.'))
+    if content.compared.silent:
+        yield 'left out', ('Calls that only ask, which one run alone has, answers that an order '
+                           'explains, and calls that were sent again.')
+    if content.ignored:
+        often = f': {telling.told(content.left_out.most_common())}' if content.left_out else ''
+        yield 'ignored', f'{", ".join(code(str(one)) for one in content.ignored)}{escape(often)}.'
+
+
+# --- Findings ---
+
+def is_told_of_connections(finding: Finding) -> bool:
+    return finding.kind in ('connection', 'order')
+
+
+def is_of_fields(finding: Finding) -> bool:
+    return bool(finding.differences) or finding.kind == 'only'
+
+
+def kind_of(finding: Finding) -> tuple[str, str]:
+    """Returns of which messages a finding is that has no fields, and what is said of them."""
+    only = f'only in the {finding.run} run'
+    said = {'only': only, 'connection': only, 'moved': finding.remark,
+            'replies': 'another number of replies', 'order': 'replies in another order'}
+    return ('connections' if is_told_of_connections(finding) else finding.message.procedure,
+            said.get(finding.kind, finding.kind))
+
+
+def keys_of(finding: Finding) -> list[tuple[str, str]]:
+    """Returns the fields of a finding with their procedure, or what is said of it if it has
+    none."""
+    fields_of = [(finding.message.procedure, one.field) for one in finding.differences]
+    return fields_of or [kind_of(finding)]
+
+
+class Body:
+    """What differs, and the calls around it. Findings that say the same are one, and have a number
+    from 1 on."""
+
+    def __init__(self, content: Content) -> None:
+        self.content, self.compared = content, content.compared
+        self.framings = [run.frames for run in content.runs]
+        self.beside = self.compared.beside
+        self.groups = telling.folded(self.compared.findings)
+        self.shown = self.groups[:SHOWN_AT_MOST]
+        self.others_at_most = min(OTHERS_AT_MOST, OTHERS_OF_ALL // max(1, len(self.shown)))
+
+    def all(self) -> Iterator[str]:
+        """All parts."""
+        return chain(self.fields(), self.findings(), self.silent(), self.accepted(), self.calls())
+
+    @cached_property
+    def numbers(self) -> dict[Places, list[int]]:
+        """By both places: the numbers of the findings there."""
+        out: dict[Places, list[int]] = {}
+        for number, finding in self.numbered():
+            if finding.kind != 'order':
+                out.setdefault(places_of(finding.first, finding.second), []).append(number)
+        return out
+
+    @cached_property
+    def changed(self) -> dict[Places, Finding]:
+        """By both places: what differs between two messages, or that one run alone has a call."""
+        return {places_of(finding.first, finding.second): finding
+                for finding in self.compared.findings if is_of_fields(finding)}
+
+    def numbered(self) -> Iterator[tuple[int, Finding]]:
+        """All findings, with their numbers."""
+        return ((number, finding) for number, group in enumerate(self.groups, 1)
+                for finding in group)
+
+    @cached_property
+    def anchors(self) -> dict[Places, int]:
+        """By the places of two messages: the number of their row."""
+        rows = (row for connection in self.beside.connections for row in connection.rows
+                if isinstance(row, Row))
+        return {places_of(*both): number for number, row in enumerate(rows, 1)
+                for both in together(row)}
+
+    # --- Fields ---
+
+    def where(self) -> dict[tuple[str, str], list[tuple[int, str | None]]]:
+        """Returns where each field of a procedure, or what else is told, is: the numbers of its
+        findings, and their paths."""
+        out = defaultdict[tuple[str, str], list[tuple[int, Optional[str]]]](list)
+        for number, finding in self.numbered():
+            for key in keys_of(finding):
+                out[key].append((number, finding.path))
+        return out
+
+    def fields(self) -> Iterator[str]:
+        """The fields by their procedures, with their paths and counts."""
+        names = ['procedure', 'field', 'path', 'how often']
+        return markup.section('What differs', markup.table(names, self.rows_of_fields())
+                              ) if self.groups else iter(())
+
+    def rows_of_fields(self) -> Iterator[str]:
+        before = ''
+        for (procedure, field), some in sorted(
+                self.where().items(), key=lambda item: (item[0][0], -len(item[1]), item[0][1])):
+            first, paths = some[0][0], {path for _, path in some if path}
+            often = (f'<a href=#f{first}>{len(some):,}</a>' if first <= len(self.shown)
+                     else f'{len(some):,}')
+            path = code(min(paths)) if len(paths) == 1 else f'{len(paths):,} paths' if paths else ''
+            same = '' if procedure == before else escape(summary.short(procedure))
+            yield (f'<tr><td>{same}</td><td>{escape(field)}</td><td>{path}</td>'
+                   f'<td class=count>{often}</td></tr>')
+            before = procedure
+
+    # --- Findings ---
+
+    def findings(self) -> Iterator[str]:
+        articles = chain.from_iterable(starmap(self.article, enumerate(self.shown, 1)))
+        more = sum(map(len, self.groups[SHOWN_AT_MOST:]))
+        last = (f'<p id=more>.. and {count(more, "message")} more. <code>--json FILE</code> '
+                'writes all.</p>')
+        return markup.section(self.heading(), chain(markup.paragraphs(self.remarks()), articles,
+                                                    [last] if more else []), ' id=findings')
+
+    def heading(self) -> str:
+        """How many differences there are, those that say the same as one."""
+        total = len(self.compared.findings)
+        if not total:
+            return 'No differences'
+        return f'{count(len(self.groups), "difference")} in {count(total, "message")}'
+
+    def remarks(self) -> Iterator[str]:
+        """What is to be known of the findings, or of there being none."""
+        is_turned, is_same = (self.content.report.same_under is not None,
+                              self.content.report.verdict == 'same')
+        if self.groups and is_turned:
+            yield ('These fields differ in the runs as they are. They do not count in another '
+                   'order, because they are also masked.')
+        if not self.groups and is_turned:
+            yield 'Nothing differs but the order.'
+        if not self.groups and is_same:
+            yield 'Nothing differs but what is masked.'
+        if not self.groups and not is_turned and not is_same:
+            yield ('All fields that differ are ignored.' if self.content.left_out else
+                   'No field of matched messages differs. '
+                   'Only which messages share a value, or empty connections, can.')
+
+    def article(self, number: int, group: Sequence[Finding]) -> Iterator[str]:
+        """A finding, and the places of those that say the same."""
+        finding = group[0]
+        yield (f'<article id=f{number} data-messages={len(group)}>'
+               f'<h3><a href=#f{number}>{number}</a> {self.title(group)}</h3>')
+        for at, message in zip(BOTH, (finding.first, finding.second)):
+            if message and finding.kind != 'order':
+                yield (f'<div class=place><span class="sign {SIDES[at]}">{SIGNS[at]}</span>'
+                       f'<span>{self.place(message, at)}</span></div>')
+        if finding.remark:
+            yield f'<p>{escape(finding.remark)}</p>'
+        if is_of_fields(finding):
+            yield from fields.change_of(finding)
+        anchor = self.anchors.get(places_of(finding.first, finding.second))
+        if anchor:
+            yield f'<p><a href=#r{anchor}>among the calls around it</a></p>'
+        if len(group) > 1:
+            yield from self.others(group)
+        yield '</article>'
+
+    def title(self, group: Sequence[Finding]) -> str:
+        """Which messages they are, and the path of the first, as HTML."""
+        finding, paths = group[0], {finding.path for finding in group} - {None}
+        message = finding.message
+        if telling.is_summed(group):
+            return (f'{len(group):,} messages have values that are equal in both runs, '
+                    'and that correspond to others elsewhere')
+        only = '' if finding.first and finding.second else f'only in the {finding.run} run: '
+        if is_told_of_connections(finding):
+            return f'{only if finding.kind == "connection" else ""}connection {message.connection}'
+        one, some = ('call', 'calls') if message.is_call else ('reply', 'replies')
+        what = (f'{message.procedure} {one}' if len(group) == 1
+                else f'{len(group):,} {some} of {message.procedure}')
+        path = f' {code(finding.path)}' if finding.path else ''
+        return f'{only}{what}{path}' + (f', the first of {len(paths):,} paths' if len(paths) > 1
+                                        else '')
+
+    def place(self, message: Message, side: int) -> str:
+        """Where a message is, its frames, and a display filter for all of them to copy, as HTML."""
+        framing, parts = self.framings[side], self.content.recorded[side].parts
+        return (f'{message.place}{telling.frames_of(message, framing)}'
+                + markup.filters(parts, framing(message)))
+
+    def others(self, group: Sequence[Finding]) -> Iterator[str]:
+        """The places of the findings that say the same as the first."""
+        left = len(group) - 1 - self.others_at_most
+        more = f'<p>.. and {left:,} more</p>' if left > 0 else ''
+        return markup.folded('others', f'{count(len(group) - 1, "position")} more', chain(
+            ['<ol start=2>'], map(self.other, group[1:1 + self.others_at_most]), [f'</ol>{more}']))
+
+    def other(self, finding: Finding) -> str:
+        places = telling.places_of(finding.first, finding.second, *self.framings)
+        path = f'{code(finding.path)}: ' if finding.path else ''
+        anchor = self.anchors.get(places_of(finding.first, finding.second))
+        return f'<li>{path}{f"<a href=#r{anchor}>{places}</a>" if anchor else places}</li>'
+
+    # --- What is left out ---
+
+    def silent(self) -> Iterator[str]:
+        """The calls that are left out, by procedures and paths."""
+        lines = list(telling.of_silent(self.compared, self.framings, OTHERS_AT_MOST))
+        return markup.section('Left out', markup.paragraphs(lines)) if lines else iter(())
+
+    def accepted(self) -> Iterator[str]:
+        """How many findings were accepted, and these folded."""
+        lines = list(telling.of_accepted(self.content.report.accepted, self.framings, True))
+        shown = [line for line in lines if line.startswith('accepted: ')]
+        yield from markup.paragraphs(lines[len(shown):], 'accepted')
+        if shown:
+            yield from markup.folded('others', count(len(shown), 'accepted finding'),
+                                     markup.paragraphs(shown[:OTHERS_AT_MOST]))
+
+    # --- Calls ---
+
+    def calls(self) -> Iterator[str]:
+        """The calls that differ, those around them, and how many are between, by connections."""
+        # (a browser lays out many rows only as they come into sight)
+        many = ' class=many' if len(self.anchors) > MANY else ''
+        return markup.section('Calls', self.connections(), f' id=calls{many}')
+
+    def connections(self) -> Iterator[str]:
+        if self.beside.connections:
+            yield ('<p class=quiet>In the order of the first run. '
+                   'A click opens the fields of a call and its replies.</p>')
+        number = 0
+        for connection in self.beside.connections:
+            yield f'<div class=connection><h3>{heading_of(connection)}</h3>'
+            for row in connection.rows:
+                number += isinstance(row, Row)
+                yield from self.row(row, connection, number) if isinstance(row, Row) else gap(row)
+            yield '</div>'
+        if self.beside.others:
+            which = count(self.beside.others,
+                          'other connection' if self.beside.connections else 'connection')
+            yield from gap(self.beside.rest, f' in {which}')
+        if self.beside.cut:
+            yield (f'<p class=gap>{count(self.beside.cut, "call")} more '
+                   f'{plural(self.beside.cut, "is", "are")} only in the second run</p>')
+
+    def row(self, row: Row, connection: Connection, number: int) -> Iterator[str]:
+        """An exchange of both runs: what it is, where, and its fields on a click."""
+        exchange = row.first or row.second
+        assert exchange
+        mark, said = self.mark(row)
+        places = ' | '.join(f'{record_of(one.call, own)}{telling.frames_of(one.call, framing)}'
+                            for one, own, framing in zip(
+                                (row.first, row.second), (connection.first, connection.second),
+                                self.framings) if one)
+        yield (f'<details class="row{" told" if mark != "=" else ""}" id=r{number}>'
+               f'<summary><b class=mark>{mark}</b> {exchange.procedure}'
+               f'{f" {code(row.path)}" if row.path else ""} '
+               f'<span class=quiet>{places}</span>{said}</summary>')
+        for first, second in together(row):
+            yield from self.message(first, second)
+        yield '</details>'
+
+    def mark(self, row: Row) -> tuple[str, str]:
+        """Returns a sign for what a row is, and what is said of it, as HTML."""
+        numbers = sorted({number for both in together(row)
+                          for number in self.numbers.get(places_of(*both), ())})
+        links = ', '.join(f'<a href=#f{number}>finding {number}</a>' for number in numbers
+                          if number <= len(self.shown))
+        if row.first is None or row.second is None:
+            return (SIGNS[row.first is None],
+                    f' <span>{links or f"only in the {RUNS[row.first is None]} run"}</span>')
+        if numbers:
+            return '≠', f' <span>{links or "differs"}</span>'
+        return ('≠', ' <span>differs in what is ignored</span>') if row.is_told else ('=', '')
+
+    def message(self, first: Message | None, second: Message | None) -> Iterator[str]:
+        """A message of both runs: where it is, and its fields."""
+        message = first or second
+        assert message
+        # (the frames of the call are in the line of its row)
+        places = ' | '.join(one.place + ('' if one.is_call else telling.frames_of(one, framing))
+                            for one, framing in zip((first, second), self.framings) if one)
+        yield f'<h4>{"call" if message.is_call else "reply"}: {places}</h4>'
+        yield from fields.of_messages(first, second, self.changed.get(places_of(first, second)))
+
+
+def heading_of(connection: Connection) -> str:
+    both = connection.first, connection.second
+    of_one = f' of the {RUNS[connection.first is None]} run' if None in both else ''
+    return ' | '.join(f'connection {number}' for number in both if number is not None) + of_one
+
+
+def record_of(call: Message, connection: int | None) -> str:
+    """Returns the place of a call, short if it is on the connection that is named above."""
+    return f'record {call.record}' if call.connection == connection else call.place
+
+
+def gap(some: Gap, where: str = '') -> Iterator[str]:
+    """A line for calls that are not shown."""
+    words = [(some.equal, count(some.equal, 'equal call')),
+             (some.told,
+              f'{count(some.told, "call")} that {plural(some.told, "differs", "differ")}'),
+             (some.left_out, f'{count(some.left_out, "call")} of the first run left out')]
+    if any(some):
+        yield f'<p class=gap>{", ".join(said for number, said in words if number)}{where}</p>'

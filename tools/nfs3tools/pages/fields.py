@@ -1,0 +1,139 @@
+"""The fields of messages of both runs as HTML: those that differ come first, and those of the head
+of RPC are folded."""
+from __future__ import annotations
+
+from collections.abc import Iterable, Iterator, Sequence
+from html import escape
+from typing import NamedTuple
+
+from ..comparison.values import long_values
+from ..comparison.verdict.arguments import LAST_OF_HEAD
+from ..comparison.verdict.differences import Difference
+from ..comparison.verdict.findings import Finding
+from ..exchanges.listing import Message
+from ..exchanges.stored import Value
+from ..exchanges.whose import Labels
+from ..reporting import telling
+from . import marking, markup
+
+DIFFERENCES_AT_MOST = 200  # of a message
+FIELDS_AT_MOST = 6_000  # characters of a message's fields
+GLUE = '\u00a0'  # a space after a sign at which no line ends
+SIGNS, SIDES = ('-', '+'), ('minus', 'plus')
+LAST_OF_REPLY = 'accept_stat'  # RFC 5531, section 9
+
+
+# --- What differs ---
+
+def change_of(finding: Finding) -> Iterator[str]:
+    """The values of both runs, each with its sign, or the arguments of a call that one run alone
+    has."""
+    if finding.kind == 'only' and not any(telling.of_arguments(finding)):
+        yield '<p class=quiet>It has no arguments but its path.</p>'
+        return
+    yield '<div class=change>'
+    for difference in finding.differences[:DIFFERENCES_AT_MOST]:
+        yield from of_difference(difference)
+    yield from map(line_of, telling.of_arguments(finding))
+    if len(finding.differences) > DIFFERENCES_AT_MOST:
+        yield f'<div>.. and {len(finding.differences) - DIFFERENCES_AT_MOST:,} more fields</div>'
+    yield '</div>'
+
+
+def of_difference(difference: Difference) -> Iterator[str]:
+    """The lines of a difference, with the bytes marked that differ."""
+    lines = [line.strip() for line in telling.of_difference(difference)]
+    values, remark = marking.of_difference(difference), telling.remark_on(difference)
+    if not values or len(lines) != len(values):
+        yield from map(line_of, lines)
+        return
+    for sign, side, value in zip(SIGNS, SIDES, values):
+        more = f' <span class=quiet># {escape(remark)}</span>' if remark and sign == '+' else ''
+        yield f'<div class={side}>{sign}{GLUE}{escape(difference.label)}={value}{more}</div>'
+
+
+def line_of(line: str) -> str:
+    """A line that has a sign before it."""
+    look = markup.class_of(SIDES[SIGNS.index(line[0])] if line[0] in SIGNS else '')
+    return f'<div{look}>{line[0]}{GLUE}{escape(line[2:])}</div>'
+
+
+# --- All fields ---
+
+class Line(NamedTuple):
+    """A line of a field: whether it is of the head of RPC, whether it is not the same in both runs,
+    its label, and all of it."""
+    is_of_head: bool
+    differs: bool
+    label: str
+    text: str
+
+
+def of_messages(first: Message | None, second: Message | None,
+                finding: Finding | None) -> Iterator[str]:
+    """All fields of a message of both runs, with what differs first."""
+    told = set[str]()
+    if finding:
+        told.update(one.label for one in finding.differences)
+        told.update(one.label for one in finding.arguments)
+        yield from change_of(finding)
+    lines = [line for line in lines_of(first, second)
+             if not (line.differs and line.label in told)]
+    yield div_of(cut([line.text for line in lines if not line.is_of_head]))
+    head = [line.text for line in lines if line.is_of_head]
+    if head:
+        yield ''.join(markup.folded('head', 'head of RPC', [div_of(head)]))
+
+
+def div_of(lines: Iterable[str]) -> str:
+    text = '\n'.join(lines)
+    return f'<div class=fields>{escape(text)}</div>' if text else ''
+
+
+def lines_of(first: Message | None, second: Message | None) -> Iterator[Line]:
+    """The fields of a message of both runs. If they have not the same fields, those of the second
+    come after those of the first."""
+    if first and second and names_of(first) == names_of(second):
+        both = zip(values_of(first), values_of(second), first.items, second.items)
+        for (is_head, label, one), (_, _, other), *items in both:
+            here, there = (item.value for item in items)
+            value = one if here == there else parting_of(here, there) or f'{one} | {other}'
+            yield Line(is_head, here != there, label, f'{label}={value}')
+        return
+    for sign, message in zip(SIGNS, (first, second)):
+        if message:
+            yield from (Line(is_head, True, label, f'{sign}{GLUE}{label}={value}')
+                        for is_head, label, value in values_of(message))
+
+
+def names_of(message: Message) -> list[str]:
+    return [item.name for item in message.items]
+
+
+def values_of(message: Message) -> Iterator[tuple[bool, str, str]]:
+    """Returns of a message's items whether they are of the head of RPC, their labels, and their
+    values as they are printed, with their names if they have some."""
+    labels, last = Labels(message), LAST_OF_HEAD if message.is_call else LAST_OF_REPLY
+    end = next((at for at, item in enumerate(message.items) if item.name == last), -1)
+    for at, item in enumerate(message.items):
+        yield at <= end, labels.label(at), telling.named(item.name, item.value, labels.meaning(at))
+
+
+def parting_of(first: Value, second: Value) -> str:
+    """Returns how two values differ of which one at least is not printed whole, or nothing: what is
+    cut off may be all that differs."""
+    if telling.shortened(first) == first and telling.shortened(second) == second:
+        return ''
+    parting = long_values.apart(first, second)
+    return f'{parting.shown[0]} | {parting.shown[1]} ({long_values.told(parting)})'
+
+
+def cut(lines: Sequence[str]) -> Iterator[str]:
+    """Returns lines up to some characters, and then how many are left."""
+    size = 0
+    for number, line in enumerate(lines):
+        size += len(line)
+        if size > FIELDS_AT_MOST:
+            yield f'.. and {len(lines) - number:,} more'
+            return
+        yield line

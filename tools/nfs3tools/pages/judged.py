@@ -1,0 +1,260 @@
+"""Verdicts as one page for a browser, which needs no server: how much was judged, the tables that
+the tool prints, faults with their fields, and a time line of latencies for each recording.
+
+A page is green only for what was judged. It is made in pieces, and all that comes from a recording
+is escaped.
+"""
+from __future__ import annotations
+
+from collections.abc import Container, Iterable, Iterator, Sequence
+from html import escape
+from itertools import chain, starmap, zip_longest
+from typing import NamedTuple
+
+from ..judgement.verdict import (
+    HEADS, Verdict, counts_after, is_row, named, notes_of, row_of, status_of)
+from ..recordings.coverage import Allowed, Counts, named as named_calls
+from ..recordings.selection import count, plural
+from ..shared.printed import escaped, printable
+from ..shared.screens import Styled
+from . import markup
+from .markup import class_of
+from .seen import Fault, Seen, verdicts_in
+from .time_line import FORMS, of_time_line
+
+# How words of verdicts look: good, judged in part, at fault.
+GOOD, PART, BAD = 'plus', 'part', 'minus'
+LOOKS = {'ok': GOOD, 'in part': PART, 'left out': PART, 'not checked': PART, 'refused': BAD,
+         'error': BAD}
+COUNTED = (('in part', PART), ('left out', PART), ('not checked', PART), ('errors', BAD))
+FAULTS_AT_MOST = 500  # on a page
+
+
+class Table(NamedTuple):
+    """A table below its title: its heads, and its rows as HTML. One of cards has its rows one below
+    the other in a narrow window, and others can be moved sideways there. Valid rows are folded
+    below the others."""
+    title: str
+    heads: Sequence[str]
+    rows: Sequence[str]
+    is_of_cards: bool = False
+    valid: Sequence[str] = ()
+
+
+class Content(NamedTuple):
+    """What a page is made of: the recordings, what does not change the status, and the tables of
+    all of them and of each. Faults are shown if that is asked for."""
+    seen: Sequence[Seen]
+    allowed: Allowed
+    tables: Sequence[Table]
+    of_each: Sequence[Sequence[Table]]
+    has_faults: bool
+
+
+def page(content: Content) -> Iterator[str]:
+    """The page, in pieces."""
+    verdicts = verdicts_in(content.seen)
+    counts, names = counts_after(verdicts), [escaped(one.recording) for one in content.seen]
+    more = f' and {len(names) - 1:,} more' if len(names) > 1 else ''
+    look, words = title_of(counts)
+    yield markup.opening(f'{words}: {names[0]}{more}') + FORMS
+    yield markup.heading(look, words)
+    yield from of_counts(counts)
+    yield from of_status(counts, status_of(verdicts, content.allowed), content.allowed)
+    yield markup.bar('fault', 'row')
+    for table in content.tables:
+        yield f'<section>{"".join(of_table(table, "h2"))}</section>'
+    if content.has_faults:
+        yield from of_faults(content.seen)
+    for name, one, tables in zip(names, content.seen, content.of_each or [()] * len(names)):
+        if one.line is not None or tables:
+            yield from markup.section(escape(name), of_recording(one, tables, len(names) > 1))
+    notes = [line for verdict in verdicts for line in notes_of(verdict)]
+    if notes:
+        yield from markup.section('Notes', markup.paragraphs(notes))
+    yield markup.closing()
+
+
+# --- The counts ---
+
+def title_of(counts: Counts) -> tuple[str, str]:
+    """Returns how the heading looks, and what it says: that all is valid only if all was judged."""
+    lacking = counts.in_part + counts.left_out + counts.not_checked
+    if counts.refused:
+        connections, are = count(counts.judged, 'connection'), plural(counts.refused, 'is', 'are')
+        return 'differ', f'{counts.refused:,} of {connections} {are} refused'
+    if counts.errors:
+        return 'differ', 'Not all could be read'
+    if lacking > counts.without_calls or not counts.ok:
+        return 'part', 'Not all was judged'
+    if lacking:
+        are = plural(lacking, 'is', 'are')
+        return '', f'{count(lacking, "connection")} without a call {are} left out'
+    return 'same', 'Every call of NFS and MOUNT version 3 is valid'
+
+
+def of_counts(counts: Counts) -> Iterator[str]:
+    """The counts, each with its word."""
+    look = BAD if counts.refused else GOOD if counts.ok else ''
+    detail = f' ({counts.ok:,} valid, {counts.refused:,} refused)'
+    yield f'<ul class=counts>{of_count(counts.judged, "judged" + detail, look)}'
+    for word, one in COUNTED:
+        yield of_count(counts.numbers()[word], word, one)
+    if counts.unanswered:
+        calls = plural(counts.unanswered, 'call', 'calls')
+        yield of_count(counts.unanswered, f'{calls} without a reply', PART)
+    yield '</ul>'
+
+
+def of_status(counts: Counts, status: int, allowed: Allowed) -> Iterator[str]:
+    """The status, and what does not change it."""
+    options = [option for option, is_given in (('--allow-losses', allowed.losses),
+                                               ('--allow-not-checked', allowed.not_checked))
+               if is_given]
+    under = f' under <code>{" ".join(options)}</code>' if options else ''
+    yield f'<p>The status is <b>{status}</b>{under}.'
+    if counts.without_calls:
+        yield f' {counts.without_calls:,} of those that are left out show no call.'
+    if counts.raw:
+        calls = escape(named_calls(counts.raw))
+        yield f' Calls of other programs, which are taken as they are: {calls}.'
+    yield '</p>'
+
+
+def of_count(number: int, words: str, look: str) -> str:
+    """A count. One of nothing has no colour."""
+    return f'<li{class_of(look) if number else ""}><b>{number:,}</b> {escape(words)}</li>'
+
+
+# --- Tables ---
+
+def of_table(table: Table, level: str) -> Iterator[str]:
+    if table.title:
+        yield f'<{level}>{escape(table.title)}</{level}>'
+    look = 'cards' if table.is_of_cards else 'wide'
+    if table.rows or not table.valid:
+        yield from of_rows(look, table.heads, table.rows)
+    if table.valid:
+        yield from markup.folded('valid', count(len(table.valid), 'connection') + ' ok',
+                                 of_rows(look, table.heads, table.valid),
+                                 '' if table.rows else ' open')
+
+
+def of_rows(look: str, heads: Sequence[str], rows: Iterable[str]) -> Iterator[str]:
+    yield f'<div class={look}>'
+    yield from markup.table(heads, rows)
+    yield '</div>'
+
+
+def as_printed(title: str, rows: Sequence[Styled], numbers: Container[int]) -> Table:
+    """Returns a table of rows that are printed, that of the heads first. The columns of these
+    numbers are set to the right."""
+    heads, *others = (row.cells for row in rows)
+    return Table(title, heads, [row_of_cells(cells, numbers) for cells in others])
+
+
+def row_of_cells(cells: Sequence[str], numbers: Container[int], heads: Sequence[str] = (),
+                 look: str = '', link: str = '') -> str:
+    """A row of a table, the last of whose cells has a look, or leads somewhere. Cells that are
+    given their heads are beside them in a narrow window."""
+    texts = [escape(cell) for cell in cells]
+    texts[-1] = f'<a href={link}>{texts[-1]}</a>' if link else texts[-1]
+    looks = [*('count' if at in numbers else '' for at in range(len(texts) - 1)), look]
+    inner = (f'<td{class_of(one)}{f" data-head={head}" if head else ""}>{text}</td>'
+             for text, one, head in zip_longest(texts, looks, heads))
+    return f'<tr class=row>{"".join(inner)}</tr>'
+
+
+def table_of(seen: Sequence[Seen]) -> Table:
+    """The table of `tools/verdicts`, whose faults lead to what is said of them. What is refused or
+    could not be read comes first, and what is ok is folded."""
+    numbers, links = range(4, 6), links_of(seen)
+    verdicts = [*filter(is_row, verdicts_in(seen))]
+
+    def rows(some: Iterable[Verdict]) -> list[str]:
+        return [row_of_cells(row_of(verdict._replace(message=said_of(verdict))), numbers, HEADS,
+                             look_of(verdict), links.get(id(verdict), '')) for verdict in some]
+    wrong = sorted((verdict for verdict in verdicts if verdict.state != 'ok'),
+                   key=lambda verdict: LOOKS[verdict.state] != BAD)
+    valid = rows(verdict for verdict in verdicts if verdict.state == 'ok')
+    return Table('Connections', HEADS, rows(wrong), True, valid)
+
+
+def look_of(verdict: Verdict) -> str:
+    """Returns how a verdict looks. It is green only if calls were checked."""
+    return '' if verdict.state == 'ok' and is_raw(verdict) else LOOKS[verdict.state]
+
+
+def is_raw(verdict: Verdict) -> bool:
+    """Whether all calls of a connection are those of other programs."""
+    return (verdict.calls or 0) <= sum(verdict.raw.values())
+
+
+def said_of(verdict: Verdict) -> str:
+    """Returns the words of a verdict. Nothing is called ok that was judged in part, or not
+    checked."""
+    if verdict.state == 'in part':
+        return verdict.message.removeprefix('ok ')
+    if verdict.state != 'ok':
+        return verdict.message
+    raw = f'{named_calls(verdict.raw)} raw' if verdict.raw else ''
+    return '; '.join(filter(None, ['' if is_raw(verdict) else 'ok', raw])) or 'no calls'
+
+
+def links_of(seen: Sequence[Seen]) -> dict[int, str]:
+    """Returns where a verdict's fault is on the page, by its identity."""
+    return {id(fault.verdict): f'#f{number}' for number, fault, _ in numbered(seen)}
+
+
+def numbered(seen: Sequence[Seen]) -> list[tuple[int, Fault, Seen]]:
+    """Returns the faults that are shown, with their numbers and recordings."""
+    faults = [(fault, one) for one in seen for fault in one.faults]
+    return [(number, *both) for number, both in enumerate(faults[:FAULTS_AT_MOST], 1)]
+
+
+# --- Faults ---
+
+def of_faults(seen: Sequence[Seen]) -> Iterator[str]:
+    """What is refused: where, why, in which frames, and the fields of the message."""
+    shown = numbered(seen)
+    more = sum(verdict.state == 'refused' for one in seen for verdict in one.verdicts) - len(shown)
+    last = [f'<p id=more>.. and {count(more, "fault")} more.</p>'] if more else []
+    if shown:
+        yield from markup.section(
+            count(len(shown) + more, 'fault'),
+            chain(chain.from_iterable(starmap(of_fault, shown)), last), ' id=faults')
+
+
+def of_fault(number: int, fault: Fault, seen: Seen) -> Iterator[str]:
+    verdict, name = fault.verdict, escape(printable(named(fault.verdict)))
+    yield f'<article id=f{number}><h3><a href=#f{number}>{number}</a> {name}</h3>'
+    filters = markup.filters(seen.parts, [frame.number for frame in verdict.frames])
+    yield f'<p class=minus>{escape(printable(verdict.message))}{filters}</p>'
+    if verdict.client:
+        yield f'<p class=quiet>client {escape(verdict.client)}, server {escape(verdict.server)}</p>'
+    yield pre_of(fault.item)
+    if fault.message:
+        yield from markup.folded('others', 'all fields of the message', [pre_of(fault.message)])
+    yield '</article>'
+
+
+def pre_of(lines: Sequence[str]) -> str:
+    text = '\n'.join(lines)
+    return f'<pre>{escape(text)}</pre>' if text else ''
+
+
+# --- Recordings ---
+
+def of_recording(seen: Seen, tables: Sequence[Table], has_counts: bool) -> Iterator[str]:
+    """The time line of a recording, its own counts if that is asked for, and its tables: that of
+    all its connections, and those of each folded."""
+    if has_counts:
+        yield from of_counts(counts_after(seen.verdicts))
+    if seen.line is not None:
+        yield from of_time_line(seen.line)
+    for table in tables[:1]:
+        yield from of_table(table, 'h3')
+    if len(tables) > 1:
+        inner = (piece for table in tables[1:] for piece in of_table(table, 'h3'))
+        words = count(len(tables) - 1, 'table')
+        yield from markup.folded('others', f'{words} of single connections', inner)

@@ -1,0 +1,56 @@
+"""Rows for programs, which are written one by one: as JSON, or as comma-separated values."""
+from __future__ import annotations
+
+import argparse
+import csv
+import json
+import sys
+from collections.abc import Iterable, Mapping, Sequence
+
+Rows = Iterable[Sequence[object]]
+
+
+class JsonRows:
+    """An object with the version of its form, a list of objects, a line for each row, and then
+    other members."""
+
+    def __init__(self, version: int, name: str, columns: Sequence[str]) -> None:
+        self.columns, self.before = columns, ''
+        sys.stdout.write(f'{{"version": {version}, "{name}": [')
+
+    def add(self, rows: Rows) -> None:
+        for row in rows:
+            sys.stdout.write(f'{self.before}\n{json.dumps(dict(zip(self.columns, row)))}')
+            self.before = ','
+
+    def end(self, members: Mapping[str, object]) -> None:
+        sys.stdout.write(f'\n],{json.dumps(members, indent=1)[1:]}\n')
+
+
+class CsvRows:
+    """A line with the heads, and one for each row."""
+
+    def __init__(self, columns: Sequence[str]) -> None:
+        self.writer = csv.writer(sys.stdout, lineterminator='\n')
+        self.writer.writerow(columns)
+
+    def add(self, rows: Rows) -> None:
+        self.writer.writerows(rows)
+
+    def end(self, members: Mapping[str, object]) -> None:
+        """The members have no row."""
+
+
+def add_forms(parser: argparse.ArgumentParser) -> None:
+    """The options that ask for rows."""
+    form = parser.add_mutually_exclusive_group()
+    form.add_argument('--json', action='store_true', help='prints JSON')
+    form.add_argument('--csv', action='store_true', help='prints comma-separated values')
+
+
+def form_of(chosen: argparse.Namespace, version: int, name: str,
+            columns: Sequence[str]) -> JsonRows | CsvRows | None:
+    """Begins the rows that these options ask for, if one is given."""
+    if chosen.json:
+        return JsonRows(version, name, columns)
+    return CsvRows(columns) if chosen.csv else None

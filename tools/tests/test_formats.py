@@ -1,0 +1,317 @@
+"""Tests of the formats of recordings and of the layers of their frames, which `tools/from_pcap` and
+the other tools read alike.
+"""
+import bz2
+import gzip
+import lzma
+import os
+import random
+import shutil
+import struct
+import subprocess
+import sys
+import typing
+
+from examples.packets import ACK, CLIENT, SERVER, SYN, Talk, datagram, ethernet, pcap
+from tests.shared.running import begin, ended
+
+from ..nfs3tools.recordings.container import capture_of
+from ..nfs3tools.recordings.taken import NotTaken
+from .cases import FolderTest
+from .recordings import (
+    NANOSECONDS, block, cooked, cooked_2, enhanced, extended, interface, loopback, obsolete, pcapng,
+    section, simple)
+from .scripts import ALL, TOP, Tools, packed, taken_of, whole
+
+# --- Recordings ---
+
+def recordings_of_all_kinds(tools: Tools) -> None:
+    """pcap in both byte orders and units of time, pcapng with sections, interfaces and each kind of
+    packet, gzip."""
+    frames = whole()
+    for order in '<>':
+        tools.taken('pcap ' + order, pcap(frames, order=order), [ALL])
+        tools.taken('nanoseconds ' + order, pcap(frames, order=order, magic=NANOSECONDS), [ALL])
+        tools.taken('pcapng ' + order, pcapng(frames, order), [ALL])
+        tools.taken('packets without times ' + order,
+                    section(order) + interface(order=order)
+                    + b''.join(simple(frame, order) for frame in frames), [ALL])
+        tools.taken('obsolete packets ' + order,
+                    section(order) + interface(order=order)
+                    + b''.join(obsolete(frame, order=order) for frame in frames), [ALL])
+    tools.taken('two sections', pcapng(frames[:6]) + pcapng(frames[6:], '>'), [ALL])
+    raw = [frame[14:] for frame in frames]
+    several = section() + interface() + interface(101) + interface(113)
+    mixed = (enhanced([frame, raw[at], cooked(raw[at])][at % 3], at, at % 3)
+             for at, frame in enumerate(frames))
+    tools.taken('three interfaces', several + b''.join(mixed), [ALL])
+    tools.taken('the interfaces of the second section',
+                several + b''.join(enhanced(frame, 0, 0) for frame in frames[:6])
+                + section() + interface(101)
+                + b''.join(enhanced(content, 0, 0) for content in raw[6:]), [ALL])
+    packed_twice = gzip.compress(pcap(frames)[:300]) + gzip.compress(pcap(frames)[300:])
+    tools.taken('gzip', gzip.compress(pcap(frames)), [ALL])
+    tools.taken('gzip of pcapng', gzip.compress(pcapng(frames)), [ALL])
+    tools.taken('gzip in two members', packed_twice, [ALL])
+    tools.taken('zeros after gzip', gzip.compress(pcap(frames)) + bytes(512), [ALL])
+
+
+PACKERS: dict[str, typing.Callable[[bytes], bytes]] = {'gzip': gzip.compress, 'xz': lzma.compress,
+                                                       'bzip2': bz2.compress}
+if shutil.which('zstd'):
+    PACKERS['zstd'] = lambda content: subprocess.run(['zstd', '-cq'], input=content,
+                                                     stdout=subprocess.PIPE, check=True).stdout
+
+
+def compressed_recordings(tools: Tools) -> None:
+    """Recordings and captures by each packer, also in several pieces. One that is cut anywhere, or
+    that goes on in another way, is never whole, nor is one in which a bit is another, unless the
+    bit says nothing."""
+    content, several = pcap(whole()), pcapng(whole())
+    for name, pack in PACKERS.items():
+        packed_one = pack(content)
+        tools.taken(name, packed_one, [ALL])
+        tools.taken(name + ' of pcapng', pack(several), [ALL])
+        tools.taken(name + ' of a capture', pack(packed(ALL)), [ALL])
+        tools.taken(name + ' in pieces', pack(content[:99]) + pack(b'') + pack(content[99:300])
+                    + pack(content[300:]), [ALL])
+        other, step = PACKERS['gzip' if name == 'xz' else 'xz'](b'x'), 97 if name == 'zstd' else 7
+        for what, recording in (('text after it', packed_one + b'text'),
+                                ('another packer', packed_one + other),
+                                *((f'{size} bytes', packed_one[:size])
+                                  for size in range(1, len(packed_one), step))):
+            tools.want(f'{name}, {what}', taken_as_whole(recording), None)
+    for name in ('xz', 'bzip2'):
+        zeros = PACKERS[name](content) + bytes(512)
+        tools.taken('zeros after ' + name, zeros, [ALL])
+        tools.taken('zeros in ' + name, PACKERS[name](content[:99]) + bytes(2_000_004)
+                    + PACKERS[name](content[99:]), [ALL])
+        chance, whole_one = random.Random(7), PACKERS[name](content)
+        for _ in range(200):
+            at, flipped = chance.randrange(len(whole_one)), 1 << chance.randrange(8)
+            other = whole_one[:at] + bytes([whole_one[at] ^ flipped]) + whole_one[at + 1:]
+            tools.want(f'{name}, byte {at}', taken_as_whole(other) in (None, packed(ALL)), True)
+    begin, empty = os.times(), lzma.compress(b'')
+    tools.taken('empty streams', empty * 20_000 + lzma.compress(content) + empty, [ALL])
+    tools.want('seconds', os.times().user - begin.user < 10, True)
+
+
+def taken_as_whole(recording: bytes) -> bytes | None:
+    """The capture of a recording, unless something is said against that."""
+    try:
+        taken = taken_of(recording)
+    except NotTaken:
+        return None
+    return None if taken.damage or taken.notes or taken.remarks else b''.join(
+        capture_of(taken.pairs()))
+
+
+def what_is_not_decompressed(tools: Tools) -> None:
+    """A stream of xz that asks for much memory is refused. If zstd is not there or is killed, that
+    is told."""
+    large = lzma.compress(pcap(whole()), filters=[{'id': lzma.FILTER_LZMA2, 'dict_size': 1 << 30}])
+    tools.refused('a window of 1 GB', large,
+                  'the compressed file is damaged: Memory usage limit exceeded')
+    if 'zstd' in PACKERS:
+        tools.write('a.zst', PACKERS['zstd'](pcap(whole())))
+        os.mkdir(tools.path('bin'))
+        env = {**os.environ, 'PATH': tools.path('bin')}
+        words = [sys.executable, str(TOP / 'tools/from_pcap'), 'a.zst', 'out']
+        told = ('from_pcap: it is compressed by zstd: decompress it first, as in `zstd -dc FILE | '
+                'tools/from_pcap - OUT`\n')
+        tools.want('no zstd', ended(words, tools.folder, env=env).text(), (2, '', told))
+        tools.write('bin/zstd', b'#!/bin/sh\nkill -9 $$\n')
+        os.chmod(tools.path('bin/zstd'), 0o755)
+        tools.want('killed', ended(words, tools.folder, env=env).text(),
+                   (3, '', 'from_pcap: zstd was killed by signal 9 (Killed)\n'))
+        tools.want('OUT', tools.exists('out'), False)
+
+
+def times(tools: Tools) -> None:
+    """The times of frames, by the unit and offset of their interface."""
+    frames, second = whole(), 1_000_000_000
+    for what, recording, time in (
+            ('microseconds', pcap(frames), second + 3_000),
+            ('nanoseconds', pcap(frames, magic=NANOSECONDS), second + 3),
+            ('microseconds, big-endian', pcap(frames, order='>'), second + 3_000),
+            ('nanoseconds, big-endian', pcap(frames, order='>', magic=NANOSECONDS), second + 3),
+            ('pcapng', pcapng(frames), 3_000), ('pcapng, big-endian', pcapng(frames, '>'), 3_000),
+            ('milliseconds', section() + interface(unit=3)
+             + b''.join(enhanced(frame, 7 << 30) for frame in frames), (7 << 30) * 1_000_000),
+            ('a power of two', section() + interface(unit=0x80 | 10)
+             + b''.join(enhanced(frame, 1_536) for frame in frames), second * 3 // 2),
+            ('an offset', section() + interface(unit=9, offset=5)
+             + b''.join(enhanced(frame, 1) for frame in frames), 5 * second + 1)):
+        noted = taken_of(recording).connections[0].client.frames(0, 1)
+        tools.want(what, [tuple(frame) for frame in noted], [(4, time)])
+
+
+def times_past_63_bits(tools: Tools) -> None:
+    """A time that does not fit 63 bits of nanoseconds is unknown: by its number, by its unit and by
+    its offset."""
+    frames, most, year = whole(), (1 << 63) - 1, 31_536_000
+    for what, head, number, time in (
+            ('the last that fits', interface(unit=9), most, most),
+            ('one more', interface(unit=9), most + 1, 0),
+            ('all bits', interface(unit=9), (1 << 64) - 1, 0),
+            ('seconds', interface(unit=0), 1 << 40, 0),
+            ('the last seconds', interface(unit=0), 9_223_372_036, 9_223_372_036 * 10 ** 9),
+            ('the first seconds too many', interface(unit=0), 9_223_372_037, 0),
+            ('an offset', interface(unit=9, offset=1 << 62), 1, 0),
+            ('an offset back', interface(unit=9, offset=-(1 << 62)), 1, 0),
+            ('an offset of a year', interface(unit=9, offset=-year), year * 10 ** 9 + 1, 1)):
+        tools.write('a.pcap',
+                    section() + head + b''.join(enhanced(frame, number) for frame in frames))
+        noted = taken_of(tools.read('a.pcap') or b'').connections[0].client.frames(0, 1)
+        tools.want(what, [tuple(frame) for frame in noted], [(4, time)])
+        found = tools.tool('where', 'a.pcap', 'connection 1 client record 1 byte 0')
+        tools.want(what + ', where', (found[0], found[1].splitlines()[1:2]
+                                      == ['frame 4, without a time'], found[2]), (0, not time, ''))
+
+
+def empty_gzip_members(tools: Tools) -> None:
+    """Any number of empty members before, between and after those with bytes cost what their bytes
+    cost."""
+    content, empty = pcap(whole()), gzip.compress(b'')
+    begin = os.times()
+    for size in (1, 700, len(content)):
+        pieces = [gzip.compress(content[at:at + size]) for at in range(0, len(content), size)]
+        tools.taken(f'members of {size} bytes', b''.join(pieces), [ALL])
+    tools.taken('empty members', empty * 50_000 + gzip.compress(content[:99]) + empty * 450_000
+                + gzip.compress(content[99:]) + empty, [ALL])
+    tools.want('seconds', os.times().user - begin.user < 30, True)
+    for size in range((1 << 20) - 2, (1 << 20) + 2):  # about a block that is read at once
+        first = in_member(content[:99], size)
+        tools.want(f'{size} bytes', (len(first), gzip.decompress(first)), (size, content[:99]))
+        tools.taken(f'a member of {size} bytes', first + gzip.compress(content[99:]), [ALL])
+
+
+def in_member(content: bytes, size: int) -> bytes:
+    """A member of so many bytes: a comment in its head fills them (RFC 1952, section 2.3)."""
+    plain = gzip.compress(content)
+    return plain[:3] + b'\x10' + plain[4:10] + b'x' * (size - len(plain) - 1) + b'\0' + plain[10:]
+
+
+def recordings_that_end_early(tools: Tools) -> None:
+    """A recording that is cut, damaged, or none. What is before the damage is taken, and no memory
+    for what a length claims."""
+    frames, cut = whole(), 'in part: the recording ends inside a frame (frame 15)'
+    plain, blocks, packed_whole = pcap(frames), pcapng(frames), gzip.compress(pcap(frames))
+    last = len(frames[-1])
+    tools.told('cut in its last frame', plain[:-10], [ALL], [cut])
+    tools.told('cut in the head of it', plain[:-last - 3], [ALL], [cut])
+    tools.told('pcapng cut in its last frame', blocks[:-10], [ALL], [cut])
+    tools.told('pcapng cut in the head of it', blocks[:-len(enhanced(frames[-1])) + 9], [ALL],
+               [cut])
+    lines = tools.taken('gzip cut short', packed_whole[:-12], [ALL])
+    tools.want('gzip cut short', lines[-1], cut + ': the compressed file is cut short')
+    lines = tools.taken('gzip with a wrong sum', packed_whole[:-8] + bytes(8), [ALL])
+    tools.want('gzip with a wrong sum', 'the recording is damaged after frame 15: the compressed '
+               'file is damaged' in lines[0], True)
+    claim = struct.pack('<4I', 1, 0, 0xffffffff, 0xffffffff)
+    claimed = 'the recording is damaged after frame 15: frame 16 claims 4294967295 bytes'
+    tools.told('a frame of 4 GB', plain + claim + frames[0], [ALL], [claimed])
+    for what, damage, words in (
+            ('a block of 4 GB', struct.pack('<3I', 6, 0xfffffffc, 0),
+             'a block claims 4294967292 bytes'),
+            ('a block of 13 bytes', struct.pack('<4I', 6, 13, 0, 0), 'a block claims 13 bytes'),
+            ('a block of 8 bytes', struct.pack('<3I', 6, 8, 8), 'a block claims 8 bytes'),
+            ('a section of 24 bytes', struct.pack('<6I', 0x0a0d0d0a, 24, 0x1a2b3c4d, 1, 0, 24),
+             'a block claims 24 bytes'),
+            ('a section without an order', struct.pack('<3I', 0x0a0d0d0a, 28, 7),
+             'the byte order of a section is unknown'),
+            ('two lengths', block(6, bytes(20))[:-4] + struct.pack('<I', 28),
+             'the two lengths of a block differ'),
+            ('no such interface', enhanced(frames[0], 0, 1),
+             'a frame of interface 1, which is not described'),
+            ('a short packet', block(6, bytes(8)), 'a block is too short'),
+            ('more bytes than its block', block(6, struct.pack('<5I', 0, 0, 0, 99, 99)),
+             'frame 16 claims 99 bytes')):
+        told = taken_of(blocks + damage + enhanced(frames[0]))
+        tools.want(what, (b''.join(capture_of(told.pairs())),
+                          words in (told.damage or '') or told.damage), (packed(ALL), True))
+    for what, recording, message in (
+            ('nothing', b'', 'it is empty'),
+            ('text', b'no recording', 'it is neither pcap nor pcapng'),
+            ('gzip of text', gzip.compress(b'no recording'), 'it is neither pcap nor pcapng'),
+            ('three bytes of gzip', gzip.compress(b'x')[:3], 'the compressed file is cut short'),
+            ('xz', b'\xfd7zXZ\0\0', 'the compressed file is cut short'),
+            ('zstd', b'\x28\xb5\x2f\xfd', ''),
+            ('lz4', b'\x04\x22\x4d\x18', 'it is compressed by lz4'),
+            ('a magic alone', plain[:4], 'its header is cut short')):
+        tools.refused(what, recording, message) if what != 'a magic alone' else tools.want(
+            what, message in (taken_of(recording).damage or ''), True)
+
+
+def link_layers(tools: Tools) -> None:
+    for hosts in ((CLIENT, SERVER), ('2001:db8::7', '2001:db8::1')):
+        frames = whole(hosts=hosts)
+        raw = [frame[14:] for frame in frames]
+        tags = [ethernet(content, [(0x88a8, 9), (0x8100, 7)]) for content in raw]
+        tools.taken('Ethernet', pcap(frames), [ALL])
+        tools.taken('a VLAN', pcap(whole(hosts=hosts, vlan=7)), [ALL])
+        tools.taken('a VLAN in a VLAN', pcap(tags), [ALL])
+        tools.taken('padding', pcap([frame.ljust(60, b'\xee') for frame in frames]), [ALL])
+        tools.taken('cooked', pcap(map(cooked, raw), link=113), [ALL])
+        tools.taken('cooked, version 2', pcap(map(cooked_2, raw), link=276), [ALL])
+        tools.taken('cooked, with a VLAN',
+                    pcap((cooked(content)[:14]
+                          + struct.pack('>HHH', 0x8100, 7, 0x86dd if ':' in hosts[0] else 0x0800)
+                          + content for content in raw), link=113), [ALL])
+        tools.taken('loopback', pcap(map(loopback, raw), link=0), [ALL])
+        tools.taken('loopback of another machine',
+                    pcap((loopback(content, '>') for content in raw), link=0), [ALL])
+        tools.taken('loopback in the order of the network',
+                    pcap((loopback(content, '>') for content in raw), link=108), [ALL])
+        for link in (12, 14, 101, 228 if ':' not in hosts[0] else 229):
+            tools.taken('raw IP %d' % link, pcap(raw, link=link), [ALL])
+    lines = tools.taken('another link type', pcap(frames, link=147), [])
+    tools.want('another link type', lines,
+               ['not checked: 15 frames of the link type 147 are not read; what is in them is not '
+                'known'])
+    other = [ethernet(datagram(CLIENT, SERVER, bytes(30), 17)), bytes(12) + b'\x08\x06' + bytes(28),
+             b'', bytes(13), bytes(14)]
+    short = ('in part: 2 frames are not taken, since their headers are not whole or do not fit '
+             'their length')
+    tools.told('UDP, ARP and short frames', pcap(other + whole()), [ALL], [short])
+
+
+def internet_layers(tools: Tools) -> None:
+    """Options and extension headers, fragments in any order, lengths of 0, and those that lie."""
+    talk = Talk()
+    v4 = [ethernet(b'\x46' + content[1:2] + struct.pack('>H', len(content) + 4) + content[4:20]
+                   + b'\1\1\1\0' + content[20:])
+          for content in (frame[14:] for frame in whole())]
+    tools.taken('options of IPv4', pcap(v4), [ALL])
+    talk = Talk()
+    with_options = [ethernet(talk.datagram(0, SYN, options=b'\2\4\5\xb4')), *whole()[1:3]]
+    talk.next[0] += 1
+    talk.next[1] += 1
+    content = ethernet(talk.datagram(0, ACK, ALL[0], options=b'\1\1\x08\x0a' + bytes(8)))
+    tools.taken('options of TCP', pcap([*with_options, content]), [(ALL[0], b'')])
+    no_lengths = [frame[:16] + b'\0\0' + frame[18:] for frame in whole()]
+    tools.taken('total length 0', pcap(no_lengths), [ALL])
+    frames = whole(hosts=('2001:db8::7', '2001:db8::1'))
+    tools.taken('payload length 0', pcap([frame[:18] + b'\0\0' + frame[20:] for frame in frames]),
+                [ALL])
+    headers = [(0, bytes(8)), (60, b'\0\1' + bytes(14)), (43, bytes(8)), (51, b'\0\1' + bytes(10))]
+    tools.taken('extension headers',
+                pcap(ethernet(extended(frame[14:], headers)) for frame in frames), [ALL])
+    tools.taken('an atomic fragment', pcap(ethernet(extended(frame[14:], [(44, bytes(8))]))
+                                           for frame in frames), [ALL])
+    lying = whole()
+    lying[4] = lying[4][:16] + b'\xff\xff' + lying[4][18:]
+    told = ('in part: 1 frame to or from port 2049 is not taken, since its headers are not whole '
+            'or do not fit its length')
+    tools.want('a header that lies', tools.taken('a header that lies', pcap(lying + whole()[4:5]),
+                                                 [ALL])[-1], told)
+    lying[4] = whole()[4][:46] + b'\xf0' + whole()[4][47:58]
+    tools.want('a TCP header that lies',
+               tools.taken('a TCP header that lies', pcap(lying + whole()[4:5]), [ALL])[-1], told)
+
+
+class FormatsTest(FolderTest, make=Tools, tests=[
+        recordings_of_all_kinds, compressed_recordings, what_is_not_decompressed, times,
+        times_past_63_bits, empty_gzip_members, recordings_that_end_early, link_layers,
+        internet_layers]):
+    """Each test has a folder of its own."""

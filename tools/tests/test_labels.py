@@ -1,0 +1,347 @@
+"""Tests of whose a field is that tools/compare names, in each procedure, and of the classes of
+values that whose an item is decides.
+
+What is expected is written by hand, by RFC 1813 and RFC 5531.
+"""
+import random
+from collections.abc import Sequence
+
+from examples import messages
+from examples.messages import (
+    BLK, DIR, EXCLUSIVE, MOUNT, NFS, NFSACL, NOENT, NOW, REG, UNCHECKED, auth_sys, call, dirop,
+    failed, fattr, fh, guard, how, hyper, made, ok, opaque, post_op_attr, sattr, set_to_client_time,
+    success, wcc, word)
+from tests.shared.traffic import Names, Traffic
+
+from ..nfs3tools.exchanges.listing import Message, messages_of
+from ..nfs3tools.exchanges.whose import Labels, fields_of
+from ..nfs3tools.comparison.values.classes import Mask, Way, mask_of
+from ..nfs3tools.comparison.verdict.differences import Comparison
+from .cases import FolderTest
+from .test_compare import Conversation
+from .test_findings import FILE, FOLDER, Findings, H, VERIFIER
+
+SETTINGS = sattr(0o644, 1, 2, 3, set_to_client_time(NOW), set_to_client_time(NOW))
+
+# --- Labels ---
+
+TIMES = 'atime_sec atime_nsec mtime_sec mtime_nsec ctime_sec ctime_nsec'
+ATTRIBUTES = 'type mode nlink uid gid size used rdev1 rdev2 fsid fileid ' + TIMES
+CREDENTIAL = ('mtype rpcvers prog vers proc cred_flavor cred_length cred.stamp cred.machinename '
+              'cred.uid cred.gid cred.gids cred.group '
+              'cred.group verf_flavor verf_body')
+ACCEPTED = 'mtype reply_stat verf_flavor verf_body accept_stat'
+SET = ('set_mode set.mode set_uid set.uid set_gid set.gid set_size set.size set_atime '
+       'set.atime_sec set.atime_nsec set_mtime set.mtime_sec '
+       'set.mtime_nsec')
+
+
+def of(owner: str, names: str) -> list[str]:
+    return [f'{owner}.{name}' for name in names.split()]
+
+
+def attr(owner: str) -> list[str]:
+    """post_op_attr with attributes."""
+    return of(owner, 'attr ' + ATTRIBUTES)
+
+
+def change(owner: str) -> list[str]:
+    """wcc_data with attributes before and after."""
+    return [f'{owner}.before',
+            *of(f'{owner} before', 'size mtime_sec mtime_nsec ctime_sec ctime_nsec'),
+            *attr(f'{owner} after')]
+
+
+def listed(name: str) -> list[str]:
+    """An entry of READDIRPLUS with attributes and a handle."""
+    owner = f'entry "{name}"'
+    return ['entry', f'{owner} listed.fileid', *of(owner, 'name cookie'), *attr(owner),
+            *of(owner, 'handle fh')]
+
+
+A, W = post_op_attr(FILE), wcc(4, FILE)
+NEW = made(H, FILE, W)
+ENTRIES = messages.entries(FOLDER, VERIFIER,
+                           [messages.entry(1, b'a.b', 2), messages.entry(3, b'c', 4)], is_end=True)
+ENTRIES_PLUS = messages.entries(FOLDER, VERIFIER, [
+    messages.entryplus(1, b'a.b', 2, FILE, H), messages.entryplus(3, b'c', 4),
+    messages.entryplus(5, b'd"', 6, FOLDER, H)], is_end=True)
+MADE = ['handle', 'fh', *attr('obj'), *change('dir')]
+
+# Of each procedure its arguments, the results of a success and those of a failure, and the labels
+# of each of the three.
+Row = tuple[bytes, bytes, bytes | None, Sequence[str], Sequence[str], Sequence[str]]
+NFS_ROWS: dict[int, Row] = {
+    0: (b'', b'', None, [], [], []),
+    1: (fh(H), FILE, b'', ['fh'], of('obj', ATTRIBUTES), []),
+    2: (fh(H) + SETTINGS + guard(NOW), W, W, ['fh', *SET.split(), 'check', 'guard.ctime_sec',
+                                              'guard.ctime_nsec'], change('obj'),
+        change('obj')),
+    3: (dirop(H, b'a'), fh(H) + A + A, A, ['fh', 'name'], ['fh', *attr('obj'), *attr('dir')],
+        attr('dir')),
+    4: (fh(H) + word(1), A + word(1), A, ['fh', 'access'], [*attr('obj'), 'access'], attr('obj')),
+    5: (fh(H), A + opaque(b'p'), A, ['fh'], [*attr('obj'), 'path'], attr('obj')),
+    6: (fh(H) + hyper(1) + word(2), A + word(2) + word(1) + opaque(b'hi'), A,
+        ['fh', 'offset', 'count'], [*attr('obj'), 'count', 'eof', 'data'], attr('obj')),
+    7: (fh(H) + hyper(1) + word(2) + word(0) + opaque(b'hi'), W + word(2) + word(0) + VERIFIER, W,
+        ['fh', 'offset', 'count', 'stable', 'data'], [*change('obj'), 'count', 'committed', 'verf'],
+        change('obj')),
+    8: (dirop(H, b'a') + how(UNCHECKED, SETTINGS), NEW, W, ['fh', 'name', 'how', *SET.split()],
+        MADE, change('dir')),
+    9: (dirop(H, b'a') + SETTINGS, NEW, W, ['fh', 'name', *SET.split()], MADE, change('dir')),
+    10: (dirop(H, b'a') + SETTINGS + opaque(b'p'), NEW, W, ['fh', 'name', *SET.split(), 'path'],
+         MADE, change('dir')),
+    11: (dirop(H, b'a') + word(BLK) + SETTINGS + word(1) + word(2), NEW, W,
+         ['fh', 'name', 'type', *SET.split(), 'spec1', 'spec2'], MADE, change('dir')),
+    12: (dirop(H, b'a'), W, W, ['fh', 'name'], change('dir'), change('dir')),
+    13: (dirop(H, b'a'), W, W, ['fh', 'name'], change('dir'), change('dir')),
+    14: (dirop(H, b'a') + dirop(H, b'b'), W + W, W + W,
+         ['from.fh', 'from.name', 'to.fh', 'to.name'],
+         [*change('from-dir'), *change('to-dir')], [*change('from-dir'), *change('to-dir')]),
+    15: (fh(H) + dirop(H, b'a'), A + W, A + W, ['file.fh', 'link.fh', 'link.name'],
+         [*attr('file'), *change('dir')], [*attr('file'), *change('dir')]),
+    16: (fh(H) + hyper(0) + bytes(8) + word(9), ENTRIES, A, ['fh', 'cookie', 'cookieverf', 'count'],
+         [*attr('dir'), 'cookieverf', 'entry', *of('entry "a.b"', 'fileid name cookie'), 'entry',
+          *of('entry "c"', 'fileid name cookie'), 'entry', 'eof'], attr('dir')),
+    17: (fh(H) + hyper(0) + bytes(8) + word(9) + word(9), ENTRIES_PLUS, A,
+         ['fh', 'cookie', 'cookieverf', 'dircount', 'maxcount'],
+         [*attr('dir'), 'cookieverf', *listed('a.b'), 'entry', 'entry "c" listed.fileid',
+          *of('entry "c"', 'name cookie attr handle'),
+          *listed('d\\x22'), 'entry', 'eof'], attr('dir')),
+    18: (fh(H), A + bytes(52), A, ['fh'],
+         [*attr('obj'), *'tbytes fbytes abytes tfiles ffiles afiles invarsec'.split()],
+         attr('obj')),
+    19: (fh(H), A + bytes(48), A, ['fh'], [*attr('obj'), 'rtmax', 'rtpref', 'rtmult', 'wtmax',
+                                           'wtpref', 'wtmult', 'dtpref', 'maxfilesize',
+                                           'delta_sec', 'delta_nsec', 'properties'], attr('obj')),
+    20: (fh(H), A + bytes(24), A, ['fh'], [*attr('obj'), 'linkmax', 'name_max', 'no_trunc',
+                                           'chown_restricted', 'case_insensitive',
+                                           'case_preserving'], attr('obj')),
+    21: (fh(H) + hyper(0) + word(0), W + VERIFIER, W, ['fh', 'offset', 'count'],
+         [*change('obj'), 'verf'], change('obj'))}
+MOUNT_ROWS: dict[int, Row] = {
+    0: (b'', b'', None, [], [], []),
+    1: (opaque(b'/a'), fh(H) + messages.array([word(1), word(6)]), b'', ['dirpath'],
+        ['fh', 'flavors', 'flavor', 'flavor'], []),
+    2: (b'', messages.mountlist([(b'h', b'/a'), (b'i', b'/b')]), None, [],
+        ['entry', 'entry 1.hostname', 'entry 1.directory', 'entry', 'entry 2.hostname',
+         'entry 2.directory', 'entry'], []),
+    3: (opaque(b'/a'), b'', None, ['dirpath'], [], []),
+    4: (b'', b'', None, [], [], []),
+    5: (b'', messages.exports([(b'/a', []), (b'/b', [b'g', b'h'])]), None, [],
+        ['entry', 'entry 1.directory', 'entry 1.group', 'entry', 'entry 2.directory',
+         'entry 2.group', 'entry 2 group 1.name',
+         'entry 2.group', 'entry 2 group 2.name', 'entry 2.group', 'entry'], [])}
+# Messages with fewer parts, and those that are not accepted.
+OTHERS: list[tuple[int, bytes, bytes, Sequence[str], Sequence[str]]] = [
+    (2, fh(H) + sattr() + guard(), ok(wcc()), ['fh', 'set_mode', 'set_uid', 'set_gid', 'set_size',
+                                               'set_atime', 'set_mtime', 'check'],
+     ['status', 'obj.before', 'obj after.attr']),
+    (8, dirop(H, b'a') + how(EXCLUSIVE, VERIFIER), ok(made(None, None, wcc(4))),
+     ['fh', 'name', 'how', 'createverf'],
+     ['status', 'handle', 'obj.attr', *change('dir')[:6], 'dir after.attr']),
+    (14, dirop(H, b'a') + dirop(H, b'b'), failed(NOENT, wcc(None, FILE), wcc(4)),
+     ['from.fh', 'from.name', 'to.fh', 'to.name'],
+     ['status', 'from-dir.before', *attr('from-dir after'), *change('to-dir')[:6],
+      'to-dir after.attr'])]
+
+
+def of_exchange(place: Findings, program: int, procedure: int, arguments: bytes,
+                replies: Sequence[bytes]) -> list[Message]:
+    """Returns the messages of a call and its replies, as the program lists them."""
+    credential = auth_sys(1, b'box', 2, 3, [4, 5])
+    place.put('a', ([call(7, program, 3, procedure, arguments, credential=credential)], replies))
+    status, out, error = place.run('show', 'a')
+    place.want('listing', (status, error), (0, ''))
+    return list(messages_of(out.splitlines()))
+
+
+def labels_of(message: Message) -> list[str]:
+    labels = Labels(message)
+    return [labels.label(at) for at in range(len(message.items))]
+
+
+def all_fields(message: Message) -> dict[str, str]:
+    """Returns the names of the items by their fields."""
+    labels = Labels(message)
+    return {labels.field(at): item.name for at, item in enumerate(message.items)}
+
+
+def labels_of_every_procedure(place: Findings) -> None:
+    """Whose each item is, of all procedures, by the names of RFC 1813, sections 3.3 and 5.2."""
+    rows = [(NFS, number, row) for number, row in NFS_ROWS.items()] + [
+        (MOUNT, number, row) for number, row in MOUNT_ROWS.items()]
+    place.want('rows', [number for _, number, _ in rows], [*range(22), *range(6)])
+    for program, number, (arguments, done, wrong, *labels) in rows:
+        has_status = wrong is not None
+        replies = [ok(done), failed(NOENT, wrong)] if wrong is not None else [done]
+        found = [labels_of(message) for message in of_exchange(place, program, number, arguments,
+                                                               [success(7, reply)
+                                                                for reply in replies])]
+        wanted = [CREDENTIAL.split() + [*labels[0]]]
+        wanted += [ACCEPTED.split() + ['status'] * has_status + [*each]
+                   for each in labels[1:1 + len(replies)]]
+        place.want(f'program {program}, procedure {number}', found, wanted)
+
+
+def labels_of_fewer_parts(place: Findings) -> None:
+    for number, arguments, reply, asked, answered in OTHERS:
+        found = [labels_of(message)[-len(wanted):] for message, wanted in zip(
+            of_exchange(place, NFS, number, arguments, [success(7, reply)]), (asked, answered))]
+        place.want(f'procedure {number}', found, [[*asked], [*answered]])
+    rejected = [word(7) + word(1) + word(1) + word(0) + word(2) + word(2),
+                word(7) + word(1) + word(1) + word(1) + word(5),
+                word(7) + word(1) + word(0) + bytes(8) + word(2) + word(3) + word(3)]
+    found = [labels_of(message) for message in of_exchange(place, NFS, 3, dirop(H, b'a'),
+                                                           rejected)[1:]]
+    place.want('replies that have no results', found, [
+        ['mtype', 'reply_stat', 'reject_stat', 'low', 'high'],
+        ['mtype', 'reply_stat', 'reject_stat', 'auth_stat'],
+        ['mtype', 'reply_stat', 'verf_flavor', 'verf_body', 'accept_stat', 'low', 'high']])
+    found = [labels_of(message)[-1]
+             for message in of_exchange(place, NFSACL, 1, fh(H), [success(7, word(0))])]
+    place.want('raw', found, ['rest', 'rest'])
+    no_credential = place.put('a', ([call(7, NFS, 3, 0)], []))
+    place.want('without a credential',
+               (no_credential,
+                labels_of(next(messages_of(place.run('show', 'a')[1].splitlines())))[5:]),
+               (None, ['cred_flavor', 'cred_body', 'verf_flavor', 'verf_body']))
+
+
+def fields_are_those_of_labels(place: Findings) -> None:
+    """Each field that a message has is among those that its procedure may have, also in an
+    entry."""
+    for number, (arguments, done, *_) in NFS_ROWS.items():
+        for message in of_exchange(place, NFS, number, arguments,
+                                   [success(7, ok(done) if number else b'')]):
+            fields, known = all_fields(message), fields_of(message.procedure)
+            place.want(f'procedure {number}', {field: known.get(field) for field in fields}, fields)
+    place.want('entries', sorted(field for field in fields_of('NFSPROC3_READDIR')
+                                 if field.startswith('entry')),
+               ['entry', 'entry.cookie', 'entry.fileid', 'entry.name'])
+    for seed in range(60):
+        place.put('a', *Traffic(seed, Names.drawn(random.Random(seed))).connections)
+        listed = messages_of(place.run('show', 'a')[1].splitlines())
+        found = {(message.procedure, field) for message in listed for field in all_fields(message)}
+        place.want(f'seed {seed}', [(procedure, field) for procedure, field in found
+                                    if field not in fields_of(procedure)], [])
+
+
+def differing_labels(place: Findings) -> None:
+    """What differs has its label, in the order of the listing, and the summary has its field."""
+    def moved(old: int, new: int) -> Conversation:
+        reply = ok(wcc(old, fattr(DIR, 1, 4096)), wcc(9, fattr(DIR, 2, new, nlink=new)))
+        listing = ok(messages.entries(fattr(DIR, 1), bytes(8),
+                                      [messages.entryplus(old, b'a', 0, fattr(REG, 3, new))],
+                                      is_end=True))
+        calls = [call(1, NFS, 3, 14, dirop(b'from', b'a') + dirop(b'to', b'b')),
+                 call(2, NFS, 3, 17, fh(b'from') + bytes(24))]
+        return calls, [success(1, reply), success(2, listing)]
+    place.put('a', moved(5, 6))
+    place.put('b', moved(7, 8))
+    place.wants('labels', 1, [
+        'NFSPROC3_RENAME reply ?/a: connection 1 server record 1 | connection 1 server record 1',
+        '  - from-dir before.size=5', '  + from-dir before.size=7', '  - to-dir after.nlink=6',
+        '  + to-dir after.nlink=8', '  - to-dir after.size=6', '  + to-dir after.size=8',
+        'NFSPROC3_READDIRPLUS reply: connection 1 server record 2 | connection 1 server record 2',
+        '  - entry "a" listed.fileid=5', '  + entry "a" listed.fileid=7', '  - entry "a".size=6',
+        '  + entry "a".size=8',
+        'fields that differ, and how often: from-dir before.size of NFSPROC3_RENAME 1, to-dir '
+        'after.nlink of NFSPROC3_RENAME 1, '
+        'to-dir after.size of NFSPROC3_RENAME 1, entry listed.fileid of NFSPROC3_READDIRPLUS 1, '
+        'entry.size of NFSPROC3_READDIRPLUS 1'],
+        '--mask=-ids')
+
+
+# --- Classes that whose an item is decides, or its value ---
+
+def differing_under(place: Findings, mask: Mask, first: tuple[int, bytes, bytes],
+                    second: tuple[int, bytes, bytes]) -> list[str]:
+    """Returns the labels that differ between two exchanges under a mask: their procedures,
+    arguments and results."""
+    comparison = Comparison(mask)
+    (one, reply), (other, answer) = (of_exchange(place, NFS, number, arguments,
+                                                 [success(7, results)])
+                                     for number, arguments, results in (first, second))
+    return [difference.label for difference in
+            [*comparison.of_messages(one, other),
+             *comparison.of_messages(reply, answer, one, other)]]
+
+
+def sizes_of_changes(place: Findings) -> None:
+    """The class wcc has sizes before, sizes and link counts after, and those of directories, in
+    replies alone."""
+    mask = {'wcc': Way.ZERO}
+    def wants(what: str, number: int, arguments: tuple[bytes, bytes], results: tuple[bytes, bytes],
+              *labels: str) -> None:
+        pair = [(number, arguments[side], ok(results[side])) for side in range(2)]
+        place.want(what, differing_under(place, mask, *pair), [*labels])
+    def file(number: int) -> bytes:
+        return fattr(REG, 1, number, nlink=number)[:28] + bytes(8) + fattr(REG, 1)[36:]
+    def folder(number: int) -> bytes:
+        return fattr(DIR, 1, number, nlink=number)[:28] + bytes(8) + fattr(DIR, 1)[36:]
+    asked = dirop(H, b'a'), dirop(H, b'a')
+    wants('before and after', 12, asked, (wcc(1, file(2)), wcc(3, file(4))))
+    wants('a file', 1, (fh(H), fh(H)), (file(1), file(2)), 'obj.nlink', 'obj.size')
+    wants('a directory', 1, (fh(H), fh(H)), (folder(1), folder(2)))
+    wants('another kind of file', 1, (fh(H), fh(H)), (folder(1), file(1)), 'obj.type')
+    wants('a file in a directory', 3, asked,
+          (fh(H) + post_op_attr(file(1)) + post_op_attr(folder(1)),
+           fh(H) + post_op_attr(file(2)) + post_op_attr(folder(2))), 'obj.nlink', 'obj.size')
+    wants('settings', 2, tuple(fh(H) + sattr(size=size) + guard() for size in (1, 2)),
+          (wcc(1), wcc(2)), 'set.size')
+    def listing(number: int) -> bytes:
+        entries = [messages.entryplus(1, b'a', 0, file(number)),
+                   messages.entryplus(2, b'b', 0, folder(number))]
+        return messages.entries(folder(number), bytes(8), entries, is_end=True)
+    wants('entries', 17, (fh(H) + bytes(24), fh(H) + bytes(24)), (listing(1), listing(2)),
+          'entry "a".nlink', 'entry "a".size')
+    place.want('without it', differing_under(place, {}, (12, asked[0], ok(wcc(1, file(2)))),
+                                             (12, asked[1], ok(wcc(3, file(4))))),
+               ['dir before.size', 'dir after.nlink', 'dir after.size'])
+
+
+def names_of_removed_files(place: Findings) -> None:
+    """Names of .nfs and 24 digits are any in calls and replies, and others are compared."""
+    one, other, third = b'.nfs' + b'0' * 24, b'.nfs' + b'a1' * 12, b'.nfs' + b'7' * 24
+    mask = mask_of('sillynames')
+    def removed(*names: bytes) -> tuple[int, bytes, bytes]:
+        return 14, dirop(H, names[0]) + dirop(H, names[1]), ok(wcc(), wcc())
+    place.want('others', differing_under(place, mask, removed(one, third), removed(other, one)), [])
+    place.want('one for two', differing_under(place, mask, removed(one, third),
+                                              removed(other, other)), [])
+    place.want('no numbers', differing_under(place, mask_of('sillynames=number'), removed(one, one),
+                                             removed(other, third)), [])
+    place.want('without the mask', differing_under(place, {}, removed(one, one),
+                                                   removed(other, other)), ['from.name', 'to.name'])
+    for name in (other + b'0', other[:-1], b'x' + other[1:], other.upper(), b'a'):
+        place.want(name.decode(), differing_under(place, mask, removed(one, one),
+                                                  removed(name, one)), ['from.name'])
+    def listing(*names: bytes) -> tuple[int, bytes, bytes]:
+        entries = [messages.entry(number, name, 0) for number, name in enumerate(names)]
+        return 16, fh(H) + bytes(20), ok(messages.entries(None, bytes(8), entries, is_end=True))
+    place.want('entries', differing_under(place, mask, listing(b'a', one, third),
+                                          listing(b'a', third, other)), [])
+    place.want('an entry more', differing_under(place, mask, listing(b'a', one),
+                                                listing(b'a', third, other)), ['entry.name'])
+    place.want('without the mask', differing_under(place, {}, listing(b'a', one),
+                                                   listing(b'a', other)),
+               ['entry.name', 'entry.name'])
+
+
+def raw_bytes_that_are_masked(place: Findings) -> None:
+    """Of raw bodies that are masked the lengths alone differ."""
+    def of_bodies(one: bytes, other: bytes) -> list[str]:
+        comparison, found = Comparison({'raw': Way.ZERO}), list[str]()
+        pair = [of_exchange(place, NFSACL, 1, body, [success(7, body)]) for body in (one, other)]
+        for first, second in zip(*pair):
+            found += [difference.label for difference in comparison.of_messages(first, second)]
+        return found
+    place.want('other bytes', of_bodies(b'abcd', b'efgh'), [])
+    place.want('more bytes', of_bodies(b'abcd', b'abcdefgh'), ['rest', 'rest'])
+
+
+class LabelsTest(FolderTest, make=Findings, tests=[
+        labels_of_every_procedure, labels_of_fewer_parts, fields_are_those_of_labels,
+        differing_labels, sizes_of_changes, names_of_removed_files, raw_bytes_that_are_masked]):
+    """Each test has a folder of its own."""
