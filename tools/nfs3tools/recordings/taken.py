@@ -49,8 +49,6 @@ from .unpacking import READ_AT_ONCE, Damaged, Readable
 FRAMES_A_STEP = 1_000
 NO_RPC = 'no RPC'  # is why a connection is left out
 NOTHING, NOTHING_MORE = Brought(0, 0, 0), Brought(sys.maxsize, 0, 0)
-__all__ = ['FrameRef', 'LeftOut', 'NotTaken', 'Options', 'Record', 'Taken', 'TakenConnection',
-           'TakenStream', 'take']
 
 
 class NotTaken(Exception):

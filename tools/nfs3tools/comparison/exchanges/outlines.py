@@ -26,9 +26,6 @@ from ..values.classes import CLASSES, Mask, Way
 # Calls that change what others are answered.
 CHANGING = frozenset(f'NFSPROC3_{name}' for name in (
     'SETATTR', 'WRITE', 'CREATE', 'MKDIR', 'SYMLINK', 'MKNOD', 'REMOVE', 'RMDIR', 'RENAME', 'LINK'))
-# Calls whose first handle is that of a folder.
-OF_FOLDERS = MAKING | {f'NFSPROC3_{name}'
-                       for name in ('REMOVE', 'RMDIR', 'RENAME', 'READDIR', 'READDIRPLUS')}
 LISTING = 'NFSPROC3_READDIRPLUS'
 NAMING = MAKING | {'MOUNTPROC3_MNT'}  # calls whose answers have the handle of a name
 DOTS = hash('.'), hash('..')  # the folder itself, and the one above it
@@ -83,10 +80,6 @@ class Objects:
     def origin_of(self, handle: int) -> int | None:
         """Returns the exchange that says where an object is."""
         return self.origins[handle] if handle < len(self.known) and self.known[handle] else None
-
-    def folder_of(self, handle: int) -> int:
-        """Returns the folder in which an object is, or 0 if that is not known."""
-        return self.folders[handle] if handle < len(self.known) and self.known[handle] else 0
 
     def settle(self, when: Callable[[int], int]) -> None:
         """Of several places of an object the one counts that was told first."""
@@ -232,12 +225,6 @@ class Outlines:
 
     def procedure_of(self, at: int) -> str:
         return self.names[self.kinds[at]]
-
-    def folders_asked(self) -> set[int]:
-        """Returns the handles that are folders: those in which something has a name, and those that
-        are listed."""
-        kinds = {number for name, number in self.procedures.items() if name in OF_FOLDERS}
-        return {folder for kind, folder in zip(self.kinds, self.folders) if kind in kinds}
 
     def about(self, at: int) -> tuple[str, int]:
         """Returns the procedure of a call, and the object that it is about: the folder of a

@@ -167,13 +167,6 @@ def besides(mask: Mask, before: Mask) -> Mask:
     return {name: way for name, way in mask.items() if before.get(name) is not way}
 
 
-def with_class_of(mask: Mask, other: Mask, name: str) -> Mask:
-    """Returns a mask in which a class is masked as in another, or not at all."""
-    if name in other:
-        return {**mask, name: other[name]}
-    return {kept: way for kept, way in mask.items() if kept != name}
-
-
 def told(mask: Mask) -> str:
     """Returns the mask as `--mask` takes it."""
     return ','.join(f'{name}={way.value}' for name, way in mask.items()) or 'none'

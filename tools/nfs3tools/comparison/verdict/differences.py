@@ -262,15 +262,6 @@ def difference_of(here: Side, at: int, there: Side, to: int, remark: str = '', *
                       (here.labels.meaning(at), there.labels.meaning(to)), parting, alike)
 
 
-def of_one_run(side: Side, at: int, number: int, remark: str = '') -> Difference:
-    """An item that one run alone has: the first, of number 0, or the second."""
-    item, meaning = side.items[at], side.labels.meaning(at)
-    first, second = (item.value, None) if number == 0 else (None, item.value)
-    meanings = (meaning, '') if number == 0 else ('', meaning)
-    return Difference(item.name, first, second, remark, side.labels.label(at),
-                      side.labels.field(at), meanings)
-
-
 def of_entry(first: str | None, second: str | None, remark: str = '') -> Difference:
     """Entries of a directory that come in another order, or one that is in one run alone."""
     name = 'entry' if remark else 'name'
