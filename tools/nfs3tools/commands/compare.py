@@ -83,7 +83,7 @@ from ..comparison.verdict.accepted import accepted_of, file_of
 from ..comparison.verdict.cover import Cover, Size, covers_of, lines_of_counts, losses_of
 from ..comparison.verdict.decision import judged, run_of
 from ..comparison.verdict.excerpt import Around
-from ..comparison.verdict.findings import Compared, Framing, Run
+from ..comparison.verdict.findings import RUNS, Compared, Framing, Run
 from ..comparison.verdict.ignored import ignored_of, without
 from ..comparison.verdict.orders import Choices, NothingToCompare
 from ..comparison.verdict.report import Report
@@ -194,7 +194,7 @@ class Whole(NamedTuple):
         return all(cover.is_good(allowed) for cover in self.covers)
 
     def lines_of_counts(self) -> Iterator[str]:
-        return lines_of_counts(self.covers, summary.RUNS)
+        return lines_of_counts(self.covers, RUNS)
 
 
 def outputs_of(words: argparse.Namespace) -> list[str | None]:
@@ -239,7 +239,7 @@ def compared_runs(words: argparse.Namespace, stack: ExitStack) -> int:
                       frozenset() if words.extra == 'none' else ASKING,
                       AROUND if words.html else None, words.accept)
     is_same = (compared_whole if words.marks is None
-               else compared_by_parts)(words, whole, choices, losses_of(whole.covers, summary.RUNS))
+               else compared_by_parts)(words, whole, choices, losses_of(whole.covers, RUNS))
     if any(cover.is_refused for cover in whole.covers):
         return REFUSED
     return SAME if is_same else DIFFERENT

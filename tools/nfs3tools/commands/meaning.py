@@ -26,8 +26,9 @@ from functools import partial
 from typing import NamedTuple
 
 from ..comparison.verdict.accepted import refusal
+from ..exchanges.whose import ANY
 from ..judgement.verdict import Verdict, counts_after, members_of, status_of, sums_of
-from ..meaning.found import ANY, COLUMNS, Entry, Found, Row, fitting
+from ..meaning.found import COLUMNS, Entry, Found, Row, fitting
 from ..meaning.rules import BY_NAME, NOTE, Looked
 from ..pages.judged import Content, as_printed, page, table_of
 from ..pages.markup import encoded

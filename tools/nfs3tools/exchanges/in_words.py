@@ -43,7 +43,7 @@ RESULTS = {'NFSPROC3_GETATTR': (re.compile(r' (type)=(\d+) (mode)=(\d+) nlink=\d
            'NFSPROC3_WRITE': (re.compile(r' (count)=(\d+) (committed)=(\d)'),
                               '{count} {committed}')}
 OF_TWO = ('NFSPROC3_RENAME', 'NFSPROC3_LINK')
-LISTING = ('NFSPROC3_READDIR', 'NFSPROC3_READDIRPLUS')
+LISTINGS = frozenset(('NFSPROC3_READDIR', 'NFSPROC3_READDIRPLUS'))
 SPLIT = re.compile(r'\\(?:x[0-9a-f]?)?$')  # the beginning of a byte that is spelled by its digits
 NAMED = {'access', 'committed', 'how', 'mode', 'stable', 'type'}  # items whose numbers have names
 SEVERAL = {'sattr', 'guard', 'device', 'end', 'target'}  # what stands for several items
@@ -170,7 +170,7 @@ def answer_in(procedure: str, said: str) -> str:
         return error
     if procedure == RAW.name:
         return NOT_READ
-    if procedure in LISTING:
+    if procedure in LISTINGS:
         return f'OK {entries_in(said)}'
     pattern, template = RESULTS.get(procedure, (None, ''))
     read = pattern.search(said) if pattern else None

@@ -12,7 +12,8 @@ from collections.abc import Iterable, Iterator
 from sys import intern
 from typing import NamedTuple
 
-NANOSECONDS = 1_000_000_000
+from ..recordings.frames import NANOSECONDS
+
 HANDLE = re.compile(r' fh=([0-9a-f]{1,8})(?![^ ])')
 FIRST_NAME = re.compile(r' (?:name|dirpath)="([^"]*)"')
 NAME = re.compile(r' name="([^"]*)"')

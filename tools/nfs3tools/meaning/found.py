@@ -12,6 +12,7 @@ from dataclasses import dataclass
 
 from ..exchanges.kept import Kept, call_of
 from ..exchanges.stored import Values
+from ..exchanges.whose import ANY
 from ..judgement.verdict import Verdict, count_unanswered, kept_in
 from ..recordings.taken import Taken
 from ..shared.printed import printable
@@ -22,7 +23,6 @@ from .rules import BY_NAME, NOTE, Finding, Findings, Looked
 
 COLUMNS = ('recording', 'rule', 'section', 'by', 'connection', 'record', 'reply_record', 'frame',
            'time_ns', 'procedure', 'path', 'text', 'against_record', 'against_frame', 'accepted')
-ANY = '*'
 Entry = tuple[str, str]  # a rule and a server, either of which may be any
 
 

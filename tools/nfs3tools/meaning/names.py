@@ -5,11 +5,11 @@ been seen at rest. Hidden names, as `.snapshot`, are in no listing.
 """
 from __future__ import annotations
 
+from ..exchanges.objects import DOTS
 from .objects import Name, Named, Object, Objects
 from .recorded import GUARDED, LISTINGS, NEVER, OF_NAMES, REMOVES, UNSURE, Exchange
 
 NOENT, EXIST = 2, 17
-DOTS = ('.', '..')
 HIDDEN = '.'  # begins names that may be in no listing
 
 

@@ -18,7 +18,7 @@ from ..comparison.values.classes import besides, told
 from ..comparison.verdict import summary
 from ..comparison.verdict.cover import Cover, Row as NotJudged, losses_of
 from ..comparison.verdict.excerpt import Connection, Gap, Row
-from ..comparison.verdict.findings import Compared, Finding, Run
+from ..comparison.verdict.findings import RUNS, Compared, Finding, Run
 from ..comparison.verdict.ignored import Ignored
 from ..comparison.verdict.report import Report
 from ..exchanges.listing import Message
@@ -40,7 +40,6 @@ NOT_JUDGED_AT_MOST = 20  # connections of a run that are named
 PHRASES_AT_MOST = 6  # of what differs, under the title
 MANY = 2_000  # messages whose calls are shown
 BOTH = (0, 1)
-RUNS = ('first', 'second')
 Places = tuple[Optional[str], Optional[str]]
 
 
@@ -103,7 +102,7 @@ def head(content: Content, word: str) -> Iterator[str]:
         yield f'<p>{code(said)}</p>'
     else:
         yield from glance(content)
-    losses = losses_of(report.covers, summary.RUNS) if report.covers else ''
+    losses = losses_of(report.covers, RUNS) if report.covers else ''
     if losses not in said:
         yield f'<p class=part>Compared in part: {escape(losses)}.</p>'
 

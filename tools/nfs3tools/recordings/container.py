@@ -7,11 +7,10 @@ import typing
 from ..shared.kinds import MAGICS
 from .frames import Source
 from .spool import Spool, Stored
-from .unpacking import Damaged
+from .unpacking import READ_AT_ONCE, Damaged
 
 CHUNK = 1 << 16
 MOST_CONNECTIONS, MOST_BYTES = 65_535, 1 << 30
-READ_AT_ONCE = 1 << 20
 
 
 class BadCapture(Exception):

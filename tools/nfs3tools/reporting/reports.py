@@ -10,9 +10,9 @@ from ..comparison.values.classes import Mask
 from ..comparison.verdict.accepted import Split
 from ..comparison.verdict.cover import Cover
 from ..comparison.verdict.differences import Difference
-from ..comparison.verdict.findings import Compared, Finding, Framing
+from ..comparison.verdict.findings import RUNS, Compared, Finding, Framing
 from ..comparison.verdict.report import PartReport, Report
-from ..comparison.verdict.summary import RUNS, short
+from ..comparison.verdict.summary import short
 from ..exchanges.listing import Message
 from ..exchanges.stored import Long, Value
 from ..shared.printed import escaped, printable

@@ -13,8 +13,8 @@ import typing
 
 from .outputs import write_whole
 from .printed import escaped, printable
+from .version import TOP
 
-TOP = pathlib.Path(__file__).resolve().parents[3]
 # How the programs answer: by which status, and how standard output begins then.
 CHECKED, COMPARED, MASKED = {0: 'ok ', 2: ''}, {0: 'same\n', 1: 'differ at '}, {0: 'ok '}
 COMMANDS = ('check', 'same', 'show')

@@ -6,12 +6,13 @@ from collections.abc import Callable, Iterable, Sequence
 from dataclasses import dataclass, field
 from functools import cached_property
 
+from ...exchanges.in_words import LISTINGS
 from ...recordings.taken import Taken
 from ..values.classes import Mask
 from .changes import BothChanges, Change
 from .explained import Explainer
 from .extras import Counted, Extras, refused
-from .facts import LISTINGS, Facts
+from .facts import Facts
 from .followed import Followed, partners_of, with_values
 from .matching import Pair
 from .outlines import Outlines

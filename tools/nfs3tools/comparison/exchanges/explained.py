@@ -17,13 +17,14 @@ from collections.abc import Iterable, Sequence
 from functools import cached_property
 from typing import NamedTuple, Optional
 
+from ...exchanges.in_words import LISTINGS
 from ...exchanges.listing import Item
 from ...exchanges.objects import MAKING
 from ...exchanges.whose import Labels
 from ..values.classes import CLASSES, Mask, Way
 from .agreement import NOTHING_ELSE, disagrees, end_of_writes
 from .changes import ANY, GONE, BothChanges, Change, Key
-from .facts import DONE, LISTINGS, LOOKUP, NO_ENTRY, Facts, Told, answer_in, is_silly
+from .facts import DONE, LOOKUP, NO_ENTRY, Facts, Told, answer_in, is_silly
 from .matching import Pair
 
 SIZES = frozenset(('size', 'nlink'))

@@ -9,11 +9,11 @@ from __future__ import annotations
 from collections import Counter
 from collections.abc import Container, Iterable
 
-from ...exchanges.in_words import short_name
+from ...exchanges.in_words import LISTINGS, short_name
 from ...exchanges.searches import names_in
 from .agreement import disagrees
 from .changes import ANY, GONE, BothChanges
-from .facts import ACCESS, DONE, LISTINGS, LOOKUP, NO_ENTRY, Facts, answer_in, is_silly
+from .facts import ACCESS, DONE, LOOKUP, NO_ENTRY, Facts, answer_in, is_silly
 
 FEW, SHARE = 10, 10  # so many calls of a procedure, or one of so many
 Asked = tuple[str, int, tuple[str, ...]]  # the procedure, the object, and the name

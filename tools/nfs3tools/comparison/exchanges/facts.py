@@ -10,6 +10,7 @@ from collections.abc import Container, Iterable, Iterator, Sequence
 from functools import cached_property
 from typing import NamedTuple
 
+from ...exchanges.in_words import LISTINGS
 from ...exchanges.listing import Line, Message, line_of
 from ...exchanges.objects import MAKING
 from ...exchanges.searches import (
@@ -17,7 +18,6 @@ from ...exchanges.searches import (
 from ..values.classes import CLASSES
 from .outlines import CHANGING, Outlines
 
-LISTINGS = frozenset(('NFSPROC3_READDIR', 'NFSPROC3_READDIRPLUS'))
 LOOKUP, ACCESS, LINK = 'NFSPROC3_LOOKUP', 'NFSPROC3_ACCESS', 'NFSPROC3_LINK'
 DONE, NO_ENTRY = '0', '2'
 SILLY = next(one for one in CLASSES if one.name == 'sillynames')

@@ -10,27 +10,19 @@ from __future__ import annotations
 
 from collections import Counter, defaultdict
 from collections.abc import Iterable, Iterator, Mapping
-from typing import NamedTuple
 
-from ...exchanges.listing import Line, line_of
+from ...exchanges.in_words import LISTINGS
+from ...exchanges.listing import Line, LinePlace, line_of
 from ...exchanges.searches import cookies_in, cookies_of_names_in, verifier_in
 from ...recordings.records import LAST_FRAGMENT
 from ...recordings.spool import Spool, Stored
 from ...recordings.taken import Taken, TakenStream, whole
 from ...shared.layouts import BY_NAME, Message
 from ...shared.places import SIDES, Side
-from .facts import LISTINGS, Facts, Known, answer_in
+from .facts import Facts, Known, answer_in
 from .pairing import Listing, Pairing
 
 CREATE = 'NFSPROC3_CREATE'
-
-
-class Place(NamedTuple):
-    """Where a message is: its connection, its side, and its record."""
-    connection: int
-    is_call: bool
-    record: int
-
 
 # The values of a message that others take the place of, by the names of items.
 Values = dict[tuple[str, str], str]
@@ -60,12 +52,12 @@ class Followed:
         self.verifiers = self.verifiers_of(listings) if 'createverfs' in classes else {}
         self.cookies = self.cookies_of(listings) if 'cookies' in classes else {}
         self.has_ids = not classes.isdisjoint(('ids', 'fsids'))
-        self.values = dict[Place, Values]()
+        self.values = dict[LinePlace, Values]()
         for at, line in pairing.there.each(map(line_of, listings[1]())):
             values = self.of_call(at, line) if line.is_call else self.of_reply(at, line)
             changed = {key: new for key, new in values.items() if key[1] != new}
             if changed:
-                self.values[Place(line.connection, line.is_call, line.record)] = changed
+                self.values[LinePlace(line.connection, line.is_call, line.record)] = changed
 
     def verifiers_of(self, listings: tuple[Listing, Listing]) -> dict[tuple[int, str], str]:
         """Returns the verifiers of exclusive creates, by what is created and the second run's
@@ -134,10 +126,10 @@ def turned(name: str, told: str, own: str, other: str) -> Values:
 
 # --- The second run, written anew ---
 
-def with_values(taken: Taken, values: Mapping[Place, Values], lines: Iterable[str]) -> Taken:
+def with_values(taken: Taken, values: Mapping[LinePlace, Values], lines: Iterable[str]) -> Taken:
     """Returns a run with other values in some messages, each record as one fragment."""
     procedures = {place: line.procedure for line in map(line_of, lines)
-                  if (place := Place(line.connection, line.is_call, line.record)) in values}
+                  if (place := LinePlace(line.connection, line.is_call, line.record)) in values}
     out = Taken(taken.spool, taken.is_recording, False, taken.ports)
     for connection in taken.connections:
         client, server = (stream_of(taken.spool, bodies_of(
@@ -147,10 +139,10 @@ def with_values(taken: Taken, values: Mapping[Place, Values], lines: Iterable[st
     return out
 
 
-def bodies_of(stream: TakenStream, connection: int, side: Side, values: Mapping[Place, Values],
-              procedures: Mapping[Place, str]) -> Iterator[bytes]:
+def bodies_of(stream: TakenStream, connection: int, side: Side, values: Mapping[LinePlace, Values],
+              procedures: Mapping[LinePlace, str]) -> Iterator[bytes]:
     for number, body in stream.records():
-        place = Place(connection, side == 'client', number)
+        place = LinePlace(connection, side == 'client', number)
         yield (with_some(body, place.is_call, procedures[place], values[place])
                if place in values else body)
 

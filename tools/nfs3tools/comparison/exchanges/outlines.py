@@ -17,7 +17,7 @@ from operator import attrgetter
 
 from ...exchanges.answering import Answering
 from ...exchanges.listing import Line, Message, line_of
-from ...exchanges.objects import MAKING
+from ...exchanges.objects import LISTING, MAKING
 from ...exchanges.searches import (
     alike_in, first_handle_in, first_name_in, handles_in, names_and_handles_in, values_of)
 from ..values.bindings import RENAMED
@@ -26,7 +26,6 @@ from ..values.classes import CLASSES, Mask, Way
 # Calls that change what others are answered.
 CHANGING = frozenset(f'NFSPROC3_{name}' for name in (
     'SETATTR', 'WRITE', 'CREATE', 'MKDIR', 'SYMLINK', 'MKNOD', 'REMOVE', 'RMDIR', 'RENAME', 'LINK'))
-LISTING = 'NFSPROC3_READDIRPLUS'
 NAMING = MAKING | {'MOUNTPROC3_MNT'}  # calls whose answers have the handle of a name
 DOTS = hash('.'), hash('..')  # the folder itself, and the one above it
 UNKNOWN, SEEN, MADE = range(3)  # how well it is known where an object is

@@ -2,14 +2,14 @@
 from __future__ import annotations
 
 from array import array
-from collections.abc import Callable, Iterable, Iterator
+from collections.abc import Iterable, Iterator
 from itertools import chain, groupby, zip_longest
 
 from ...exchanges.listing import has_rest, place_of, said_in, xid_of
 from ..values.classes import Mask
 from .outlines import Outlines, classes_of_items, renamed_values
+from .pairing import Listing
 
-Listing = Callable[[], Iterable[str]]
 Key = tuple[bool, int]
 Said = tuple[Key, list[str]]
 END: Said = (True, 1 << 62), []

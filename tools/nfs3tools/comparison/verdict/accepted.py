@@ -18,10 +18,9 @@ from ...shared.printed import escaped, printable
 from ..values.bindings import RENAMED
 from ..values.classes import CLASSES, Mask, Way
 from .differences import Difference
-from .findings import Compared, Finding
+from .findings import RUNS, Compared, Finding
 
 VERSION = 2  # of the form of the file
-SIDES = ('first', 'second')
 # Findings that are told by their kind: calls in another place, sent again, and other numbers of
 # replies.
 PLAIN = ('moved', 'sent again', 'replies')
@@ -128,10 +127,10 @@ def told_of(finding: Finding, mask: Mask) -> dict[str, object]:
     """Returns what an entry says of a finding besides its fields: of a call of one run alone which
     run, what it asks and the statuses of its replies; of replies the statuses of both runs."""
     if finding.kind == 'only':
-        return {'only': SIDES[finding.first is None], 'asks': asks_of(finding, mask),
+        return {'only': RUNS[finding.first is None], 'asks': asks_of(finding, mask),
                 'status': finding.statuses[finding.first is None]}
     if finding.kind == 'replies':
-        return {'kind': 'replies', **dict(zip(SIDES, finding.statuses))}
+        return {'kind': 'replies', **dict(zip(RUNS, finding.statuses))}
     return {'kind': finding.kind} if finding.kind in PLAIN else {}
 
 
@@ -158,7 +157,7 @@ def values_of(difference: Difference) -> dict[str, str | None]:
     """Returns both values as an entry has them: of long ones their digests, of file handles the
     paths."""
     both = difference.objects or (difference.first, difference.second)
-    return {side: None if value is None else str(value) for side, value in zip(SIDES, both)}
+    return {side: None if value is None else str(value) for side, value in zip(RUNS, both)}
 
 
 # --- The file ---
@@ -219,7 +218,7 @@ def is_value(name: str, value: object) -> bool:
         return isinstance(value, list) and all(map(is_text, value))
     if name == 'times':
         return isinstance(value, int) and not isinstance(value, bool) and value > 0
-    choices = {'only': SIDES, 'kind': PLAIN}.get(name)
+    choices = {'only': RUNS, 'kind': PLAIN}.get(name)
     return is_text(value) and (choices is None or value in choices)
 
 
@@ -263,7 +262,7 @@ def is_of_run(name: str, is_call: bool, mask: Mask) -> bool:
 
 def words_of(entry: Entry) -> str:
     """Returns an entry as it is printed."""
-    values = [f' {side}={entry[side]}' for side in SIDES if entry.get(side) is not None]
+    values = [f' {side}={entry[side]}' for side in RUNS if entry.get(side) is not None]
     side = f' in the {entry["only"]} run' if 'only' in entry else ''
     about = ' '.join([entry.get('field') or kind_of(entry) + side, *entry.get('asks', ())])
     where = [path] if (path := entry.get('path', ANY)) is not None else []

@@ -23,6 +23,7 @@ from .arguments import Argument, arguments_of
 from .differences import Comparison, Difference
 from .excerpt import Around, Beside, Row, Shown
 
+RUNS = ('first', 'second')
 Framing = Callable[[Message], Sequence[int]]
 
 

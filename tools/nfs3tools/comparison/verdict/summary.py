@@ -6,11 +6,10 @@ from collections.abc import Iterator, Sequence
 
 from ...recordings.selection import count, plural
 from ..values.classes import Mask
-from .findings import Compared
+from .findings import RUNS, Compared, replies
 from .orders import Found
 
 FIELDS_AT_MOST = 4
-RUNS = ('first', 'second')
 IN_ANOTHER_ORDER, BUT_IDS, BUT_LEFT_OUT = (
     'same in another order', 'same but for ids', 'same but for calls left out')
 # On a part
@@ -21,10 +20,6 @@ VERDICTS = ('same', BUT_IDS, BUT_LEFT_OUT, IN_ANOTHER_ORDER, 'differ', 'only in 
 def short(procedure: str) -> str:
     """Returns a procedure's name without its program's."""
     return procedure.removeprefix('NFSPROC3_').replace('MOUNTPROC3_', 'MOUNT ')
-
-
-def replies(number: int) -> str:
-    return f'{number:,} {plural(number, "reply", "replies")}'
 
 
 def turns(compared: Compared) -> list[str]:
