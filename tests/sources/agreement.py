@@ -304,6 +304,24 @@ def rooms_of_the_tools(tools: Tools) -> None:
     tools.want('tools/DESIGN.md', tool_rooms.not_in_the_design(), [])
 
 
+def names_of_the_tools(tools: Tools) -> None:
+    """A name at the top of a module of the tools is defined in one module, but for the entry points
+    of `commands`."""
+    good = {'shared.a': 'x = 1\ndef f():\n    y = 1', 'recordings.b': 'from ..shared.a import f, x',
+            'recordings.c': 'y, z = 1, 2\nf.x = z\nclass C:\n    x: int = 1',
+            'commands.d': 'def main(): f()', 'commands.e': 'def main(): f()'}
+    tools.want('each has one meaning', tool_rooms.of_several_modules(good), [])
+    planted = (('recordings.b', 'x = 2', 'x: shared.a, recordings.b'),
+               ('recordings.b', 'class f: pass', 'f: shared.a, recordings.b'),
+               ('recordings.b', 'async def z(): pass', 'z: recordings.b, recordings.c'),
+               ('recordings.b', 'a, (b, *C) = 1, (2, 3)', 'C: recordings.b, recordings.c'),
+               ('recordings.b', 'z: int = 2', 'z: recordings.b, recordings.c'),
+               ('shared.a', 'def main(): f()', 'main: shared.a, commands.d, commands.e'))
+    for module, text, wrong in planted:
+        tools.want(wrong, tool_rooms.of_several_modules(good | {module: text})[-1:], [wrong])
+    tools.want('the tools', tool_rooms.of_several_meanings(), [])
+
+
 def lines_of_the_tools(tools: Tools) -> None:
     """No line of the tools, of a test or of `dev` has more columns than tools/pyproject.toml says,
     which are 100."""
@@ -438,12 +456,11 @@ def classes_of_the_mask(tools: Tools) -> None:
 
 TESTS = [commands_of_the_pages, command_lines_of_the_pages, clause_on_the_page,
          lines_for_many_captures, examples_are_used, answers_of_the_examples,
-         examples_are_made_alike, pages_agree, pages_of_the_tools,
-         what_is_believed, rooms_stand_apart, rooms_of_the_tools, lines_of_the_tools,
+         examples_are_made_alike, pages_agree, pages_of_the_tools, what_is_believed,
+         rooms_stand_apart, rooms_of_the_tools, names_of_the_tools, lines_of_the_tools,
          pages_are_plain, tables_are_whole, names_lead_somewhere, trees_are_of_the_code,
-         what_is_not_proved, bugs_are_counted,
-         clauses_of_each_function, pages_of_the_crates, completions_of_the_tools,
-         classes_of_the_mask]
+         what_is_not_proved, bugs_are_counted, clauses_of_each_function, pages_of_the_crates,
+         completions_of_the_tools, classes_of_the_mask]
 
 
 def main() -> None:

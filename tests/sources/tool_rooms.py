@@ -1,8 +1,9 @@
 """The rooms of tools/nfs3tools in their order: a module imports from its own room and from those
 below it, modules do not import each other in a circle, and tools/DESIGN.md has each in the table of
-its room. And the lines of the tools, of all tests and of `dev`: none is longer than
-tools/pyproject.toml has it."""
+its room. A name has one meaning in all rooms: one module defines it. And the lines of the tools, of
+all tests and of `dev`: none is longer than tools/pyproject.toml has it."""
 import ast
+import collections
 import pathlib
 import re
 from collections.abc import Iterator, Mapping, Set
@@ -16,6 +17,8 @@ COLUMNS = re.compile(r'^line-length = (\d+)$', re.M)
 ROOMS = ('shared', 'recordings', 'captures', 'exchanges', 'comparison.values',
          'comparison.exchanges', 'comparison.verdict',
          'comparison.parts', 'reporting', 'judgement', 'pages', 'meaning', 'commands')
+# Each module of `commands` defines these: they are how it is run.
+ENTRY_POINTS = frozenset(('main', 'command'))
 
 
 def modules(package: pathlib.Path) -> dict[str, pathlib.Path]:
@@ -81,6 +84,39 @@ def not_in_the_design() -> list[str]:
     out_of_order = [] if [room for room, _ in rooms] == [*ROOMS] else [
         'the rooms of tools/DESIGN.md are in another order']
     return sorted(rows ^ modules(PACKAGE).keys()) + out_of_order
+
+
+def defined(text: str) -> Iterator[str]:
+    """Yields the names that a module defines at its top: of functions and classes, and those to
+    which something is assigned."""
+    for node in ast.parse(text).body:
+        if isinstance(node, (ast.FunctionDef, ast.AsyncFunctionDef, ast.ClassDef)):
+            yield node.name
+        elif isinstance(node, (ast.Assign, ast.AnnAssign)):
+            targets = node.targets if isinstance(node, ast.Assign) else [node.target]
+            yield from (one.id for target in targets for one in ast.walk(target)
+                        if isinstance(one, ast.Name) and isinstance(one.ctx, ast.Store))
+
+
+def is_entry_point(name: str, module: str) -> bool:
+    return name in ENTRY_POINTS and module.startswith('commands.')
+
+
+def of_several_modules(texts: Mapping[str, str]) -> list[str]:
+    """Returns the names that several modules define, with these modules. Entry points are none of
+    them."""
+    places = collections.defaultdict[str, list[str]](list)
+    for module, text in texts.items():
+        for name in dict.fromkeys(defined(text)):
+            places[name].append(module)
+    return ['%s: %s' % (name, ', '.join(some)) for name, some in sorted(places.items())
+            if len(some) > 1 and not all(is_entry_point(name, module) for module in some)]
+
+
+def of_several_meanings() -> list[str]:
+    """Returns the names of the tools that stand for several definitions, with their modules."""
+    return of_several_modules({module: path.read_text()
+                               for module, path in modules(PACKAGE).items()})
 
 
 def columns() -> int:
