@@ -3,7 +3,7 @@ value and what may stand there, and the bytes.
 
     tell_record(within.record(place), place, reason, print)
 
-A line is told as soon as it is made, since a record may have very many of them.
+A line is printed as soon as it is made, since a record may have very many of them.
 """
 from __future__ import annotations
 

@@ -27,13 +27,13 @@ A call without a reply has one of three answers:
     not judged         the connection is refused, and its listing ends before a reply to this call
 
 For how long it waited comes after it: up to the end of the recording, or to the answer to the same
-call on a later connection, whose position is told.
+call on a later connection, whose position is printed.
 
 An exchange is listed if all conditions hold that are given. An error of --errors is a reply that is
 no success, or `no reply`. --no-reply lists the calls that tools/verdicts counts.
 
 The last line has the counts of tools/verdicts, and the line before it how many exchanges are
-listed. Connections that are not judged whole are told on standard error, with the reasons. --json
+listed. Connections that are not judged whole are named on standard error, with the reasons. --json
 and --csv print the same for programs.
 
 The recordings are taken as by tools/from_pcap (--port, --filter,

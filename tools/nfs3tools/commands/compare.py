@@ -18,7 +18,7 @@ If the runs differ, exchanges are brought together over all connections and in a
 with their retransmissions and replies. If nothing else than the order differs, they are
 `same in another order`: that is the word of `nfs3canon same` on both runs in the order of the
 first. Answers may differ as changes that came before them in one run alone explain; calls that only
-ask (GETATTR, LOOKUP ..) may be in one run alone if they are few, and tell what other answers tell;
+ask (GETATTR, LOOKUP ..) may be in one run alone if they are few, and say what other answers say;
 and ids follow their objects. The manual page has the rules. All that is left out is listed, with
 the change that explains it. Otherwise each difference is printed as `diff` would: which call, which
 field and whose (`dir after.size`), both values, and the frames. Of values of over 60 characters it
@@ -305,7 +305,7 @@ def explain(words: argparse.Namespace, whole: Whole, line: str, report: Report, 
 
 
 def is_told(words: argparse.Namespace, report: Report) -> bool:
-    """Whether findings are told. Those that do not count in another order are if all are asked
+    """Whether findings are printed. Those that do not count in another order are if all are asked
     for."""
     return report.same_under is None or bool(words.all)
 

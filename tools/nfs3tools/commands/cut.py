@@ -7,7 +7,7 @@ OUT has all calls and replies of the connection that have the xid of the message
 they were recorded. POSITION is a line of `check` or `same`, or of `show`, as tools/explain takes
 it. It names a record, of which any byte may be named.
 
-A frame of a recording, as `frame 12`, stands for the records whose bytes it carries, and all their
+A frame of a recording, as `frame 12`, means the records whose bytes it carries, and all their
 exchanges are taken.
 
 --origins takes the exchanges too that gave the file handles of these calls, up to the MNT call that

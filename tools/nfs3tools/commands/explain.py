@@ -10,7 +10,7 @@ If FILE is `-`, POSITION has to be an argument.
 
 POSITION is a line of `check` or `same` (also with `first: `, `second: ` or `differ at ` before it)
 or of `show`, whose first three words name a record. If it is no argument it is read from standard
-input. A frame of a recording, as `frame 12`, stands for the records whose bytes it carries; all of
+input. A frame of a recording, as `frame 12`, means the records whose bytes it carries; all of
 them are shown.
 
 Printed are the message and its procedure, the item at the byte with its name, its value and what

@@ -13,7 +13,7 @@ frames are counted through all of them:
 
     tools/from_pcap 'run.pcap*' OUT
 
-All that is told goes to standard error: a line for each TCP connection that is taken, with the
+All that is said goes to standard error: a line for each TCP connection that is taken, with the
 reason why one of its ends is taken for the client (it sent the SYN; else calls come from it; else
 the other has the port 2049, 20048 or 111; else it sent the first payload), and a line for each that
 is left out, with the reason. So is each byte that is recorded and not taken.
@@ -24,7 +24,7 @@ at its end that is cut is left out, unless its sender closed the stream there. T
 that are missing are left out.
 
 Tunnels whose header has a fixed form are taken apart: MPLS, PPPoE, IP in IP, GRE, VXLAN and Geneve.
-What is in others is not known, and how many frames they are is told.
+What is in others is not known, and how many frames they are is printed.
 
 --port 2049,20048 takes the connections that have one of these ports.
 

@@ -50,7 +50,7 @@ NUMBERS = range(4, 5)  # columns that are set to the right
 
 
 class Told(NamedTuple):
-    """What is told of all recordings: the command line, the rows, the table of each recording, what
+    """What is said of all recordings: the command line, the rows, the table of each recording, what
     a page shows of it besides, and how much was looked at."""
     chosen: argparse.Namespace
     rows: list[Row]

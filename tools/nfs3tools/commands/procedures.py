@@ -17,7 +17,7 @@ number. That of a call which was sent again is the time of the first. The column
 the 99th percentile, each the smallest latency that 50 or 99 % of all do not exceed, the longest,
 the mean and the sum. The longest is at CONNECTION:RECORD, the record of its call, with the frame
 that completed it. A capture has no times, and so no latencies. If the clock went back, latencies
-are negative; their number is told.
+are negative; their number is printed.
 
 Each connection is judged as by tools/verdicts, whose verdict is above its table: one of which bytes
 are missing is `ok in part`, and one that is refused is counted up to its fault. The counts of
@@ -211,7 +211,7 @@ def rows_of(table: Table, column: str, screen: Screen) -> list[Styled]:
 
 
 def told_of_clock(tally: Tally) -> str:
-    """What is told of negative latencies."""
+    """What is said of negative latencies."""
     number = tally.backward
     are = plural(number, 'latency is', 'latencies are')
     return f'; the clock went back: {number:,} {are} negative' if number else ''

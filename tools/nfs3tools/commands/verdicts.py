@@ -20,7 +20,7 @@ The last line counts all of them. Each comes under one word:
                  without one call of version 3
     errors       it could not be read
 
-What no connection stands for has a row as well: UDP at a port of NFS is left out, and a recording
+What is of no connection has a row as well: UDP at a port of NFS is left out, and a recording
 that ends inside a frame is in part; frames that may carry NFS and are not read are not checked. At
 the end of the line are the calls without a reply, and those of other programs by name. What is
 missing is printed on standard error, and so are connections that show no call: those without

@@ -11,8 +11,9 @@ records. If RECORDING is `-`, POSITION has to be an argument.
 POSITION is a line of `check` or `same` (`connection 1 server record 7 byte 24: BadEnum`,
 `differ at connection 2 client record 3`, also with `first: ` or `second: ` before it) or of `show`,
 whose first three words name a record; a byte of the capture, as `file 12`, is taken too. If no byte
-is named, the frames of the whole record are told. The frame of a byte is the first that brought it,
-not a retransmission; of a datagram that came in fragments it is the frame with the last of them.
+is named, the frames of the whole record are printed. The frame of a byte is the first that brought
+it, not a retransmission; of a datagram that came in fragments it is the frame with the last of
+them.
 
 A frame, as `frame 12`, means the records whose bytes it carries; all of them are printed.
 

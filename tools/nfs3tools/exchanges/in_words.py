@@ -24,7 +24,7 @@ HEAD = re.compile(r' mtype=0 rpcvers=2 prog=\d+ vers=\d+ proc=\d+ cred_flavor=\d
                   r'(?:cred_body=\w*|cred_length=\d+ stamp=\d+ machinename="[^"]*" uid=(\d+) '
                   r'gid=\d+ gids=\d+(?: group=\d+)*) verf_flavor=0 verf_body=\w*')
 OBJECT = re.compile(r' (?:fh=([^ ]*)(?: name="([^"]*)")?|dirpath="([^"]*)")')
-# The arguments besides handles and names, by procedures. Some names stand for several items.
+# The arguments besides handles and names, by procedures. Some names mean several items.
 ARGUMENTS = {'NFSPROC3_SETATTR': '{sattr}{guard}', 'NFSPROC3_ACCESS': '{access}',
              'NFSPROC3_READ': '{offset}+{count}',
              'NFSPROC3_WRITE': '{offset}+{count} {stable}',
@@ -34,7 +34,7 @@ ARGUMENTS = {'NFSPROC3_SETATTR': '{sattr}{guard}', 'NFSPROC3_ACCESS': '{access}'
              'NFSPROC3_READDIR': 'cookie {cookie} count {count}',
              'NFSPROC3_READDIRPLUS': 'cookie {cookie} count {dircount}/{maxcount}',
              'NFSPROC3_COMMIT': '{offset}+{count}'}
-# What a success says, by procedures: what is searched for in the items, and how it is told.
+# What a success says, by procedures: what is searched for in the items, and how it is said.
 RESULTS = {'NFSPROC3_GETATTR': (re.compile(r' (type)=(\d+) (mode)=(\d+) nlink=\d+ uid=\d+ gid=\d+ '
                                            r'(size)=(\d+)'), '{type} {mode} size {size}'),
            'NFSPROC3_ACCESS': (re.compile(r' (access)=(\d+)'), '{access}'),
@@ -46,7 +46,7 @@ OF_TWO = ('NFSPROC3_RENAME', 'NFSPROC3_LINK')
 LISTINGS = frozenset(('NFSPROC3_READDIR', 'NFSPROC3_READDIRPLUS'))
 SPLIT = re.compile(r'\\(?:x[0-9a-f]?)?$')  # the beginning of a byte that is spelled by its digits
 NAMED = {'access', 'committed', 'how', 'mode', 'stable', 'type'}  # items whose numbers have names
-SEVERAL = {'sattr', 'guard', 'device', 'end', 'target'}  # what stands for several items
+SEVERAL = {'sattr', 'guard', 'device', 'end', 'target'}  # what means several items
 NOT_READ = 'accepted'  # what is said of results that are not read
 
 
@@ -111,7 +111,7 @@ def object_at(said: str, begin: int) -> tuple[str | None, str | None, int]:
 
 
 def told(template: str, items: Iterable[tuple[str, str]]) -> str:
-    """Returns a template with the items of a call or of a reply as they are told."""
+    """Returns a template with the items of a call or of a reply in words."""
     values = dict(items)
     for name in not_plain(template):
         values[name] = (number_named(name, values[name]) if name in NAMED
@@ -121,12 +121,12 @@ def told(template: str, items: Iterable[tuple[str, str]]) -> str:
 
 @functools.cache
 def not_plain(template: str) -> list[str]:
-    """Returns the names in a template of what is not told as its item spells it."""
+    """Returns the names in a template of what is not said as its item spells it."""
     return [name for name in re.findall(r'{(\w+)}', template) if name in NAMED | SEVERAL]
 
 
 def of_several(name: str, values: Mapping[str, str]) -> str:
-    """Returns what a name in a template stands for that is not that of an item."""
+    """Returns what a name in a template means that is not that of an item."""
     if name == 'sattr':
         return ''.join(f' {word}' for word in settings_in(values))
     if name == 'guard':

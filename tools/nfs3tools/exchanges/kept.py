@@ -25,7 +25,7 @@ from .listing import ITEM, Item, Message, is_call, listed_of, name_of_call
 from .objects import LISTING, MAKING, RENAMING, TEACHING, UNKNOWN, Move, Paths, below
 from .stored import Texts, Values, without_long
 
-UNTIMED = -1 << 63  # stands for no latency
+UNTIMED = -1 << 63  # means no latency
 HANDLE = re.compile(r' (fh)=([^ ]*)')
 
 

@@ -1,4 +1,4 @@
-"""What file handles stand for, as far as a recording tells: the path by which each was made, or
+"""What file handles mean, as far as a recording says: the path by which each was made, or
 else first reached.
 
 A handle has another value in each run, and its path the same. So exchanges of two runs are brought

@@ -108,8 +108,8 @@ class Growing:
 
 @contextlib.contextmanager
 def ended_by_signals() -> typing.Iterator[int]:
-    """SIGINT and SIGTERM are told by what can be read from the number of a pipe. The next one ends
-    the tool."""
+    """SIGINT and SIGTERM are reported by what can be read from the number of a pipe. The next one
+    ends the tool."""
     reader, writer = os.pipe()
     before = {number: signal.getsignal(number) for number in (signal.SIGINT, signal.SIGTERM)}
 
@@ -395,7 +395,7 @@ class Following:
 
     def forget(self, one: Open, is_told: bool) -> None:
         """Keeps nothing of a connection. `is_told` says whether bytes that come later are to be
-        told."""
+        reported."""
         connection = one.connection
         connection.is_told = is_told
         del self.open[connection.number]
@@ -477,7 +477,7 @@ def forget_section(one: Open, selected: Selected, verdict: Verdict, spool: Spool
     for stream, kept in zip(streams, selected.kept):
         if stream.runs:
             begin = kept.ranges[-1][1] if kept.ranges else stream.begin
-            # Which are told
+            # Which are reported
             stream.conflicts = stream.conflict = stream.unplaced = stream.unplaced_by = 0
             stream.drop(end_of_whole(Window(stream.stored), begin, stream.stored.size))
     streams[0].lacks |= left_out
@@ -569,7 +569,7 @@ def opened_for_following(path: str) -> typing.Iterator[typing.IO[bytes]]:
 
 
 def take_all(following: Following, growing: Growing) -> None:
-    """Takes the frames of a recording up to its end, and tells what is wrong with it."""
+    """Takes the frames of a recording up to its end, and reports what is wrong with it."""
     try:
         source = Source(growing)
         if source.peek(8) in MAGICS:

@@ -131,7 +131,7 @@ def with_word(verdict: Verdict, covered: Covered) -> Verdict:
 
 
 def of_covered(recording: str, covered: Covered) -> Verdict:
-    """What is said of a connection that is left out, or of what no connection stands for."""
+    """What is said of a connection that is left out, or of what is of no connection."""
     ends = f'{covered.ends}: ' if covered.ends else ''
     return Verdict(recording, state=typing.cast(State, covered.word),
                    message=f'{covered.word}: {ends}{covered.reason}', missing=covered.missing,
@@ -216,7 +216,7 @@ def tell_notes(verdicts: Sequence[Verdict]) -> None:
 
 
 def notes_of(verdict: Verdict) -> list[str]:
-    """Returns what is told of a verdict that has no row, and beside one."""
+    """Returns what is said of a verdict that has no row, and beside one."""
     lines = [*verdict.notes, *([] if is_row(verdict) else [verdict.message])]
     return [printable(f'{named(verdict)}: {line}') for line in lines]
 

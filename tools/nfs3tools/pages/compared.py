@@ -97,7 +97,7 @@ def head(content: Content, word: str) -> Iterator[str]:
     look = 'differ' if not is_same else 'part' if report.is_in_part else 'same'
     yield markup.heading(look, f'The runs {"are the " if is_same else ""}{word}')
     if is_same:
-        # (how the order differs is told below)
+        # (how the order differs is said below)
         said = content.line.partition(';')[0]
         yield f'<p>{code(said)}</p>'
     else:
@@ -272,7 +272,7 @@ class Body:
     # --- Fields ---
 
     def where(self) -> dict[tuple[str, str], list[tuple[int, str | None]]]:
-        """Returns where each field of a procedure, or what else is told, is: the numbers of its
+        """Returns where each field of a procedure, or what else is reported, is: the numbers of its
         findings, and their paths."""
         out = defaultdict[tuple[str, str], list[tuple[int, Optional[str]]]](list)
         for number, finding in self.numbered():

@@ -12,7 +12,7 @@ from ..comparison.verdict.differences import Difference
 OPAQUE = ('data', 'rest')  # items whose values are hexadecimal also if they are short
 DOTS = '..'
 READABLE = 0.75  # of the bytes of a text, at least
-NO_LETTER = '\u00b7'  # stands for a byte that is none
+NO_LETTER = '\u00b7'  # means a byte that is none
 
 
 def of_difference(difference: Difference) -> list[str]:

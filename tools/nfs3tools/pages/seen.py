@@ -77,7 +77,7 @@ def fault_of(taken: Taken, verdict: Verdict) -> Fault:
 
 
 class Lines:
-    """The first lines of what is told, and how many are left."""
+    """The first lines of what is said, and how many are left."""
 
     def __init__(self) -> None:
         self.lines, self.more = list[str](), 0

@@ -8,7 +8,7 @@ from .segments import ACK, FIN, RST, SYN, Segment, ends_of, turned
 from .spool import Frames, Spool
 from .streams import HELD_BY_ALL, NUMBERS, Budget, Stream
 
-STRAYS_AT_MOST = 10  # frames of a connection that are told
+STRAYS_AT_MOST = 10  # frames of a connection that are reported
 
 
 class Connection:
@@ -33,7 +33,7 @@ class Connection:
         self.is_chosen = False
         self.is_judged = False  # nothing of it is wanted any more
         self.is_closed_later = False  # after that
-        self.after, self.is_told = 0, True  # bytes that came after that, and whether they are told
+        self.after, self.is_told = 0, True  # bytes that came after that, and whether this is said
         self.shown_after = 0  # the first frame after that by which others are missing
         self.older: Connection | None = None
         self.is_stray = False  # the older one went on
@@ -147,7 +147,7 @@ class Connection:
             self.strays = [*self.strays, text]
 
     def acknowledge(self, other: Stream, acknowledged: int, is_first: bool, number: int) -> None:
-        """Takes what an end says that it received. The first time this tells where the other's
+        """Takes what an end says that it received. The first time this says where the other's
         stream begins."""
         if is_first and self.client is not None:
             other.begun_late(acknowledged, number)

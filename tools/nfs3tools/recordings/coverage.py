@@ -8,7 +8,7 @@ besides connections that are taken.
     not checked  it has calls that are carried raw, and are NFS or MOUNT of another version; or it
                  is a connection to a port of NFS without one call of version 3
 
-`Taken.covered` returns a `Covered` for each. What is not judged though no connection stands for it
+`Taken.covered` returns a `Covered` for each. What is not judged though it is of no connection
 has one, too: datagrams of UDP, a recording that ends inside a frame. `Counts` is the sum of any
 number of them.
 """

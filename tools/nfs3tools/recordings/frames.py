@@ -277,7 +277,7 @@ def obsolete(order: str, body: bytes, interfaces: list[Interface], number: int) 
 
 
 def simple(order: str, body: bytes, interfaces: list[Interface], number: int) -> Frame:
-    """A frame of the first interface, without a time. What was kept of it is not told but by the
+    """A frame of the first interface, without a time. What was kept of it is not said but by the
     interface."""
     length, = fields_of(order, 'I', body)
     interface = interface_at(interfaces, 0)

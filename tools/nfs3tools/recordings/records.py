@@ -58,7 +58,7 @@ class Window:
 
 class Extent(typing.NamedTuple):
     """A record: where it begins with its first mark, where it ends, whether it is whole, and
-    whether a mark claims more than a body may have (then nothing tells where it ends)."""
+    whether a mark claims more than a body may have (then nothing says where it ends)."""
     begin: int
     end: int
     is_whole: bool
@@ -222,7 +222,7 @@ class Search:
 
 
 def end_of_whole(window: Window, begin: int, end: int) -> int:
-    """Where the last whole record of a run ends; the end of the run if a mark tells nothing."""
+    """Where the last whole record of a run ends; the end of the run if a mark says nothing."""
     for extent in extents(window, begin, end):
         if not extent.is_whole:
             return end if extent.is_too_long else extent.begin

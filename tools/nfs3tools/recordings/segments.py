@@ -22,7 +22,7 @@ PPP_CONTROL = 0x8000  # from here on PPP carries nothing but its own messages (R
 PLAIN_IPV4 = b'\x08\0\x45'  # the kind of Ethernet, and the first byte of IPv4 without options
 VLAN_TAGS = {0x8100, 0x88a8, 0x9100}
 IP_IN_IP, TCP, UDP, IPV6_IN_IP, FRAGMENT, GRE, AUTHENTICATION = 4, 6, 17, 41, 44, 47, 51
-VXLAN, GENEVE = {4789, 8472}, 6081  # ports of UDP; Linux has 8472 unless it is told the other
+VXLAN, GENEVE = {4789, 8472}, 6081  # ports of UDP; Linux has 8472 unless it is given the other
 TUNNELS_AT_MOST = 4  # one in the other
 # Of IPv6, each with its length in its second byte
 EXTENSIONS = {0, 43, 60, AUTHENTICATION, 135, 139, 140}

@@ -30,7 +30,7 @@ class Options(typing.NamedTuple):
 @dataclasses.dataclass
 class Kept:
     """The ranges of a stream's stored bytes that are kept, whether any of its bytes are not, how
-    many the recording lacks, what is told of it, and why it is in part, other than for bytes that
+    many the recording lacks, what is said of it, and why it is in part, other than for bytes that
     the recording lacks."""
     ranges: list[tuple[int, int]] = dataclasses.field(default_factory=list)
     lacks: bool = False
@@ -105,7 +105,7 @@ def select(connection: Connection, known: typing.Iterable[int] = (),
 
 
 def add_uncertain(stream: Stream, kept: Kept, side: Side) -> None:
-    """Adds what is told of bytes that are recorded and not taken, and of others that may be
+    """Adds what is said of bytes that are recorded and not taken, and of others that may be
     missing."""
     if stream.conflicts:
         kept.notes.append(

@@ -253,8 +253,8 @@ class Taken:
     files at its end.
 
     left_out: the connections that are not taken
-    remarks: what else is not judged, though no connection stands for it
-    notes: what is told of the whole recording or capture, a sentence each, without these
+    remarks: what else is not judged, though it is of no connection
+    notes: what is said of the whole recording or capture, a sentence each, without these
     damage: why what follows could not be read, or None; a recording that ends in the middle of a
         frame is not damaged
     nothing: what is said if there is no connection
@@ -437,7 +437,7 @@ def size_of(files: typing.Iterable[str]) -> int | None:
 
 
 def share_of(source: Source, before: int, size: int | None) -> Share | None:
-    """Returns what tells the share of files that was read, if their size is known: of this one, and
+    """Returns what gives the share of files that was read, if their size is known: of this one, and
     of the bytes of those before it."""
     if not size:
         return None
@@ -535,7 +535,7 @@ class Taking:
     def add(self, recording: Recording, chosen: set[int] | None, name: str = '',
             share: Share | None = None) -> None:
         """Takes a part, of which only the frames that are chosen count, if `chosen` is not None. A
-        name stands before what is told."""
+        name is before what is said."""
         before, segments, connections, ports = (
             self.count, self.segments, self.connections, self.options.ports)
         frame = None

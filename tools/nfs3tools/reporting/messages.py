@@ -105,7 +105,7 @@ def flush_all() -> None:
 
 
 def drop_unwritten() -> None:
-    """Leaves nothing that Python would try to write at its end, and then tell of in its own way."""
+    """Leaves nothing that Python would try to write at its end, and then report in its own way."""
     for stream in (sys.stdout, sys.stderr):
         try:
             stream.flush()
@@ -291,7 +291,7 @@ def options_of(chosen: argparse.Namespace) -> Options:
 
 
 def lines_of(taken: Taken, has_taken: bool = True) -> list[str]:
-    """What is told of a recording: a line for each connection that is taken, if that is asked for,
+    """What is said of a recording: a line for each connection that is taken, if that is asked for,
     or left out, and for what is missing."""
     lines = [*taken.notes]
     for connection in taken.connections:

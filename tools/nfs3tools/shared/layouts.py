@@ -248,7 +248,7 @@ class Walk:
             self.branch(kind, name, most, inner)
 
     def branch(self, kind: str, name: str, most: int, inner: str) -> None:
-        """Parts whose number, kind or size a word tells."""
+        """Parts whose number, kind or size a word has."""
         if kind == 'opt' and self.word(name, BOOL):
             self.part(inner)
         elif kind == 'list':

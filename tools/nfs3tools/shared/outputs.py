@@ -127,7 +127,7 @@ def try_outputs(paths: Iterable[str | None], inputs: Iterable[str] = (),
                 replaces: tuple[str, ...] = ()) -> None:
     """Tries before the work whether outputs can be written, as far as that can be known: each is
     checked, a new file is made in its folder and removed again, and no two outputs are one file.
-    None stands for an output that is not wanted.
+    None means an output that is not wanted.
 
     Raises what `write_file` does.
     """

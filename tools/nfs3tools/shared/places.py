@@ -34,7 +34,7 @@ class FilePlace(typing.NamedTuple):
 
 
 class FramePlace(typing.NamedTuple):
-    """A frame of a recording, numbered from 1 as Wireshark counts. It stands for the records whose
+    """A frame of a recording, numbered from 1 as Wireshark counts. It means the records whose
     bytes it carries."""
     frame: int
 

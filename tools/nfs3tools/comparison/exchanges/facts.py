@@ -105,7 +105,7 @@ class Fact(NamedTuple):
 
 
 Known = tuple[int, str]  # an object by its handle, or by its folder's and its name
-Id = tuple[str, str]  # of the file system, empty if it is not told, and of the file
+Id = tuple[str, str]  # of the file system, empty if it is not known, and of the file
 
 
 class Facts:

@@ -47,7 +47,7 @@ When = Callable[[int, int], int]
 
 
 class Objects:
-    """What file handles stand for: the folder and the name by which each was made, or else reached
+    """What file handles mean: the folder and the name by which each was made, or else reached
     first."""
 
     def __init__(self) -> None:
@@ -81,7 +81,7 @@ class Objects:
         return self.origins[handle] if handle < len(self.known) and self.known[handle] else None
 
     def settle(self, when: Callable[[int], int]) -> None:
-        """Of several places of an object the one counts that was told first."""
+        """Of several places of an object the one counts that was said first."""
         for handle, rivals in self.rivals.items():
             own = self.origins[handle], self.folders[handle], self.names[handle]
             self.place(handle, *min((own, *rivals), key=lambda rival: when(rival[0])))

@@ -23,7 +23,7 @@ ASKING = frozenset('NFSPROC3_' + name for name in (
     'NULL', 'GETATTR', 'LOOKUP', 'ACCESS', 'READLINK', 'READDIR', 'READDIRPLUS', 'FSSTAT',
     'FSINFO', 'PATHCONF')) | {'MOUNTPROC3_NULL'}
 FIRST_CALLS = 50  # by which connections are brought together
-ASKED_BY_MANY = 16  # connections: a call that so many begin with tells nothing of one
+ASKED_BY_MANY = 16  # connections: a call that so many begin with says nothing of one
 # Calls that a gap may have in the second run above those of the first, for what may be elsewhere,
 # too
 NARROW = 8

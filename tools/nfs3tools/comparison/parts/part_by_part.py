@@ -122,8 +122,8 @@ class PartByPart:
 
     def are_same(self, pairs: Sequence[Both]) -> bool:
         """Returns whether all these parts are the same. False if one is not, or if it is not known:
-        if one has not as many connections in both runs, so that a connection could stand for one of
-        another part, or if all have too many."""
+        if one has not as many connections in both runs, so that a connection could be taken for one
+        of another part, or if all have too many."""
         connections = [[part.size().connections for part in parts] for parts in zip(*pairs)]
         if connections[0] != connections[1] or sum(connections[0]) > CONNECTIONS_AT_MOST:
             return False

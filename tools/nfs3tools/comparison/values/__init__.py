@@ -1,2 +1,2 @@
-"""The classes of values: which there are, how they are masked, which stand for which, and where
+"""The classes of values: which there are, how they are masked, which belongs to which, and where
 long ones part."""

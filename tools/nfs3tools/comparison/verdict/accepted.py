@@ -21,7 +21,7 @@ from .differences import Difference
 from .findings import RUNS, Compared, Finding
 
 VERSION = 2  # of the form of the file
-# Findings that are told by their kind: calls in another place, sent again, and other numbers of
+# Findings that are stated by their kind: calls in another place, sent again, and other numbers of
 # replies.
 PLAIN = ('moved', 'sent again', 'replies')
 MEMBERS = {'procedure', 'path', 'is_call', 'field', 'first', 'second', 'only', 'kind', 'asks',

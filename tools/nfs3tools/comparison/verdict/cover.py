@@ -123,7 +123,7 @@ class Cover:
 
 
 def is_connection(covered: Covered) -> bool:
-    """Whether it is one that a connection stands for, taken or left out."""
+    """Whether it is that of a connection, taken or left out."""
     return covered.number is not None or bool(covered.ends)
 
 

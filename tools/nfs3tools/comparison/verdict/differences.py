@@ -42,7 +42,7 @@ class Difference:
 
     @property
     def is_equal(self) -> bool:
-        """Whether both runs have one value here, which stands for others elsewhere: the remark says
+        """Whether both runs have one value here, which means others elsewhere: the remark says
         for which."""
         return self.first == self.second and self.apart is None
 
@@ -126,7 +126,7 @@ class Comparison:
         first, second = str(here.items[at].value), str(there.items[to].value)
         zeros = [not value.strip('0') for value in (first, second)]
         if any(zeros) and (owner is not None and owner.keeps_zero or '' in (first, second)):
-            # A zero cookie, a verifier of zeros and the empty handle stand for themselves alone.
+            # A zero cookie, a verifier of zeros and the empty handle mean themselves alone.
             return None if first == second else difference_of(here, at, there, to, is_renamed=True)
         is_first = (name, first) in self.bindings.forth
         why = self.bindings.bind(name, first, second)

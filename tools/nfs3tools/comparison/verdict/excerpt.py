@@ -24,7 +24,7 @@ class Around(NamedTuple):
 
 class Row(NamedTuple):
     """An exchange of each run, None if the run does not have it, the path of what it is about, and
-    whether it is told."""
+    whether it is reported."""
     first: Exchange | None
     second: Exchange | None
     path: str | None
@@ -33,7 +33,7 @@ class Row(NamedTuple):
 
 class Gap(NamedTuple):
     """Calls of the first run that are not shown: how many are equal to those of the second run, how
-    many are among what is told, and how many are in the first run alone and left out."""
+    many are among what is reported, and how many are in the first run alone and left out."""
     equal: int = 0
     told: int = 0
     left_out: int = 0
@@ -53,7 +53,7 @@ class Beside:
     """The connections of which something is shown, in the order of the first run.
 
     others, rest: how many connections the first run has besides, and what is in them
-    cut: how many exchanges that the second run alone has are not shown, although they are told
+    cut: how many exchanges that the second run alone has are not shown, although they are reported
     """
     connections: list[Connection] = field(default_factory=list)
     others: int = 0
@@ -67,8 +67,8 @@ class Shown:
 
     def __init__(self, pairing: Pairing, told: Iterable[Pair], besides: Iterable[int],
                  around: Around) -> None:
-        """Chooses among the pairs that are told, and what is near them. `besides` are more
-        exchanges of the first run that are told."""
+        """Chooses among the pairs that are reported, and what is near them. `besides` are more
+        exchanges of the first run that are reported."""
         self.pairing, self.here, self.there = pairing, pairing.here, pairing.there
         self.told = set(told)
         self.told_of_first = sorted({*(at for at, _ in self.told if at != NOBODY), *besides})
@@ -135,7 +135,7 @@ class Shown:
 
     def beside(self, row: Callable[[Pair, bool], Row]) -> Beside:
         """Returns what is shown. `row` returns a pair taken apart, and is given whether it is
-        told."""
+        reported."""
         groups = groupby(sorted(self.pairs, key=self.key_of), self.connections_of)
         connections = {both: list(self.rows(both[0], list(pairs), row)) for both, pairs in groups}
         others = [place for place in range(len(self.pairing.homes))

@@ -38,7 +38,7 @@ class Run:
 
 @dataclass(frozen=True)
 class Finding:
-    """What is told of one place: the messages of both runs (None if it has none there), and how
+    """What is said of one place: the messages of both runs (None if it has none there), and how
     they differ. A call of one run alone has its arguments. `statuses` are those of the replies of
     both runs, if a call is alone, or the replies are of another number."""
     kind: str  # 'changed', 'only', 'moved', 'sent again', 'replies', 'order' or 'connection'
@@ -93,7 +93,7 @@ class Compared:
     moved, elsewhere: how many of those are reordered, or are on another connection
     late: how many replies come in another order
     late_connections: how many connections do
-    lonely: how many calls the first and the second run have alone, which are told
+    lonely: how many calls the first and the second run have alone, which are reported
     left_out: how often a procedure was left out of the first and of the second run, that one run
         alone has
     silent: all calls that are left out
@@ -157,9 +157,9 @@ def chosen(lines: Iterable[str], outlines: Outlines, some: Iterable[int]) -> Ite
 
 @dataclass
 class Lonely:
-    """The exchanges of a run that have no partner: those that are told, the connections of which
-    there are no others (the first exchange of each, and how many it has), those that are left out,
-    and how often a procedure is."""
+    """The exchanges of a run that have no partner: those that are reported, the connections of
+    which there are no others (the first exchange of each, and how many it has), those that are left
+    out, and how often a procedure is."""
     told: list[int] = field(default_factory=list)
     silent: list[int] = field(default_factory=list)
     connections: dict[int, int] = field(default_factory=dict)
@@ -168,7 +168,7 @@ class Lonely:
     @classmethod
     def of(cls, outlines: Outlines, only: Iterable[int], leaves_out: frozenset[str],
            counted: Container[int]) -> 'Lonely':
-        """`counted` are calls of the procedures that are left out which are told all the same."""
+        """`counted` are calls of the procedures that are left out which count all the same."""
         out = cls()
         for place, group in itertools.groupby(only, outlines.connection_of):
             some, all_of_it = list(group), outlines.exchanges_of(place)
@@ -183,13 +183,13 @@ class Lonely:
         return out
 
     def number(self) -> int:
-        """Returns how many exchanges are told."""
+        """Returns how many exchanges are reported."""
         return len(self.told) + sum(self.connections.values())
 
 
 class Explaining:
     """Tells what differs between two runs whose exchanges are brought together. What is in one run
-    alone is told, unless its procedure is one of those that are left out."""
+    alone is reported, unless its procedure is one of those that are left out."""
 
     def __init__(self, first: Run, second: Run, pairing: Pairing, leaves_out: frozenset[str],
                  explanation: Explanation) -> None:
@@ -209,7 +209,7 @@ class Explaining:
                   around: Around | None) -> Compared:
         """Returns what differs in the pairs of the unequal turns, and besides.
 
-        named: the turns of equal pairs that say what stands for what
+        named: the turns of equal pairs that say what belongs to what
         around: how much is shown of both runs side by side, if that is asked for
         """
         pairing, moved = self.pairing, list[Pair]()
@@ -243,12 +243,12 @@ class Explaining:
                     or pairing.late_connections or pairing.sent_again)
 
     def tells_lonely(self) -> bool:
-        """Returns whether something is told that one run alone has."""
+        """Returns whether something is reported that one run alone has."""
         return any(some.told or some.connections for some in (self.lonely, self.others))
 
     def take_apart(self, turns: set[int], moved: Iterable[Pair]) -> set[int]:
-        """Takes the exchanges of some turns apart, and all that are told. Returns the turns, with
-        those of the exchanges that say where the files are."""
+        """Takes the exchanges of some turns apart, and all that are reported. Returns the turns,
+        with those of the exchanges that say where the files are."""
         pairs = [*((self.firsts[turn], self.seconds[turn]) for turn in turns), *moved]
         here = self.pairing.here.with_origins({*(at for at, _ in pairs), *self.lonely.told,
                                                *self.lonely.connections})
@@ -270,7 +270,7 @@ class Explaining:
     def of_turns(self, unequal: set[int], turns: set[int],
                  comparison: Comparison) -> Iterator[tuple[Pair, Finding]]:
         """The differences between matched exchanges. Those of equal ones bind what
-        stands for what."""
+        belongs to what."""
         for turn in (*sorted(turns - unequal), *sorted(unequal)):
             at, to = self.firsts[turn], self.seconds[turn]
             found = list(of_pair(self.here.exchanges[at], self.there.exchanges[to],
@@ -368,7 +368,7 @@ class Explaining:
         return place, message.record, first is None
 
     def beside(self, changed: Iterable[Pair], around: Around) -> Beside:
-        """Returns some pairs that are told, what one run alone has, and pairs around that. Of a
+        """Returns some pairs that are reported, what one run alone has, and pairs around that. Of a
         connection that one run alone has it is the first exchange."""
         told = [*changed, *((at, NOBODY) for at in (*self.lonely.told, *self.lonely.connections)),
                 *((NOBODY, to) for to in (*self.others.told, *self.others.connections))]

@@ -135,7 +135,7 @@ class Orders:
 
     def not_one_to_one(self, compared: Compared, mask: Mask) -> frozenset[str]:
         """Returns the classes that are to follow their objects: those of values that differ. If
-        pairs differ of which no field is told, values are shared by other messages."""
+        pairs differ of which no field is reported, values are shared by other messages."""
         told, groups = classes_in(compared), [group & self.choices.follows for group in GROUPS]
         if self.explaining.are_all_told:
             return frozenset().union(*(group for group in groups if group & told))

@@ -28,7 +28,7 @@ CONNECTION = re.compile(r'(?<=differ at )connection (\d+)')
 
 
 def when_of(taken: Taken) -> When | None:
-    """Returns what tells the first frame of a call, if frames are noted."""
+    """Returns what gives the first frame of a call, if frames are noted."""
     def when(connection: int, record: int) -> int:
         return min((frame.number for frame in taken.frames(Place(connection, 'client', record))),
                    default=0)
