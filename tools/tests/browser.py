@@ -1,11 +1,5 @@
 """A page in headless Chromium: what it shows, and what its keys and buttons do.
 
-    with Browser(folder) as browser:
-        browser.open('/tmp/page.html', width=480)
-        browser.value('document.title')
-        browser.press('n')
-        print(browser.errors)
-
 It speaks the DevTools protocol over two pipes, objects in JSON with a zero byte after each.
 """
 import base64

@@ -5,10 +5,12 @@ built, or the one that the variable NFS3CANON names.
 """
 import concurrent.futures
 import functools
+import inspect
 import os
+import sys
 import typing
 import unittest
-from collections.abc import Callable, Iterable
+from collections.abc import Callable, Iterable, Iterator
 
 from tests.shared.running import BUILT, Runs, tried
 
@@ -17,13 +19,25 @@ R = typing.TypeVar('R', bound=Runs)
 
 
 class FolderTest(unittest.TestCase):
-    """Has a method `test_NAME` for each function NAME that a subclass is given."""
+    """Has a method `test_NAME` for each function NAME that a subclass is given, or else for each of
+    its module that takes runs alone and returns nothing."""
 
     def __init_subclass__(cls, make: Callable[[str, str], R],
-                          tests: Iterable[Callable[[R], object]]) -> None:
+                          tests: Iterable[Callable[[R], object]] = ()) -> None:
         super().__init_subclass__()
-        for test in tests:
+        for test in tests or tests_in(cls.__module__):
             setattr(cls, f'test_{test.__name__}', method_of(make, test))
+
+
+def tests_in(module: str) -> Iterator[Callable[..., object]]:
+    """Yields the functions of a module that take runs alone and return nothing."""
+    for one in vars(sys.modules[module]).values():
+        if inspect.isfunction(one) and one.__module__ == module:
+            signature = inspect.signature(one)
+            kinds = [parameter.annotation for parameter in signature.parameters.values()]
+            if signature.return_annotation is None and len(kinds) == 1 and issubclass(
+                    kinds[0], Runs):
+                yield one
 
 
 def method_of(make: Callable[[str, str], R],
@@ -42,8 +56,7 @@ WrongOf = Callable[[str, int], list[str]]
 
 
 class SeedsTest(unittest.TestCase):
-    """Tests that try many seeds, from 0 on, or those that the variables SEED (the first) and COUNT
-    say."""
+    """Tests of many seeds, from 0 on, or those that the variables SEED and COUNT say."""
 
     def check(self, count: int, wrong_of: WrongOf) -> None:
         """Nothing is wrong with any seed. Processes side by side each have some of them."""

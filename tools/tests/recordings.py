@@ -60,8 +60,7 @@ def pcapng(frames: Iterable[bytes], order: str = '<') -> bytes:
 # --- Parts of segments ---
 
 def part_of(frame: bytes, begin: int, end: int) -> bytes:
-    """A frame of Ethernet, IP and TCP, all without options, with some bytes of its payload as if
-    they had been sent so, with its checksums."""
+    """A frame of Ethernet, IP and TCP with a part of its payload, and right checksums."""
     at, payload = (14 + (20 if frame[14] >> 4 == 4 else 40)), frame[-len(frame):]
     content = frame[at:at + 20] + payload[at + 20:][begin:end]
     sequence = (int.from_bytes(content[4:8], 'big') + begin) % (1 << 32)
@@ -80,8 +79,7 @@ def part_of(frame: bytes, begin: int, end: int) -> bytes:
 
 
 def ones_complement(content: bytes) -> bytes:
-    """The checksum of RFC 1071: the complement of the sum of all words, in which what overflows is
-    added again."""
+    """The checksum of RFC 1071."""
     total = 0
     for at in range(0, len(content), 2):
         total += int.from_bytes(content[at:at + 2].ljust(2, b'\0'), 'big')
@@ -135,8 +133,7 @@ def in_geneve(kind: int, content: bytes, options: bytes = b'') -> bytes:
 
 
 def in_gre(kind: int, content: bytes, key: bytes = b'', number: bytes = b'') -> bytes:
-    """What has this kind in GRE (RFC 2890), with a key of four bytes and a number of four bytes, or
-    without."""
+    """What has this kind in GRE (RFC 2890), perhaps with a key and a number of four bytes."""
     return struct.pack('>HH', 0x2000 * bool(key) | 0x1000 * bool(number),
                        kind) + key + number + content
 
@@ -157,8 +154,7 @@ def in_session(content: bytes) -> bytes:
 # --- Fragments ---
 
 def fragments(content: bytes, size: int, identification: int = 77) -> list[bytes]:
-    """A datagram of IPv4 in fragments, of which each but the last carries `size` bytes, a multiple
-    of eight."""
+    """A datagram of IPv4 in fragments of `size` bytes, a multiple of eight."""
     head, payload = content[:20], content[20:]
     return [struct.pack('>BBHHH', 0x45, 0, 20 + len(payload[at:at + size]), identification,
                         at // 8 | (0x2000 if at + size < len(payload) else 0)) + head[8:]
@@ -176,8 +172,7 @@ def fragments_6(content: bytes, size: int, identification: int = 77) -> list[byt
 
 
 def extended(content: bytes, headers: list[tuple[int, bytes]]) -> bytes:
-    """A datagram of IPv6 with extension headers, each its kind and its bytes, of which the first is
-    to be the kind of the next."""
+    """A datagram of IPv6 with extension headers, each its kind and its bytes."""
     kinds = [kind for kind, _ in headers] + [content[6]]
     packed = b''.join(bytes([kinds[at + 1]]) + body[1:] for at, (_, body) in enumerate(headers))
     return content[:4] + struct.pack('>HB', len(packed) + len(content) - 40,

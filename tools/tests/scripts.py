@@ -1,11 +1,15 @@
 """Runs of the scripts in tools/, and what their tests make recordings of."""
 import contextlib
 import io
+import json
 import os
 import pathlib
+import struct
 import sys
 import tempfile
+import threading
 import typing
+import xml.etree.ElementTree
 from collections.abc import Sequence
 
 from examples.messages import NFS, call, fragment, success, version_1
@@ -22,8 +26,18 @@ from ..nfs3tools.recordings.selection import Options
 from ..nfs3tools.recordings.taken import NotTaken, Taken, take_from
 from ..nfs3tools.reporting.messages import add_options, lines_of, options_of, parser_of
 from ..nfs3tools.shared.progress import Progress
+from .forks import ended_in_fork
 
 TOP = pathlib.Path(__file__).resolve().parents[2]
+EXAMPLES = TOP / 'examples'
+FIRST, SECOND, CHANGED = (str(EXAMPLES / f'ganesha_{name}.pcap') for name in ('a', 'b', 'changed'))
+# The faults of examples: where and why each is refused, and the frame that brought it.
+FAULTS = {'bad_client_record': ('connection 1 client record 1 byte 4: BadEnum', 4),
+          'bad_server_record': ('connection 2 server record 2 byte 0: NoCall', 13),
+          'bad_status': ('connection 1 server record 1 byte 24: BadEnum', 5),
+          'bad_bool': ('connection 1 server record 1 byte 28: BadBool', 5),
+          'bad_length': ('connection 1 client record 1 byte 40: TooLong', 4)}
+WITHOUT_PROGRAM = ('explain', 'from_pcap', 'where')
 
 # For a process that imports the tools itself.
 WITH_TOOLS = {**os.environ, 'PYTHONPATH': str(TOP / 'tools')}
@@ -93,6 +107,20 @@ def taken_of(recording: bytes, **options: typing.Any) -> Taken:
     return take_from(Source(io.BytesIO(recording)), None, Options(**options), True, Progress(False))
 
 
+def in_turn(talks: Sequence[Talk],
+            messages: typing.Iterable[tuple[int, int, bytes]]) -> list[bytes]:
+    """The frames of connections at once, a frame for each message: which, its side and its body."""
+    frames = [frame for talk in talks for frame in talk.opened()]
+    frames += [talks[number].sent(side, fragment(body)) for number, side, body in messages]
+    return [*frames, *(frame for talk in talks for frame in talk.closed())]
+
+
+def timed(frames: typing.Iterable[tuple[float, bytes]], begun: int = 0) -> bytes:
+    """A recording of frames, each so many seconds after its beginning."""
+    return pcap([]) + b''.join(struct.pack('<4I', begun + int(at), round(at % 1 * 1_000_000),
+                                           len(frame), len(frame)) + frame for at, frame in frames)
+
+
 def sums(ok: int = 0, in_part: int = 0, refused: int = 0, errors: int = 0, left_out: int = 0,
          not_checked: int = 0, bare: int = 0, raw: str = '', silent: int = 0) -> str:
     """The line of sums of `tools/verdicts`; `bare` is how many of those that are left out show no
@@ -103,6 +131,11 @@ def sums(ok: int = 0, in_part: int = 0, refused: int = 0, errors: int = 0, left_
             f'left out{without}, '
             f'{not_checked} not checked, {errors} errors{open_calls}'
             + (f'; {raw} raw' if raw else ''))
+
+
+# With segments in their order, and calls to ports that TLS might have.
+TSHARK = ('tshark',
+          '-n', '-o', 'tcp.reassemble_out_of_order:TRUE', '--disable-protocol', 'tls', '-r')
 
 
 class Measured(typing.NamedTuple):
@@ -126,8 +159,23 @@ class Tools(Runs):
     """A folder, and runs of the scripts there."""
 
     def tool(self, name: str, *words: str, **options: typing.Unpack[RunOptions]) -> Answer:
-        """What a script ended with. Its standard output may be no text."""
-        return ended([str(TOP / 'tools' / name), *words], self.folder, **options).text('replace')
+        """What a tool ended with, on the program of the tests if it runs one: in a fork if no
+        option asks for a process, and no other thread runs. Its output may be no text."""
+        script, stdin = str(TOP / 'tools' / name), options.get('stdin')
+        if name not in WITHOUT_PROGRAM and '--program' not in words:
+            words = '--program', self.program, *words
+        is_plain = options.keys() <= {'stdin'} and (stdin is None or isinstance(stdin, bytes))
+        if is_plain and threading.active_count() == 1:
+            return ended_in_fork(script, words, self.folder, stdin).text('replace')
+        return ended([script, *words], self.folder, **options).text('replace')
+
+    def json(self, name: str) -> typing.Any:
+        """What a file of JSON has."""
+        return json.loads(self.read(name) or b'')
+
+    def xml(self, name: str) -> xml.etree.ElementTree.Element:
+        """The root of a file of XML."""
+        return xml.etree.ElementTree.fromstring((self.read(name) or b'').decode())
 
     def taken(self, what: str, recording: bytes, wanted: list[Streams],
               **options: typing.Any) -> list[str]:
@@ -183,6 +231,13 @@ def both_ways(program: str, recording: bytes, words: Sequence[str] = ()) -> list
     add_options(parser)
     options = options_of(parser.parse_args(words))
     return [plain(program, recording, options), followed(program, recording, options)]
+
+
+def of_tshark(tools: Tools, recording: str, choice: str, *fields: str) -> list[list[str]]:
+    """The values of some fields in each frame that a filter chooses."""
+    done = ended([*TSHARK, recording, '-Y', choice, '-T', 'fields',
+                  *(word for field in fields for word in ('-e', field))], tools.folder)
+    return [line.split('\t') for line in done.out.decode().splitlines()]
 
 
 def write_faulty(tools: Tools) -> list[str]:

@@ -1,12 +1,6 @@
-"""Tests of `tools/compare --accept` and `--accept-new`: which findings a file accepts, and that
-nothing else becomes green.
-
-The runs are made, so what differs is known by hand: files `f0`, `f1` .. of one folder, whose path
-is not known, each with a LOOKUP and a GETATTR.
-"""
+"""Tests of `tools/compare --accept` and `--accept-new`, on files of one folder."""
 import json
 import re
-import xml.etree.ElementTree
 from typing import Any
 
 from examples.messages import (
@@ -14,8 +8,8 @@ from examples.messages import (
 from examples.packets import pcap
 
 from .cases import FolderTest
+from .comparisons import Comparisons, Conversation, conversation_of
 from .scripts import connection_of
-from .test_compare import Comparisons, Conversation, conversation_of
 
 FOLDER, SETATTR = b'folder', 2
 NLINK = {'procedure': 'NFSPROC3_GETATTR', 'path': '?/f1', 'field': 'obj.nlink', 'first': '1',
@@ -25,8 +19,7 @@ ONLY = {'procedure': 'NFSPROC3_SETATTR', 'path': '?/f0', 'only': 'second', 'asks
 
 
 def run(*nlinks: int, more: int = 0, names: tuple[int, ...] = ()) -> Conversation:
-    """LOOKUP of each file, GETATTR of each with its link count, and some SETATTR of the first. The
-    order of GETATTR may be another."""
+    """LOOKUP of each file, GETATTR of each with its link count, and SETATTRs of the first."""
     files = [b'f%d' % number for number in range(len(nlinks))]
     return conversation_of([
         *((3, dirop(FOLDER, name), ok(fh(name), post_op_attr(), post_op_attr())) for name in files),
@@ -49,10 +42,8 @@ def compared(place: Comparisons, *words: str) -> tuple[int, str, list[str]]:
 
 
 def a_field_is_accepted_by_procedure_path_and_values(place: Comparisons) -> None:
-    """A finding that an entry of the file fits makes no difference; one that differs in a word of
-    it does."""
-    place.put('a', run(1, 1, 1))
-    place.put('b', run(1, 2, 1))
+    """An entry accepts a finding that fits each of its words."""
+    place.put_both(run(1, 1, 1), run(1, 2, 1))
     place.want('without', compared(place), (1, 'differ', []))
     same, differ = (0, 'same but for 1 accepted: 6 calls in 1 connection', ['1 accepted']), 'differ'
     fitting: list[dict[str, Any]] = [
@@ -77,8 +68,7 @@ def a_field_is_accepted_by_procedure_path_and_values(place: Comparisons) -> None
 
 def what_is_left_decides(place: Comparisons) -> None:
     """A second field that differs is told alone, with its own position."""
-    place.put('a', run(1, 1, 1))
-    place.put('b', run(1, 2, 3))
+    place.put_both(run(1, 1, 1), run(1, 2, 3))
     accepts(place, NLINK)
     status, out, _ = place.compare('--accept', 'known', 'a', 'b')
     place.want('status', status, 1)
@@ -90,8 +80,7 @@ def what_is_left_decides(place: Comparisons) -> None:
 
 def entries_that_fit_nothing_are_named(place: Comparisons) -> None:
     """What was accepted and does not differ any more is printed, and changes no status."""
-    place.put('a', run(1, 1))
-    place.put('b', run(1, 1))
+    place.put_both(run(1, 1), run(1, 1))
     accepts(place, NLINK, ONLY)
     gone = ['0 accepted', 'no longer found: NFSPROC3_GETATTR ?/f1 obj.nlink first=1 second=2',
             'no longer found: NFSPROC3_SETATTR ?/f0 only in the second run set.mode=416']
@@ -100,10 +89,8 @@ def entries_that_fit_nothing_are_named(place: Comparisons) -> None:
 
 
 def a_call_of_one_run_alone_is_accepted_by_its_side(place: Comparisons) -> None:
-    """A SETATTR that the second run has more is accepted if the entry says so of the second run,
-    what it asks, how it was answered, and how often it comes."""
-    place.put('a', run(1, 1))
-    place.put('b', run(1, 1, more=2))
+    """What it asks, its status and how often it comes count, too."""
+    place.put_both(run(1, 1), run(1, 1, more=2))
     accepts(place, {**ONLY, 'times': 2})
     place.want('second', compared(place, '--accept', 'known'),
                (0, 'same but for 2 accepted: 4 calls in 1 connection', ['2 accepted']))
@@ -118,10 +105,8 @@ def a_call_of_one_run_alone_is_accepted_by_its_side(place: Comparisons) -> None:
 
 
 def other_orders_stay_what_they_are(place: Comparisons) -> None:
-    """With an accepted field, runs whose calls have other turns are the same in another order, and
-    differ in their own."""
-    place.put('a', run(1, 1, 1))
-    place.put('b', run(1, 2, 1, names=(2, 1, 0)))
+    """An accepted field changes nothing of what an order means."""
+    place.put_both(run(1, 1, 1), run(1, 2, 1, names=(2, 1, 0)))
     accepts(place, NLINK)
     turned = 'same in another order but for 1 accepted: 6 calls; 2 reordered; 2 replies reordered'
     place.want('by default', compared(place, '--accept', 'known')[:2], (1, turned))
@@ -135,8 +120,7 @@ def other_orders_stay_what_they_are(place: Comparisons) -> None:
 
 
 def nothing_else_becomes_green(place: Comparisons) -> None:
-    """Whole connections and what is not found as a field are never accepted, whatever the file
-    says."""
+    """Whole connections and what is no field are never accepted."""
     everything = [{'procedure': '*', 'field': 'obj.nlink', 'times': 9},
                   {**ONLY, 'only': 'first', 'times': 9}, {**ONLY, 'times': 9},
                   {'procedure': '*', 'kind': 'moved', 'times': 9},
@@ -148,14 +132,12 @@ def nothing_else_becomes_green(place: Comparisons) -> None:
     place.put('b', run(1, 2), ([], []))
     place.want('an empty one, strict', compared(place, '--order', 'strict', '--accept',
                                                 'known')[:2], (1, 'differ'))
-    place.put('a', run(1))
-    place.put('b', run(2)[:1] + ([],))
+    place.put_both(run(1), run(2)[:1] + ([],))
     place.want('no replies', compared(place, '--accept', 'known')[0], 1)
 
 
 def lost_and_refused_connections_stay(place: Comparisons) -> None:
-    """An accepted field makes no run green of which bytes are missing or a connection is
-    refused."""
+    """Missing bytes and refused connections keep their status."""
     def recorded(nlink: int, lost: int | None, status: int) -> bytes:
         frames = connection_of(*run(1, nlink), 4)
         bad = [call(1, NFS, 3, 0)], [success(1) if not status else word(1) * 6]
@@ -170,12 +152,10 @@ def lost_and_refused_connections_stay(place: Comparisons) -> None:
 
 
 def a_new_file_accepts_what_was_found(place: Comparisons) -> None:
-    """--accept-new has an entry for each finding by hand's count, its file makes the same runs
-    green, and a wildcard in a name is none."""
-    place.put('a', run(1, 1, 1))
-    place.put('b', run(1, 2, 1, more=1))
+    """--accept-new has an entry for each finding, and no wildcard of a name."""
+    place.put_both(run(1, 1, 1), run(1, 2, 1, more=1))
     place.want('status', compared(place, '--accept-new', 'new')[0], 1)
-    found = json.loads(place.read('new'))
+    found = place.json('new')
     path = glob_free('?/f1'), glob_free('?/f0')
     place.want('entries', found, {'version': 2, 'accepted': [
         {'procedure': 'NFSPROC3_GETATTR', 'path': path[0], 'is_call': False, 'field': 'obj.nlink',
@@ -183,22 +163,19 @@ def a_new_file_accepts_what_was_found(place: Comparisons) -> None:
         {**ONLY, 'path': path[1]}]})
     place.want('green', compared(place, '--accept', 'new')[0::2], (0, ['2 accepted']))
     place.want('replaced', (compared(place, '--accept', 'new', '--accept-new', 'new')[0],
-                            json.loads(place.read('new'))), (0, found))
+                            place.json('new')), (0, found))
 
 
 def what_counts_in_no_order_is_not_written(place: Comparisons) -> None:
-    """--accept-new of runs that are the same in another order has no entry, though file ids differ;
-    with an accepted field it has that."""
-    place.put('a', run(1, 1, 1))
-    place.put('b', run(1, 1, 1, names=(2, 1, 0)))
+    """Ids that differ in another order are no entry."""
+    place.put_both(run(1, 1, 1), run(1, 1, 1, names=(2, 1, 0)))
     place.want('turned', (compared(place, '--accept-new', 'new')[0],
-                          json.loads(place.read('new'))['accepted']), (1, []))
+                          place.json('new')['accepted']), (1, []))
     place.put('b', run(1, 2, 1, names=(2, 1, 0)))
     accepts(place, NLINK)
     place.want('with a field', compared(place, '--order', 'any', '--accept', 'known',
                                         '--accept-new', 'new')[0], 0)
-    place.want('entries', [one['field'] for one in json.loads(place.read('new'))['accepted']],
-               ['obj.nlink'])
+    place.want('entries', [one['field'] for one in place.json('new')['accepted']], ['obj.nlink'])
 
 
 def glob_free(path: str) -> str:
@@ -206,10 +183,8 @@ def glob_free(path: str) -> str:
 
 
 def files_are_written_and_read_with_care(place: Comparisons) -> None:
-    """A recording or an input is never replaced, other outputs do not replace the file, and a wrong
-    file is refused by name."""
-    place.put('a', run(1))
-    place.put('b', run(2))
+    """No input is replaced, and a wrong file is refused by name."""
+    place.put_both(run(1), run(2))
     place.write('c', pcap([]))
     accepts(place, NLINK)
     for words in (('--accept-new', 'a'), ('--accept-new', 'c'),
@@ -240,8 +215,7 @@ def files_are_written_and_read_with_care(place: Comparisons) -> None:
 
 
 def all_forms_say_the_same(place: Comparisons) -> None:
-    """Text, --brief, JSON, JUnit XML and the page have the same number of accepted findings, and
-    the same status."""
+    """All forms of output have the same counts and the same status."""
     place.put('a', run(1, 1, 1))
     for nlinks, known, accepted, gone in (((1, 2, 1), [NLINK], 1, 0),
                                           ((1, 2, 3), [NLINK, ONLY], 1, 1),
@@ -253,12 +227,12 @@ def all_forms_say_the_same(place: Comparisons) -> None:
         text = (f'{accepted} accepted' in out,
                 sum(line.startswith('no longer found: ') for line in out))
         place.want('text', text, (True, gone))
-        found = json.loads(place.read('x.json'))
+        found = place.json('x.json')
         place.want('JSON', (found['accepted']['count'], len(found['accepted']['findings']),
                             len(found['accepted']['no_longer_found'])),
                    (accepted, accepted, gone))
         place.want('verdict', found['verdict'] == 'same', status == 0)
-        suite = xml.etree.ElementTree.fromstring(place.read('x.xml'))[0]
+        suite = place.xml('x.xml')[0]
         counts = {one.get('name'): one.get('value') for one in suite.iter('property')}
         place.want('JUnit', (counts['accepted'], counts['no longer found'],
                              suite.get('failures') == '0'), (str(accepted), str(gone), status == 0))
@@ -268,13 +242,12 @@ def all_forms_say_the_same(place: Comparisons) -> None:
                    (True, gone))
         place.want('folded', page.count('accepted: NFSPROC3_GETATTR reply ?/f1'), accepted)
     place.compare('--json', 'x.json', 'a', 'b')
-    place.want('without a file', json.loads(place.read('x.json'))['accepted'], None)
+    place.want('without a file', place.json('x.json')['accepted'], None)
 
 
 def many_entries_cost_little(place: Comparisons) -> None:
     """3,000 entries without wildcards, for 3,000 findings: each is found."""
-    place.put('a', run(*[1] * 3_000))
-    place.put('b', run(*[2] * 3_000))
+    place.put_both(run(*[1] * 3_000), run(*[2] * 3_000))
     accepts(place, *({**NLINK, 'path': f'*/f{number}'} for number in range(0, 3_000, 1_000)))
     place.want('three', compared(place, '--accept', 'known', '--accept-new', 'new')[2],
                ['3 accepted'])
@@ -289,10 +262,9 @@ def replies_are_accepted_by_their_statuses(place: Comparisons) -> None:
         return calls, [*replies[:-1], *(success(last, ok(fattr(REG, 2))) if not status
                                         else success(last, word(status))
                                         for status in statuses)]
-    place.put('a', answered(0))
-    place.put('b', answered(0, 0))
+    place.put_both(answered(0), answered(0, 0))
     place.want('written', compared(place, '--accept-new', 'new')[0], 1)
-    place.want('entry', json.loads(place.read('new'))['accepted'][0], {
+    place.want('entry', place.json('new')['accepted'][0], {
         'procedure': 'NFSPROC3_GETATTR', 'path': '[?]/f1', 'kind': 'replies', 'first': '0',
         'second': '0, 0'})
     place.want('accepted', compared(place, '--accept', 'new')[0], 0)
@@ -300,11 +272,5 @@ def replies_are_accepted_by_their_statuses(place: Comparisons) -> None:
     place.want('another', compared(place, '--accept', 'new')[:2], (1, 'differ'))
 
 
-class TestAccepted(FolderTest, make=Comparisons, tests=[
-        replies_are_accepted_by_their_statuses, a_field_is_accepted_by_procedure_path_and_values,
-        what_is_left_decides, entries_that_fit_nothing_are_named,
-        a_call_of_one_run_alone_is_accepted_by_its_side, other_orders_stay_what_they_are,
-        nothing_else_becomes_green, lost_and_refused_connections_stay,
-        a_new_file_accepts_what_was_found, files_are_written_and_read_with_care,
-        all_forms_say_the_same, what_counts_in_no_order_is_not_written, many_entries_cost_little]):
+class TestAccepted(FolderTest, make=Comparisons):
     """Findings that were accepted."""

@@ -1,7 +1,4 @@
-"""Tests of `tools/calls`.
-
-What needs tshark is skipped, with a word, if tshark is not there.
-"""
+"""Tests of `tools/calls`. Without tshark, what needs it is skipped, with a word."""
 import csv
 import io
 import json
@@ -18,12 +15,12 @@ from examples.messages import (
     entryplus, failed, fattr, fh, fragment, guard, how, hyper, made, nfstime, ok, opaque,
     post_op_attr, sattr, set_to_client_time, success, wcc, word)
 from examples.packets import ACK, FIN, RST, Talk, pcap
-from tests.shared.running import ended
 from tests.shared.traffic import Names, Traffic
 
 from .cases import FolderTest
 from .recordings import interface, section, simple
-from .scripts import TOP, Tools, in_fragments, measured, sums as sum_line, whole, write_faulty
+from .scripts import (
+    FIRST, TOP, Tools, in_fragments, measured, of_tshark, sums as sum_line, whole, write_faulty)
 
 HEADS = ['time', 'ms', 'frame', 'conn', 'call', 'answer']
 ROOT, FOLDER, FILE = b'root', b'folder', b'file'
@@ -34,10 +31,7 @@ NAMES = ('NULL', 'GETATTR', 'SETATTR', 'LOOKUP', 'ACCESS', 'READLINK', 'READ', '
          'READDIRPLUS', 'FSSTAT', 'FSINFO', 'PATHCONF', 'COMMIT')
 (NULL, GETATTR, SETATTR, LOOKUP, ACCESS, READLINK, READ, WRITE, CREATE, MKDIR, SYMLINK, MKNOD,
  REMOVE, RMDIR, RENAME, LINK, READDIR, READDIRPLUS, FSSTAT, FSINFO, PATHCONF, COMMIT) = range(22)
-MANY, MOST_MEMORY = 30_000, 40_000_000
-# With segments in their order, and calls to ports that TLS might have.
-TSHARK = ['tshark', '-n', '-o', 'tcp.reassemble_out_of_order:TRUE', '--disable-protocol',
-          'tls', '-r']
+MANY, MOST_MEMORY = 12_000, 36_000_000
 
 
 Answer = tuple[int, list[list[str]], str]
@@ -45,13 +39,13 @@ Answer = tuple[int, list[list[str]], str]
 
 def calls(tools: Tools, *words: str, stdin: bytes | None = None) -> Answer:
     """The status of a run, the cells of its lines, and what is told on standard error."""
-    status, out, error = tools.tool('calls', '--program', tools.program, *words, stdin=stdin)
+    status, out, error = tools.tool('calls', *words, stdin=stdin)
     return status, [re.split('  +', line.strip()) for line in out.splitlines()], error
 
 
 def objects(tools: Tools, *words: str) -> list[dict[str, Any]]:
     """The exchanges that a run prints as JSON."""
-    out = tools.tool('calls', '--program', tools.program, '--json', *words)[1]
+    out = tools.tool('calls', '--json', *words)[1]
     found: list[dict[str, Any]] = json.loads(out)['calls']
     return found
 
@@ -140,8 +134,7 @@ EXCHANGES = [
 
 
 def every_procedure(tools: Tools) -> None:
-    """Calls and answers in words, with the paths that MNT, CREATE, MKDIR and READDIRPLUS gave, over
-    two connections."""
+    """Calls and answers in words, with paths by MNT, CREATE, MKDIR and READDIRPLUS."""
     talk = Talk(701)
     order = [(side, body) for xid, told in enumerate(EXCHANGES, 1) for side,
              body in ((0, asked(xid, told.procedure, told.arguments)),
@@ -149,7 +142,7 @@ def every_procedure(tools: Tools) -> None:
     tools.write('a.pcap',
                 pcap([*mounted(Talk(service=20048)), *talk.opened(), *talked(talk, order),
                       *talk.closed()]))
-    status, out, error = tools.tool('calls', '--program', tools.program, 'a.pcap')
+    status, out, error = tools.tool('calls', 'a.pcap')
     lines = out.splitlines()
     tools.want('heads and sums', (status, lines[0].split(), lines[-2:], error),
                (0, HEADS, [f'{len(EXCHANGES) + 1} exchanges', sum_line(2)], ''))
@@ -204,8 +197,7 @@ def replies_of_each_kind(tools: Tools) -> None:
 
 
 def without_a_reply(tools: Tools) -> None:
-    """`no reply` is said, and is an error, if the connection's end is recorded and no byte is
-    missing. Otherwise a reply may have been sent."""
+    """`no reply` is said only if the end of a whole connection is recorded."""
     def frames(last: list[bytes], skips: range = range(0), begins: int = 0) -> bytes:
         talk = Talk()
         order = [(0, asked(1, NULL)), (1, success(1)), (0, asked(2, NULL)), (0, asked(3, NULL)),
@@ -245,8 +237,36 @@ def without_a_reply(tools: Tools) -> None:
                 'a.pcap: connection 1: server record 2 byte 24: BadEnum, frame 7\n'))
 
 
+# Options, and the calls that they choose. Latencies of the first connection of NFS: 5, 3 and 1
+# microseconds; of all others 1. MNT is on connection 1.
+CHOSEN: list[tuple[list[str], list[str]]] = [
+    ([], ['1:1', '2:1', '2:2', '2:3', '3:1', '3:2', '3:3']),
+    (['--errors'], ['2:2', '2:3']),
+    (['--slow', '3us'], ['2:1', '2:2']),
+    (['--slow', '0.003ms'], ['2:1', '2:2']),
+    (['--slow', '1s'], []),
+    (['--slow', '5us', '--errors'], []),
+    (['--procedure', 'GETATTR,mnt'], ['1:1', '2:1', '3:1']),
+    (['--procedure', 'NULL'], ['3:2', '3:3']),
+    (['--procedure', 'NFSPROC3_RENAME'], ['2:3']),
+    (['--procedure', 'GETACL'], []),
+    (['--path', '/x'], ['1:1', '2:1']),
+    (['--path', '/*'], ['1:1', '2:1', '2:2', '2:3']),
+    (['--path', '*/bä'], ['2:3']),
+    (['--path', '?'], ['3:1']),
+    (['--path', '[?]'], ['3:1']),
+    (['--path', '/x/[ab]'], ['2:2', '2:3']),
+    (['--user', '0'], ['2:2']),
+    (['--user', '1000'], ['2:1', '2:3', '3:1']),
+    (['--client', '192.0.2.7'], ['1:1', '2:1', '2:2', '2:3']),
+    (['--client', '2001:DB8:0::7'], ['3:1', '3:2', '3:3']),
+    (['--client', '[2001:db8::7]', '--procedure', 'NULL'], ['3:2', '3:3']),
+    (['--client', '192.0.2.1'], []),
+    (['--sort', 'latency'], ['2:1', '2:2', '1:1', '2:3', '3:1', '3:2', '3:3'])]
+
+
 def what_is_chosen(tools: Tools) -> None:
-    """Each option by itself, and several together; the status and the counts are those of all."""
+    """Options choose what is listed; the status and the counts are those of all."""
     root = auth_sys(1, b'client', 0, 0, [])
     first, second = Talk(), Talk(701, hosts=('2001:db8::7', '2001:db8::1'))
     frames = [*mounted(Talk(702, service=20048)), *first.opened(), *second.opened()]
@@ -260,32 +280,7 @@ def what_is_chosen(tools: Tools) -> None:
                               (0, asked(2, NULL, b'', AUTH_NONE)), (1, success(2)),
                               (0, call(3, NFSACL, 3, 0)), (1, success(3))])
     tools.write('a.pcap', pcap(frames))
-    # Latencies of the first: 5, 3 and 1 microseconds; of all others 1. MNT is on connection 1.
-    rows: list[tuple[list[str], list[str]]] = [
-        ([], ['1:1', '2:1', '2:2', '2:3', '3:1', '3:2', '3:3']),
-        (['--errors'], ['2:2', '2:3']),
-        (['--slow', '3us'], ['2:1', '2:2']),
-        (['--slow', '0.003ms'], ['2:1', '2:2']),
-        (['--slow', '1s'], []),
-        (['--slow', '5us', '--errors'], []),
-        (['--procedure', 'GETATTR,mnt'], ['1:1', '2:1', '3:1']),
-        (['--procedure', 'NULL'], ['3:2', '3:3']),
-        (['--procedure', 'NFSPROC3_RENAME'], ['2:3']),
-        (['--procedure', 'GETACL'], []),
-        (['--path', '/x'], ['1:1', '2:1']),
-        (['--path', '/*'], ['1:1', '2:1', '2:2', '2:3']),
-        (['--path', '*/bä'], ['2:3']),
-        (['--path', '?'], ['3:1']),
-        (['--path', '[?]'], ['3:1']),
-        (['--path', '/x/[ab]'], ['2:2', '2:3']),
-        (['--user', '0'], ['2:2']),
-        (['--user', '1000'], ['2:1', '2:3', '3:1']),
-        (['--client', '192.0.2.7'], ['1:1', '2:1', '2:2', '2:3']),
-        (['--client', '2001:DB8:0::7'], ['3:1', '3:2', '3:3']),
-        (['--client', '[2001:db8::7]', '--procedure', 'NULL'], ['3:2', '3:3']),
-        (['--client', '192.0.2.1'], []),
-        (['--sort', 'latency'], ['2:1', '2:2', '1:1', '2:3', '3:1', '3:2', '3:3'])]
-    for words, wanted in rows:
+    for words, wanted in CHOSEN:
         status, lines, error = calls(tools, *words, 'a.pcap')
         number = '7 exchanges' if len(wanted) == 7 else f'{len(wanted)} of 7 exchanges'
         tools.want(' '.join(words), (status, [line[3] for line in lines[1:-2]], lines[-2:], error),
@@ -297,8 +292,7 @@ def what_is_chosen(tools: Tools) -> None:
 
 
 def words_that_are_refused(tools: Tools) -> None:
-    """A name, a time, an address or a number that is none is refused, so that a slip does not list
-    nothing."""
+    """A slip in a name, a time, an address or a number does not list nothing."""
     for words, told in ((['--procedure', 'WRIET'], 'no procedure: WRIET'),
                         (['--procedure', 'WRITE,'], 'no procedure: '),
                         (['--slow', '100'], 'no time: 100 (as in 100ms, 1.5s or 250us)'),
@@ -316,8 +310,7 @@ def words_that_are_refused(tools: Tools) -> None:
 
 
 def times_and_frames(tools: Tools) -> None:
-    """A call is at the frame that completed it, be it in the middle of its bytes; time counts from
-    the first frame, whatever that is."""
+    """A call is at the frame that completed it; time counts from the first frame."""
     talk, answer = Talk(), fragment(success(1, ok(DIRECTORY)))
     arp = bytes(12) + b'\x08\x06' + bytes(28)
     frames, sent = [arp, *talk.opened()], in_fragments(asked(1, GETATTR, fh(ROOT)), 30)
@@ -341,8 +334,7 @@ def times_and_frames(tools: Tools) -> None:
 
 
 def captures_have_no_times(tools: Tools) -> None:
-    """The lines of a capture are those of its recording without times, frames and addresses; and an
-    option that asks for them says so."""
+    """A capture has the lines of its recording without times and addresses."""
     for name in ('ganesha_a', 'concurrent_a'):
         recording = str(TOP / f'examples/{name}.pcap')
         tools.want('from_pcap', tools.tool('from_pcap', recording, 'a.nfs3cap')[0], 0)
@@ -379,19 +371,18 @@ def as_verdicts_judges(tools: Tools) -> None:
         if name in ('lost.pcap', 'bad.pcap', 'four.pcap'):
             status, found, _ = tools.tool('calls', *words, '--json', name)
             tools.want('JSON of ' + name, (status, json.loads(found)['counts']),
-                       (judged, json.loads(tools.read('x.json') or b'{}')['counts']))
+                       (judged, tools.json('x.json')['counts']))
             status, _, error = tools.tool('calls', *words, '--csv', name)
             tools.want('CSV of ' + name, (status, error.splitlines()[-1]),
                        (judged, out.splitlines()[-1]))
 
 
 def forms_for_programs(tools: Tools) -> None:
-    """CSV has the values of JSON, in the same order, of several recordings, and names that are no
-    text in none of them."""
+    """CSV has the values of JSON, in the same order, of several recordings."""
     tools.write('a,\n.pcap', pcap(mounted(Talk(service=20048))))
-    words = ['--errors', 'a,\n.pcap', str(TOP / 'examples/ganesha_a.pcap')]
+    words = ['--errors', 'a,\n.pcap', FIRST]
     for chosen in (words, words[1:]):
-        status, out, error = tools.tool('calls', '--program', tools.program, '--csv', *chosen)
+        status, out, error = tools.tool('calls', '--csv', *chosen)
         tools.want('CSV', (status, error), (0, sum_line(4) + '\n'))
         rows = list(csv.DictReader(io.StringIO(out)))
         tools.want('rows', len(rows), 1 if '--errors' in chosen else 104)
@@ -424,8 +415,7 @@ def long_names(tools: Tools) -> None:
 
 
 def random_traffic(tools: Tools) -> None:
-    """Each call and each reply of random captures is in one exchange, and a reply is an error if
-    its words are one by RFC 5531, section 9, and RFC 1813, sections 2.6 and 5.1."""
+    """Each message is in one exchange; errors are those of RFC 5531 and RFC 1813."""
     made = {f'{seed}.nfs3cap': Traffic(seed, Names.drawn(random.Random(seed)))
             for seed in range(60)}
     for name, traffic in made.items():
@@ -438,13 +428,9 @@ def random_traffic(tools: Tools) -> None:
         wanted = [(connection, record, is_error(sent, body))
                   for connection, (sent, replies) in enumerate(traffic.connections, 1)
                   for record, body in enumerate(replies, 1)]
-        told = sorted((one['connection'], reply['record'], not is_success(reply['answer']))
-                      for one in own for reply in one['replies'])
+        told = sorted((one['connection'], reply['record'], reply['answer'].split()[0]
+                       not in ('OK', 'accepted')) for one in own for reply in one['replies'])
         tools.want(f'replies of {name}', told, wanted)
-
-
-def is_success(answer: str) -> bool:
-    return answer.split()[0] in ('OK', 'accepted')
 
 
 def is_error(sent: Sequence[bytes], reply: bytes) -> bool:
@@ -468,26 +454,16 @@ def servers_with_equal_handles(tools: Tools) -> None:
     tools.want('paths', [one['path'] for one in objects(tools, 'a.pcap')], ['/x', '/x', '?'])
 
 
-def of_tshark(tools: Tools, recording: str, choice: list[str],
-              *fields: str) -> list[list[list[str]]]:
-    """Of each frame the values of these fields."""
-    done = ended([*TSHARK, recording, *choice, '-T', 'fields',
-                  *(word for field in fields for word in ('-e', field))], tools.folder)
-    return [[cell.split(',') for cell in line.split('\t')]
-            for line in done.out.decode().splitlines()]
-
-
 @unittest.skipUnless(shutil.which('tshark'), 'tshark is not there')
 def as_tshark_has_them(tools: Tools) -> None:
-    """Frames of calls and replies, times since the first frame, latencies and statuses of real
-    recordings."""
+    """Frames, times since the first frame, latencies and statuses are those of tshark."""
     for name in ('ganesha_a', 'ganesha_changed', 'concurrent_a', 'concurrent_b'):
         recording = str(TOP / f'examples/{name}.pcap')
         # (of a reply, tshark has the frame of its call in one of the first two fields, by its
         # version)
-        replies = of_tshark(tools, recording, ['-Y', 'rpc.msgtyp == 1'],
-                            'rpc.reqframe', 'rpc.repframe', 'frame.number',
-                            'rpc.time', 'nfs.status3')
+        rows = of_tshark(tools, recording, 'rpc.msgtyp == 1', 'rpc.reqframe', 'rpc.repframe',
+                         'frame.number', 'rpc.time', 'nfs.status3')
+        replies = [[cell.split(',') for cell in row] for row in rows]
         wanted = [(int(frame), int(reply), round(float(time) * 1_000_000)) for first, second,
                   [reply], times, _ in replies for frame,
                   time in zip(first if first != [''] else second, times)]
@@ -495,9 +471,7 @@ def as_tshark_has_them(tools: Tools) -> None:
         tools.want(name,
                    sorted((one['frame'], one['replies'][0]['frame'],
                            round(one['latency_ns'] / 1_000)) for one in found), sorted(wanted))
-        relative = {number: time for [number],
-                    [time] in of_tshark(tools, recording, [], 'frame.number',
-                                        'frame.time_relative')}
+        relative = dict(of_tshark(tools, recording, 'frame', 'frame.number', 'frame.time_relative'))
         lines = calls(tools, recording)[1][1:-2]
         tools.want('times', [line[0] for line in lines],
                    [f'{float(relative[line[2]]):.6f}' for line in lines])
@@ -508,8 +482,7 @@ def as_tshark_has_them(tools: Tools) -> None:
 
 
 def many_calls(tools: Tools) -> None:
-    """30,000 calls take less than 40 MB, and at most 8 times the processor time that
-    tools/verdicts takes, in both orders."""
+    """Memory, and processor time beside that of tools/verdicts, in both orders."""
     talk = Talk()
     frames = talk.opened()
     for xid in range(MANY):
@@ -526,13 +499,9 @@ def many_calls(tools: Tools) -> None:
                                                   'a.pcap')
         spent.append(seconds)
         tools.want(name, (status, memory <= MOST_MEMORY or memory), (0, True))
-    tools.want('what it printed', (lines[-2], len(lines)), ('30,000 exchanges', MANY + 3))
+    tools.want('what it printed', (lines[-2], len(lines)), (f'{MANY:,} exchanges', MANY + 3))
     tools.want('processor time', max(spent) <= 8 * spent[0] or spent, True)
 
 
-class CallsTest(FolderTest, make=Tools, tests=[
-        every_procedure, replies_of_each_kind, without_a_reply, what_is_chosen,
-        words_that_are_refused, times_and_frames, captures_have_no_times, as_verdicts_judges,
-        forms_for_programs, long_names, random_traffic, servers_with_equal_handles,
-        as_tshark_has_them, many_calls]):
+class CallsTest(FolderTest, make=Tools):
     """Each test has a folder of its own."""

@@ -1,14 +1,9 @@
-"""Tests of docs/CI.md, of Containerfile, and of what `tools/compare` writes for such pipelines.
-
-The commands of the page are run in a folder where scripts stand for tcpdump, curl, sudo and
-apt-get. The image is built by podman, and left out with a word if podman or its base is not there.
-"""
+"""Tests of docs/CI.md and Containerfile, with scripts in place of tcpdump, curl and sudo."""
 import fnmatch
 import os
 import re
 import shutil
 import unittest
-import xml.etree.ElementTree
 from collections.abc import Sequence
 from typing import Unpack
 
@@ -17,13 +12,11 @@ from examples.packets import pcap
 from tests.shared.running import RunOptions, begin, ended
 
 from .cases import FolderTest
-from .scripts import TOP, Tools, connection_of, whole
-from .test_compare import conversation_of
+from .comparisons import conversation_of
+from .scripts import CHANGED, EXAMPLES, FIRST, SECOND, TOP, Tools, connection_of, whole
 
 PAGE = (TOP / 'docs/CI.md').read_text()
 CONTAINERFILE = (TOP / 'Containerfile').read_text()
-EXAMPLES = TOP / 'examples'
-FIRST, SECOND, CHANGED = (str(EXAMPLES / f'ganesha_{name}.pcap') for name in ('a', 'b', 'changed'))
 SCRIPTS = {
     'sudo': 'exec "$@"', 'apt-get': ':', 'curl': 'cat "$RELEASE"',
     'sleep': 'exec "$REAL_SLEEP" 0.2',
@@ -47,10 +40,10 @@ def of_gitlab(text: str) -> str:
     return '\n'.join(re.findall(r'^    - (.+)$', text, re.M))
 
 
-def write_scripts(tools: Tools) -> None:
+def write_scripts(tools: Tools, scripts: dict[str, str]) -> None:
     """Writes what stands for programs that are not run here, and the user's tests."""
     os.mkdir(tools.path('bin'))
-    for name, script in {**{f'bin/{name}': script for name, script in SCRIPTS.items()},
+    for name, script in {**{f'bin/{name}': script for name, script in scripts.items()},
                          'run-nfs-tests.sh': '[ -s run.pcap ]'}.items():
         tools.write(name, f'#!/bin/sh\n{script}\n'.encode())
         os.chmod(tools.path(name), 0o755)
@@ -58,13 +51,13 @@ def write_scripts(tools: Tools) -> None:
 
 def released(tools: Tools, folder: str = '.') -> str:
     """Makes a release. Returns the name of its tar file."""
-    tools.want('release', tools.tool('release', '--program', tools.program, folder)[0], 0)
+    tools.want('release', tools.tool('release', folder)[0], 0)
     return next(name for name in os.listdir(tools.path(folder)) if name.endswith('.tar.xz'))
 
 
 def made_ready(tools: Tools, traffic: str) -> dict[str, str]:
     """Makes a folder as a runner has it. Returns the variables."""
-    write_scripts(tools)
+    write_scripts(tools, SCRIPTS)
     release = released(tools)
     os.mkdir(tools.path('usr'))
     path = f'{tools.path("bin")}:{tools.path("usr/bin")}:{os.environ["PATH"]}'
@@ -80,7 +73,7 @@ def run(tools: Tools, script: str, variables: dict[str, str]) -> int:
 
 def cases(tools: Tools, name: str) -> list[tuple[str | None, list[str]]]:
     """The names of the cases of a file, and the tags in them."""
-    root = xml.etree.ElementTree.fromstring((tools.read(name) or b'').decode())
+    root = tools.xml(name)
     return [(case.get('name'), [item.tag for item in case if item.tag != 'system-out'])
             for case in root.iter('testcase')]
 
@@ -138,8 +131,7 @@ def instructions_of_image() -> list[tuple[str, str]]:
 
 
 def what_the_image_gets(tools: Tools) -> None:
-    """The release has the name that is copied, what unpacks it puts the programs below /usr/local,
-    and nothing else is left there."""
+    """The release has the name that is copied, and is unpacked below /usr/local."""
     release = released(tools)
     copied = [rest.split() for word, rest in instructions_of_image() if word == 'COPY']
     tools.want('what is copied', [(fnmatch.fnmatch(release, pattern), place)
@@ -219,7 +211,7 @@ def image_on(tools: Tools, podman: Podman, base: str) -> None:
     words = [podman.own if word == build[3] else word for word in build[2:]]
     tools.want('build', podman.run(*IN_FOLDER, '--build-arg', f'BASE={base}', *words)
                and podman.said, 0)
-    write_scripts(tools)
+    write_scripts(tools, SCRIPTS)
     shutil.copy(CHANGED, tools.path('traffic.pcap'))
     tools.write('gitlab.sh', of_gitlab(blocks_of(PAGE, 'yaml')[1]).encode())
     shutil.copy(SECOND, tools.path('run.pcap'))
@@ -243,14 +235,12 @@ def run_in(tools: Tools, podman: Podman, script: str) -> None:
 # --- compare --junit and --brief ---
 
 def compare(tools: Tools, *words: str) -> tuple[int, list[str], str]:
-    status, out, error = tools.tool('compare', '--program', tools.program, '--junit', 'x.xml',
-                                    *words)
+    status, out, error = tools.tool('compare', '--junit', 'x.xml', *words)
     return status, out.splitlines(), error
 
 
 def lines_of_findings(tools: Tools) -> None:
-    """--brief prints a line for each finding that is printed else, with the same heading and all
-    values."""
+    """--brief prints a line for each finding, with its heading and all values."""
     concurrent = [str(EXAMPLES / f'concurrent_{name}.pcap') for name in ('a', 'changed')]
     for words in ([FIRST, CHANGED], ['--order', 'any', *concurrent], ['--all', FIRST, CHANGED]):
         status, lines, _ = compare(tools, *words)
@@ -272,8 +262,7 @@ def lines_of_findings(tools: Tools) -> None:
 
 
 def cases_of_runs(tools: Tools) -> None:
-    """One case that passed if the status is 0, else failures, or an error; the message of the first
-    is the verdict."""
+    """One case that passed if the status is 0, else failures, or an error."""
     frames = whole()
     tools.write('a.pcap', pcap(frames))
     tools.write('part.pcap', pcap(frames[:4] + frames[5:]))
@@ -295,7 +284,7 @@ def cases_of_runs(tools: Tools) -> None:
              'x.xml.old: it is neither pcap nor pcapng')):
         tools.write('x.xml.old', b'text')
         found, _, error = compare(tools, *words)
-        root = xml.etree.ElementTree.fromstring((tools.read('x.xml') or b'').decode())
+        root = tools.xml('x.xml')
         tools.want(' '.join(words), (found, [tags for _, tags in cases(tools, 'x.xml')],
                                      'Traceback' in error), (status, tags, False))
         suite, first = root[0], next((item for case in root.iter('testcase') for item in case
@@ -312,8 +301,7 @@ def cases_of_runs(tools: Tools) -> None:
 
 
 def run_from(port: int, more: int, *modes: int) -> bytes:
-    """A recording of a client from a port: more NULLs than else, then LOOKUP of a file and its
-    GETATTR, once for each mode."""
+    """A recording of NULLs, LOOKUP of a file and a GETATTR for each mode, from a port."""
     attributes = [ok(fattr(1, 5, mode=mode)) for mode in modes]
     asked = [*[(0, b'', b'')] * more,
              (3, dirop(b'top', b'x'), ok(fh(b'x'), post_op_attr(), post_op_attr())),
@@ -322,8 +310,7 @@ def run_from(port: int, more: int, *modes: int) -> bytes:
 
 
 def names_that_last(tools: Tools) -> None:
-    """The names of the cases are the same if the same differs in another run, from another port and
-    at other places; those of one name are numbered."""
+    """Cases have the same names in another run, from another port, at other places."""
     found = []
     for port, more in ((700, 0), (944, 3)):
         tools.write('a.pcap', run_from(port, more, 0o644, 0o644))
@@ -333,12 +320,10 @@ def names_that_last(tools: Tools) -> None:
     tools.want('names', found, [['the runs are the same', 'GETATTR reply ?/x obj.mode',
                                  'GETATTR reply ?/x obj.mode (2)',
                                  'only in the second run: GETATTR ?/x']] * 2)
-    root = xml.etree.ElementTree.fromstring((tools.read('x.xml') or b'').decode())
+    root = tools.xml('x.xml')
     texts = [item.text or '' for item in root.iter('failure')][1:]
     tools.want('positions', ['connection 1' in text for text in texts], [True] * 3)
 
 
-class CiTest(FolderTest, make=Tools, tests=[
-        a_run_that_is_the_same, a_run_that_differs, what_the_image_gets, the_image,
-        lines_of_findings, cases_of_runs, names_that_last]):
+class CiTest(FolderTest, make=Tools):
     """Each test has a folder of its own."""

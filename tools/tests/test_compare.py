@@ -1,68 +1,28 @@
-"""Tests of tools/compare: on the example recordings, and on made runs of which it is known how they
-differ.
-"""
+"""Tests of tools/compare: on examples, and on made runs that differ in a known way."""
 import hashlib
-import json
 import random
 import re
 import time
 from array import array
-from collections.abc import Iterable
 
 from examples import messages
 from examples.messages import (
-    MOUNT, NFS, NFSACL, auth_sys, call, dirop, fattr, fh, hyper, ok, post_op_attr, success, wcc,
-    word)
+    NFS, NFSACL, auth_sys, call, dirop, fattr, fh, hyper, ok, post_op_attr, success, wcc, word)
 from examples.packets import Talk, pcap
-from tests.shared.running import Runs
 from tests.shared.traffic import Names, Traffic
 
 from ..nfs3tools.comparison.exchanges.matching import aligned, blocks_of, increasing
-from ..nfs3tools.comparison.values.classes import CLASSES, Way, default_mask, mask_of, told
+from ..nfs3tools.comparison.values.classes import CLASSES, default_mask, told
 from .cases import FolderTest
-from .scripts import TOP, measured
+from .comparisons import Comparisons, Conversation, Exchange, conversation_of, is_unchecked
+from .scripts import CHANGED, FIRST, SECOND, measured
 
-COUNTS = re.compile(r'(both runs|first run|second run): [\d,]+ judged')
-Conversation = tuple[list[bytes], list[bytes]]
-Exchange = tuple[int, bytes, bytes]  # a procedure of NFS, its arguments and its results
 # What finds the names of items in the lines that tell of differences, without whose they are.
 NAMES = r'^  [-+] (?:[^=]*\.)?(\w+)='
 
 
-def conversation_of(steps: Iterable[Exchange], xid: int = 1) -> Conversation:
-    """Calls and their replies, with xids that count."""
-    numbered = [*enumerate(steps, xid)]
-    return ([call(at, NFS, 3, procedure, asked) for at, (procedure, asked, _) in numbered],
-            [success(at, results) for at, (_, _, results) in numbered])
-
-
-class Comparisons(Runs):
-    """A folder, and runs of tools/compare there."""
-
-    def compare(self, *words: str) -> tuple[int, list[str], str]:
-        """The status, the lines without those that count connections, and standard error."""
-        kept, self.program = self.program, str(TOP / 'tools/compare')
-        try:
-            status, out, error = self.run('--program', kept, *words)
-        finally:
-            self.program = kept
-        return status, [line for line in out.splitlines() if not COUNTS.match(line)], error
-
-    def put(self, name: str, *connections: Conversation) -> None:
-        self.write(name, messages.capture(*connections))
-
-    def wants(self, what: str, status: int, lines: list[str], *words: str) -> None:
-        """Two captures, `a` and `b`, are compared with this status, and these lines are printed
-        after the first two."""
-        found, out, error = self.compare(*words, 'a', 'b')
-        self.want(what, (found, out[2:], error), (status, lines, ''))
-
-
-# --- Matching ---
-
 def sequences_brought_together(place: Comparisons) -> None:
-    """Pairs are equal, increase on both sides, and are all that a longest common part has if every
-    element is there once."""
+    """Pairs are equal, increase on both sides, and are as many as can be."""
     chance = random.Random(5)
     for _ in range(300):
         first = [chance.randrange(6) for _ in range(chance.randrange(30))]
@@ -106,34 +66,33 @@ def sequences_in_blocks(place: Comparisons) -> None:
 
 
 def retransmissions_are_linear(place: Comparisons) -> None:
-    """Two runs of a call that was sent 40,000 times and answered as often, one with another status,
-    and with calls of its own. It is one exchange, and its other answer is found."""
+    """A call that was sent and answered 10,000 times is one exchange."""
     def run(statuses: list[int], more: int) -> Conversation:
         calls = [call(7, NFS, 3, 1, fh(b'a'))] * len(statuses) + [
             call(8 + at, NFS, 3, 4, fh(b'b') + word(1)) for at in range(more)]
         return calls, [success(7, messages.failed(status)) for status in statuses]
-    statuses = [5] * 40_000
-    place.put('a', run(statuses, 0))
-    place.put('b', run([*statuses[:-1], 13], 5_000))
+    statuses = [5] * 10_000
+    place.put_both(run(statuses, 0), run([*statuses[:-1], 13], 2_000))
     begin = time.monotonic()
     status, out, error = place.compare('--order', 'strict', 'a', 'b')
-    place.want('seconds', time.monotonic() - begin < 60, True)
+    place.want('seconds', time.monotonic() - begin < 20, True)
     place.want('verdict', (status, out[-1], error),
-               (1, '1 of 5,001 calls matched; 5,000 only in the second run', ''))
+               (1, '1 of 2,001 calls matched; 2,000 only in the second run', ''))
     place.want('found', '  1 reply in the first run, 2 in the second' in out, True)
 
 
-# --- Masks ---
-
 def words_of_masks(place: Comparisons) -> None:
-    place.want('default', mask_of('+times'), {**default_mask(), 'times': Way.ZERO})
-    place.want('none', mask_of('none'), {})
-    place.want('some', mask_of('times,ids'), {'times': Way.ZERO, 'ids': Way.NUMBER})
-    place.want('one less', 'times' in mask_of('-times'), False)
-    place.want('one more', mask_of('+owners')['owners'], Way.NUMBER)
-    place.want('another way', mask_of('ids=zero'), {'ids': Way.ZERO})
-    place.want('told', mask_of(told(default_mask())), default_mask())
-    place.want('raw', (mask_of('+raw')['raw'], 'raw' in default_mask()), (Way.ZERO, False))
+    """The first line tells what is masked; words that are none are refused."""
+    def masked(*words: str) -> set[str]:
+        return {*place.compare(*words, 'a', 'b')[1][0].removeprefix('masked: ').split(',')}
+    place.put_both(*[([call(1, NFS, 3, 0)], [success(1)])] * 2)
+    usual = masked()
+    for words, wanted in (('none', {'none'}), ('times,ids', {'times=zero', 'ids=number'}),
+                        ('ids=zero', {'ids=zero'}), ('+times', usual),
+                        ('-times', usual - {'times=zero'}), ('+owners', usual | {'owners=number'}),
+                        ('+raw', usual | {'raw=zero'})):
+        place.want(words, masked(f'--mask={words}'), wanted)
+    place.want('by default', {'times=zero', 'raw=zero'} & usual, {'times=zero'})
     for bad in ('nothing', 'times=half', '+raw=number'):
         status, out, error = place.compare('--mask', bad, 'a', 'b')
         place.want(bad, (status, out, 'error' in error), (2, [], True))
@@ -145,8 +104,7 @@ FILES = (b'/', b'x', b'y')
 
 
 class Made:
-    """One run of a fixed script. What each run has its own of comes out of a seed, and the same in
-    every run out of the script."""
+    """One run of a fixed script. What is its own comes out of a seed."""
 
     def __init__(self, seed: int) -> None:
         chance = random.Random(seed)
@@ -206,11 +164,9 @@ class Made:
 
 
 def ordinary_runs(place: Comparisons) -> None:
-    """Runs that share nothing but what they do are the same, and each class of values is the reason
-    for that."""
+    """Runs that only do the same are the same, by each class of values."""
     for seed in range(5):
-        place.put('a', Made(seed).conversation())
-        place.put('b', Made(seed + 100).conversation())
+        place.put_both(Made(seed).conversation(), Made(seed + 100).conversation())
         status, out, error = place.compare('a', 'b')
         place.want('seed %d' % seed, (status, out[0], out[2:], error),
                    (0, 'masked: ' + told(default_mask()), [], ''))
@@ -247,8 +203,7 @@ def statuses_that_differ(place: Comparisons) -> None:
     first, second = Made(1), Made(2)
     script = second.script()
     script[2] = (script[2][0], script[2][1], messages.failed(13, post_op_attr()))
-    place.put('a', first.conversation())
-    place.put('b', second.conversation(script))
+    place.put_both(first.conversation(), second.conversation(script))
     lines = place.compare('a', 'b')[1][2:]
     place.want('status', lines[1:3], ['  - status=0 (NFS3_OK)', '  + status=13 (NFS3ERR_ACCES)'])
     place.want('one finding', len(lines), 5)
@@ -260,8 +215,7 @@ def one_call_more(place: Comparisons) -> None:
     first, second = Made(3), Made(4)
     script = second.script()
     script.insert(2, script[0])
-    place.put('a', first.conversation())
-    place.put('b', second.conversation(script))
+    place.put_both(first.conversation(), second.conversation(script))
     place.wants('one more', 1,
                 ['only in the second run: NFSPROC3_GETATTR: connection 1 client record 3',
                  '  + fh=' + second.handles[0].hex(),
@@ -269,24 +223,17 @@ def one_call_more(place: Comparisons) -> None:
 
 
 def other_orders(place: Comparisons) -> None:
-    """A reordered call, and replies in another order."""
-    first, second = Made(5), Made(6)
-    script = second.script()
-    place.put('a', first.conversation())
-    place.put('b', second.conversation([*script[:2], *script[3:6], script[2], *script[6:]]))
+    """A call that is reordered."""
+    script = Made(6).script()
+    turned = [*script[:2], *script[3:6], script[2], *script[6:]]
+    place.put_both(Made(5).conversation(), Made(6).conversation(turned))
     lines = place.compare('--order', 'strict', 'a', 'b')[1][2:]
     place.want('turn', [line for line in lines if 'reordered' in line], [
         '  the call is reordered', '10 of 10 calls matched; 1 reordered; 1 reply reordered'])
-    calls, replies = second.conversation()
-    place.put('b', (calls, [replies[1], replies[0], *replies[2:]]))
-    lines = place.compare('--order', 'strict', 'a', 'b')[1][2:]
-    place.want('order', lines[:2],
-               ['connection 1', '  1 of 10 replies of the connection come in another order'])
 
 
 def bound_values(place: Comparisons) -> None:
-    """Two files where the other run has one are told, though each run names its files as it
-    likes."""
+    """Two files where the other run has one are told, whatever their handles."""
     first, second = Made(7), Made(8)
     place.put('a', first.conversation())
     second.handles[2] = second.handles[1]
@@ -301,8 +248,7 @@ def zero_cookies(place: Comparisons) -> None:
     first, second = Made(11), Made(12)
     script = second.script()
     script[3] = (17, script[3][1].replace(hyper(0) + bytes(8), hyper(5) + bytes(8)), script[3][2])
-    place.put('a', first.conversation())
-    place.put('b', second.conversation(script))
+    place.put_both(first.conversation(), second.conversation(script))
     status, lines, _ = place.compare('a', 'b')
     place.want('cookie', (status, '  - cookie=0' in lines, '  + cookie=5' in lines),
                (1, True, True))
@@ -312,19 +258,16 @@ def equal_numbers_of_two_classes(place: Comparisons) -> None:
     """A file id that is an fsid, too, in one run alone."""
     first, second = Made(13), Made(14)
     first.fsid = first.ids[0]
-    place.put('a', first.conversation())
-    place.put('b', second.conversation())
+    place.put_both(first.conversation(), second.conversation())
     place.wants('two classes', 0, [])
 
 
 def users_and_groups(place: Comparisons) -> None:
-    """Lists of groups are renamed with users and groups if owners are asked for, and become zero
-    with them."""
+    """Owners, if asked for, rename lists of groups as well, or make them zero."""
     def run(*owners: tuple[int, int, list[int]]) -> Conversation:
         return [call(xid, NFS, 3, 0, b'', credential=auth_sys(1, b'box', *each))
                 for xid, each in enumerate(owners)], []
-    place.put('a', run((1000, 100, [100, 27]), (27, 100, [1000])))
-    place.put('b', run((1, 2, [2, 3]), (3, 2, [1])))
+    place.put_both(run((1000, 100, [100, 27]), (27, 100, [1000])), run((1, 2, [2, 3]), (3, 2, [1])))
     place.wants('renamed', 0, [], '--mask', '+owners')
     place.wants('zero', 0, [], '--mask', '+owners=zero')
     place.want('compared', place.compare('a', 'b')[0], 1)
@@ -343,8 +286,8 @@ def directories(place: Comparisons) -> None:
         results = ok(messages.entries(made.attributes(0), made.cookieverf, entries, is_end=True))
         return [(17, fh(made.handles[0]) + hyper(0) + bytes(8) + word(512) + word(4096), results)]
     first, second = Made(15), Made(16)
-    place.put('a', first.conversation(listing(first, 1, 2)))
-    place.put('b', second.conversation(listing(second, 2, 1)))
+    place.put_both(first.conversation(listing(first, 1, 2)),
+                   second.conversation(listing(second, 2, 1)))
     lines = place.compare('a', 'b')[1][2:]
     place.want('order', lines[1:3],
                ['  - entry="x"', '  + entry="y"    # the entries come in another order'])
@@ -358,8 +301,7 @@ def directories(place: Comparisons) -> None:
 
 
 def entries_of_one_name(place: Comparisons) -> None:
-    """A name that a directory has twice is another directory than one that has it once, and each of
-    its entries counts."""
+    """Each entry of a name that a directory has twice counts."""
     def run(*entries: tuple[int, bytes]) -> Conversation:
         listed = [messages.entry(fileid, name, 0) for fileid, name in entries]
         return ([call(1, NFS, 3, 16, fh(b'folder') + hyper(0) + bytes(8) + word(512))],
@@ -369,8 +311,7 @@ def entries_of_one_name(place: Comparisons) -> None:
         place.wants(what, 1, [heading, *lines,
                               f'fields that differ, and how often: {name} of NFSPROC3_READDIR 1',
                               f'1 of 1 call matched; {name} in 1 reply'], '--mask', 'none')
-    place.put('a', run((1, b'a'), (2, b'b')))
-    place.put('b', run((1, b'a'), (2, b'b'), (2, b'b')))
+    place.put_both(run((1, b'a'), (2, b'b')), run((1, b'a'), (2, b'b'), (2, b'b')))
     wants('once more', 'entry.name', '  + entry.name="b"')
     place.put('a', run((1, b'a'), (2, b'b'), (2, b'b'), (2, b'b')))
     wants('once less', 'entry.name', '  - entry.name="b"')
@@ -388,24 +329,21 @@ def files_by_their_paths(place: Comparisons) -> None:
                  for file in (1, 2)]
         return found + [(1, fh(made.handles[file]), ok(made.attributes(file))) for file in files]
     first, second = Made(19), Made(20)
-    place.put('a', first.conversation(asked(first, 1)))
-    place.put('b', second.conversation(asked(second, 2, 1)))
+    place.put_both(first.conversation(asked(first, 1)), second.conversation(asked(second, 2, 1)))
     lines = place.compare('--order', 'strict', 'a', 'b')[1][2:]
     place.want('the other file', lines[:1],
                ['only in the second run: NFSPROC3_GETATTR ?/y: connection 1 client record 3'])
 
 
 def raw_messages(place: Comparisons) -> None:
-    """Handles inside raw messages are those of the other run, also of a length that is no multiple
-    of four."""
+    """Handles in raw messages are those of the other run, of any length."""
     def with_acl(made: Made, rest: bytes) -> Conversation:
         calls, replies = made.conversation()
         acl = call(made.xids[15], NFSACL, 3, 1, fh(made.handles[1]) + rest)
         return [*calls, acl], [*replies, success(made.xids[15], word(0))]
     first, second = Made(9), Made(10)
     second.handles[1] = second.handles[1][:5]
-    place.put('a', with_acl(first, word(1)))
-    place.put('b', with_acl(second, word(2)))
+    place.put_both(with_acl(first, word(1)), with_acl(second, word(2)))
     lines = place.compare('a', 'b')[1][2:]
     place.want('raw', [line[:9] for line in lines[1:3]], ['  - rest=', '  + rest='])
     place.put('b', with_acl(second, word(1)))
@@ -427,8 +365,7 @@ def connections_of_one_run(place: Comparisons) -> None:
 
 
 def random_traffic(place: Comparisons) -> None:
-    """The same random traffic under other names is the same, and with one handle or verifier for
-    two it mostly is not."""
+    """Random traffic is the same under other names."""
     for seed in range(25):
         chance = random.Random(seed)
         names = Names.drawn(chance)
@@ -453,21 +390,13 @@ def random_traffic(place: Comparisons) -> None:
                        place.compare('--allow-not-checked', 'a', 'b')[0], 0)
 
 
-def is_unchecked(body: bytes) -> bool:
-    """Whether a call is of NFS or MOUNT, and none of the procedures of version 3, by its numbers
-    (RFC 5531, section 9)."""
-    program, version, procedure = (int.from_bytes(body[at:at + 4], 'big') for at in (12, 16, 20))
-    return program in (NFS, MOUNT) and (version != 3 or procedure > (21 if program == NFS else 5))
-
-
 # --- Cost ---
 
-MANY, FILES_OF_MANY = 100_000, 5_000
+MANY, FILES_OF_MANY = 30_000, 5_000
 
 
 def many_calls(first_handle: int, *changed: int) -> Conversation:
-    """LOOKUP of each file, and then GETATTR and WRITE by turns. Some replies may have another
-    mode."""
+    """LOOKUP of each file, GETATTR and WRITE by turns; some replies have another mode."""
     steps = list[Exchange]()
     for number in range(MANY):
         file = number % FILES_OF_MANY
@@ -486,20 +415,18 @@ def many_calls(first_handle: int, *changed: int) -> Conversation:
 
 
 def one_bit_of_many_calls(place: Comparisons) -> None:
-    """What is equal is not taken apart: a changed bit costs little time and memory, and is told
-    with its path. The limits are four times what is promised."""
-    place.put('a', many_calls(1))
-    place.put('b', many_calls(7_000, 70_001))
+    """A changed bit costs little time and memory, and is told with its path."""
+    place.put_both(many_calls(1), many_calls(7_000, 20_001))
     status, lines, seconds, memory = measured(place, 'compare', '--program', place.program, 'a',
                                               'b')
-    where = 'connection 1 server record 70002'
+    where = 'connection 1 server record 20002'
     place.want('finding', (status, lines[3:]), (1, [
         f'NFSPROC3_GETATTR reply ?/name1: {where} | {where}', '  - obj.mode=0644 (420)',
         '  + obj.mode=0645 (421)',
         'fields that differ, and how often: obj.mode of NFSPROC3_GETATTR 1',
-        '100,000 of 100,000 calls matched; obj.mode in 1 reply']))
-    place.want(f'{seconds} seconds', seconds < 20, True)
-    place.want(f'{memory} bytes', memory < 800e6, True)
+        '30,000 of 30,000 calls matched; obj.mode in 1 reply']))
+    place.want(f'{seconds} seconds', seconds < 8, True)
+    place.want(f'{memory} bytes', memory < 250e6, True)
 
 
 MIB = 1 << 20
@@ -515,11 +442,8 @@ def writes_of_other_data(seed: int, number: int) -> Conversation:
 
 
 def data_that_differ(place: Comparisons) -> None:
-    """Memory does not grow with the data that differ: of 40 MiB in each run, with a page and JSON,
-    it stays below what plain Python and a few MiB take. The bytes round the first difference are
-    told, and JSON has the digests."""
-    place.put('a', writes_of_other_data(1, 40))
-    place.put('b', writes_of_other_data(2, 40))
+    """Memory does not grow with the data that differ; JSON has their digests."""
+    place.put_both(writes_of_other_data(1, 40), writes_of_other_data(2, 40))
     status, out, _, memory = measured(place, 'compare', '--program', place.program, '--json',
                                       'out.json', '--html', 'out.html', 'a', 'b')
     place.want('verdict', (status, out[-1]), (1, '40 of 40 calls matched; data in 40 calls'))
@@ -530,7 +454,7 @@ def data_that_differ(place: Comparisons) -> None:
         f'  - data={first[:16].hex()}..',
         f'  + data={second[:16].hex()}..    # {differing:,} of {MIB:,} bytes differ, the first at '
         'offset 0 of the file (byte 0 of the data)'])
-    found = json.loads(place.read('out.json') or b'')['findings'][0]['differences'][0]
+    found = place.json('out.json')['findings'][0]['differences'][0]
     place.want('digests', found['apart']['sha256'],
                [hashlib.sha256(one).hexdigest() for one in (first, second)])
     place.want('sizes', (len(found['first']) < 200, len(place.read('out.html') or b'') < 1e6),
@@ -538,14 +462,12 @@ def data_that_differ(place: Comparisons) -> None:
 
 
 def folders_far_down(place: Comparisons) -> None:
-    """Folders each in the one before, all of whose replies differ: memory grows with their number,
-    not with its square. Long paths are cut in the middle."""
+    """Folders each in the one before: memory is linear, and long paths are cut."""
     def chain(mode: int) -> Conversation:
         return conversation_of((3, dirop(b'%08d' % at, b'%04d' % at + b'd' * 240), ok(
             fh(b'%08d' % (at + 1)), post_op_attr(fattr(2, at, mode=mode)), post_op_attr()))
                                for at in range(2_000))
-    place.put('a', chain(0o755))
-    place.put('b', chain(0o700))
+    place.put_both(chain(0o755), chain(0o700))
     status, out, _, memory = measured(place, 'compare', '--program', place.program, '--all', 'a',
                                       'b')
     headings = [line for line in out if line.startswith('NFSPROC3')]
@@ -561,14 +483,8 @@ def folders_far_down(place: Comparisons) -> None:
 
 # --- Recordings ---
 
-EXAMPLES = TOP / 'examples'
-FIRST, SECOND, CHANGED = (str(EXAMPLES / ('ganesha_%s.pcap' % name))
-                          for name in ('a', 'b', 'changed'))
-
-
 def example_recordings(place: Comparisons) -> None:
-    """Two ordinary runs against one server are the same; with another limit of its transfers just
-    these fields differ."""
+    """Two ordinary runs are the same; with another limit its fields differ."""
     status, out, error = place.compare(FIRST, SECOND)
     place.want('ordinary', (status, out[1:], error), (0, ['same: 103 calls in 3 connections'], ''))
     place.want('without a mask', place.compare('--mask', 'none', FIRST, SECOND)[0], 1)
@@ -579,37 +495,33 @@ def example_recordings(place: Comparisons) -> None:
                re.findall(r'\(frame \d+\)', out[2])[:1])
 
 
+def in_calls(number: int, *, lost: int = -1, last: bool = True) -> bytes:
+    """Calls of 40 bytes and replies of 24, each a segment with its mark, perhaps without one."""
+    talk = Talk()
+    opened, frames = talk.opened(), list[bytes]()
+    for at in range(number):
+        frames += [talk.sent(0, messages.fragment(call(at, NFS, 3, 0))),
+                   talk.sent(1, messages.fragment(success(at)))]
+    kept = [frame for at, frame in enumerate(frames)
+            if at != 2 * lost and (last or at != 2 * number - 1)]
+    return pcap([*opened, *kept, *talk.closed()])
+
+
 def same_in_part(place: Comparisons) -> None:
-    """Recordings that lack bytes are the same in part, which has the status 1, and 0 with
-    --allow-losses. What is missing is told also if they differ."""
-    def in_calls(number: int, *, lost: int = -1, last: bool = True) -> bytes:
-        """A recording of calls of 40 bytes and their replies of 24, each a segment with its mark,
-        without one of the calls, and perhaps without the last reply."""
-        talk = Talk()
-        opened, frames = talk.opened(), list[bytes]()
-        for at in range(number):
-            frames += [talk.sent(0, messages.fragment(call(at, NFS, 3, 0))),
-                       talk.sent(1, messages.fragment(success(at)))]
-        kept = [frame for at, frame in enumerate(frames) if at != 2 * lost
-                and (last or at != 2 * number - 1)]
-        return pcap([*opened, *kept, *talk.closed()])
-    whole, lossy, without_last = in_calls(1_034), in_calls(1_034, lost=1_033), in_calls(
-        1_034, last=False)
-    missing = '44 bytes missing from the %s run'
+    """Recordings that lack bytes are the same in part, and 0 with --allow-losses."""
+    whole, lossy, fewer = in_calls(1_034), in_calls(1_034, lost=1_033), in_calls(1_033)
+    without_last, missing = in_calls(1_034, last=False), '%d bytes missing from the %s run'
+    of_calls, less = 'calls in 1 connection', (missing % (44, 'first'), missing % (44, 'second'))
     cases: list[tuple[bytes, bytes, list[str], int, str]] = [
-        (whole, whole, [], 0, 'same: 1,034 calls in 1 connection'),
-        (whole, whole, ['--allow-losses'], 0, 'same: 1,034 calls in 1 connection'),
-        (lossy, lossy, [], 1,
-         f'same in part: 1,033 calls in 1 connection, {missing % "first"}, {missing % "second"}'),
+        (whole, whole, [], 0, f'same: 1,034 {of_calls}'),
+        (whole, whole, ['--allow-losses'], 0, f'same: 1,034 {of_calls}'),
+        (lossy, lossy, [], 1, f'same in part: 1,033 {of_calls}, {less[0]}, {less[1]}'),
         (lossy, lossy, ['--allow-losses'], 0,
-         f'same in part: 1,033 calls in 1 connection, {missing % "first"}, {missing % "second"}'),
-        (lossy, in_calls(1_033), [], 1,
-         f'same in part: 1,033 calls in 1 connection, {missing % "first"}'),
-        (in_calls(1_033), lossy, ['--allow-losses'], 0,
-         f'same in part: 1,033 calls in 1 connection, {missing % "second"}'),
-        (without_last, without_last, [], 1,
-         'same in part: 1,034 calls in 1 connection, 28 bytes missing from the first run, '
-                                                '28 bytes missing from the second run')]
+         f'same in part: 1,033 {of_calls}, {less[0]}, {less[1]}'),
+        (lossy, fewer, [], 1, f'same in part: 1,033 {of_calls}, {less[0]}'),
+        (fewer, lossy, ['--allow-losses'], 0, f'same in part: 1,033 {of_calls}, {less[1]}'),
+        (without_last, without_last, [], 1, f'same in part: 1,034 {of_calls}, '
+         f'{missing % (28, "first")}, {missing % (28, "second")}')]
     for first, second, words, status, line in cases:
         place.write('a', first)
         place.write('b', second)
@@ -619,30 +531,9 @@ def same_in_part(place: Comparisons) -> None:
     place.write('b', lossy)
     for options in ('--mask=none', '--allow-losses'):
         status, out, _ = place.compare(options, '--order', 'strict', 'a', 'b')
-        place.want('they differ', (status, out[1:3]),
-                   (1, ['differ at connection 1 client record 1034',
-                        'compared in part: ' + missing % 'second']))
+        place.want('they differ', (status, out[1:3]), (
+            1, ['differ at connection 1 client record 1034', f'compared in part: {less[1]}']))
 
 
-def refused_runs(place: Comparisons) -> None:
-    place.write('a', (EXAMPLES / 'bad_status.nfs3cap').read_bytes())
-    place.write('b', (EXAMPLES / 'null.nfs3cap').read_bytes())
-    for words in (('a', 'b'), ('b', 'a')):
-        place.want('refused', place.compare(*words),
-                   (2, [], 'compare: a: connection 1 server record 1 byte 24: BadEnum\n'))
-    status, out, error = place.compare('absent', 'b')
-    place.want('absent', (status, out, 'absent' in error, 'Traceback' in error),
-               (3, [], True, False))
-    place.write('text', b'no recording')
-    status, out, error = place.compare('text', 'b')
-    place.want('no recording', (status, out, 'Traceback' in error), (2, [], False))
-
-
-class CompareTest(FolderTest, make=Comparisons, tests=[
-        sequences_brought_together, sequences_in_blocks, retransmissions_are_linear, words_of_masks,
-        ordinary_runs, changed_fields, statuses_that_differ, one_call_more, other_orders,
-        bound_values, zero_cookies, equal_numbers_of_two_classes, users_and_groups, directories,
-        entries_of_one_name, files_by_their_paths, raw_messages,
-        connections_of_one_run, random_traffic, one_bit_of_many_calls, data_that_differ,
-        folders_far_down, example_recordings, same_in_part, refused_runs]):
+class CompareTest(FolderTest, make=Comparisons):
     """Each test has a folder of its own."""

@@ -1,12 +1,6 @@
-"""Tests of how much of two runs tools/compare says that it compared: the four counts in each form
-of its output, and the status.
-
-The runs are recordings of connections of known kinds, so the counts are known by hand.
-"""
+"""Tests of how much of two runs tools/compare says that it compared, in each form."""
 import html
-import json
 import re
-import xml.etree.ElementTree
 from collections import Counter
 from collections.abc import Callable, Sequence
 from typing import NamedTuple
@@ -15,16 +9,15 @@ from examples.messages import NFS, NFSACL, call, dirop, fattr, fh, ok, post_op_a
 from examples.packets import Talk, pcap
 
 from .cases import FolderTest
+from .comparisons import Conversation, conversation_of
 from .scripts import TOP, Tools, connection_of, stream
-from .test_compare import Conversation, conversation_of
 
 GETATTR, LOOKUP = 1, 3
 WORDS = ('ok', 'refused', 'in part', 'left out', 'not checked', 'errors')
 
 
 class Connection(NamedTuple):
-    """The frames of a connection, under which words it counts, and what it makes of the status: the
-    option that allows it, if there is one."""
+    """A connection, under which words it counts, and the option that allows it."""
     frames: list[bytes]
     counts: dict[str, int]
     allowed_by: str | None = None
@@ -102,19 +95,19 @@ class Covers(Tools):
         return counts
 
     def compare(self, *words: str) -> tuple[int, list[str], str]:
-        status, out, error = self.tool('compare', '--program', self.program, *words)
+        status, out, error = self.tool('compare', *words)
         return status, out.splitlines(), error
 
-    def json(self) -> list[Counter[str]]:
+    def of_json(self) -> list[Counter[str]]:
         """The counts of both runs in the JSON that was written."""
-        found = json.loads(self.read('out.json') or b'')
+        found = self.json('out.json')
         return [counts_of({**{key: value for key, value in run['counts'].items() if key != 'raw'},
                            **{f'raw {what}': number
                               for what, number in run['counts']['raw'].items()}})
                 for run in found['runs']]
 
     def junit(self) -> list[Counter[str]]:
-        root = xml.etree.ElementTree.fromstring((self.read('out.xml') or b'').decode())
+        root = self.xml('out.xml')
         return [counts_of(
             {one.attrib['name'].removeprefix(f'{run} run: ').replace('raw: ', 'raw '): int(
                 one.attrib['value'])
@@ -168,8 +161,7 @@ RUNS: list[tuple[Sequence[str], Sequence[str]]] = [
 
 
 def the_counts_in_each_form(place: Covers) -> None:
-    """Each of the counts stands in the text, in JSON, in JUnit XML and on the page, also if the
-    runs differ, and with --marks."""
+    """The counts stand in text, JSON, JUnit and on the page, also with --marks."""
     for first, second in RUNS:
         wanted = [place.put('a', first), place.put('b', second)]
         for words in ([], ['--mask', 'none', '--order', 'any'], ['--marks', 'x']):
@@ -180,16 +172,14 @@ def the_counts_in_each_form(place: Covers) -> None:
             place.want(f'{what}: status', (status in (0, 1, 2), 'Traceback' in error),
                        (True, False))
             place.want(f'{what}: text', in_text(out), wanted)
-            place.want(f'{what}: JSON', place.json(), wanted)
+            place.want(f'{what}: JSON', place.of_json(), wanted)
             place.want(f'{what}: JUnit', place.junit(), wanted)
             if page:
                 place.want(f'{what}: page', place.page(), wanted)
 
 
 def words_and_statuses(place: Covers) -> None:
-    """Equal runs are the same only if all of both was judged, and otherwise the same in part. Each
-    count decides the status by its own option; a connection that is refused has the status 2,
-    whatever is allowed. So it is in each form."""
+    """Each count decides verdict and status by its own option, in each form."""
     for kind, make in KINDS.items():
         allowed_by = make(700).allowed_by
         for name in 'ab':
@@ -203,12 +193,12 @@ def words_and_statuses(place: Covers) -> None:
             status, out, _ = place.compare(*allowed, '--html', 'out.html', '--json', 'out.json',
                                            '--junit', 'out.xml', 'a', 'b')
             place.want(what, (status, out[1].partition(':')[0]), (wanted, word))
-            found = json.loads(place.read('out.json') or b'')['verdict']
+            found = place.json('out.json')['verdict']
             place.want(f'{what}: JSON', found, word)
             heading = re.findall('<h1.*?</h1>', (place.read('out.html') or b'').decode())
             look = 'same' if is_whole else 'part'
             place.want(f'{what}: page', heading, [f'<h1 class={look}>The runs are the {word}</h1>'])
-            suite = xml.etree.ElementTree.fromstring((place.read('out.xml') or b'').decode())
+            suite = place.xml('out.xml')
             cases = {case.attrib['name']: [one.tag for one in case if one.tag != 'system-out']
                      for case in suite.iter('testcase')}
             errors = [tag for tags in cases.values() for tag in tags if tag == 'error']
@@ -232,14 +222,13 @@ def what_is_not_compared(place: Covers) -> None:
     for line in ('a: connection 1 server record 2 byte 24: BadEnum (frame 5)',
                  'a: connection 3 not checked: 1 of 2 calls (NFS version 4)'):
         place.want(line, line in error.splitlines(), True)
-    rows = json.loads(place.read('out.json') or b'')['runs'][0]['not_judged']
+    rows = place.json('out.json')['runs'][0]['not_judged']
     place.want('rows', [(row['word'], row['connection']) for row in rows],
                [('refused', 1), ('not checked', 3), ('left out', None), ('left out', None)])
 
 
 def positions_beside_refused_connections(place: Covers) -> None:
-    """A connection that is refused stops nothing: what differs in the others is found at their
-    positions, with and without marks."""
+    """What differs beside a refused connection has its position."""
     for name, mode in (('a', 0o644), ('b', 0o600)):
         asked, replies = calls()
         bodies = [(asked, [replies[0], success(2, word(77))]), (asked[:1], replies[:1]),
@@ -257,8 +246,7 @@ def positions_beside_refused_connections(place: Covers) -> None:
 
 
 def nothing_to_compare(place: Covers) -> None:
-    """Recordings of which no call is taken are no runs: an error, whichever of both it is, and not
-    one that is the same."""
+    """A recording of which no call is taken is an error."""
     place.put('none', ['without its calls', 'HTTP'])
     place.put('whole', ['whole'])
     for first, second in (('none', 'none'), ('none', 'whole'), ('whole', 'none')):
@@ -271,8 +259,7 @@ def nothing_to_compare(place: Covers) -> None:
 
 
 def recordings_that_end_early(place: Covers) -> None:
-    """A recording that ends inside a frame is compared in part; one that is damaged has the status
-    2."""
+    """One that is cut is compared in part, and a damaged one has status 2."""
     content = pcap(whole(700).frames + whole(701).frames)
     place.write('a', content[:-5])
     status, out, _ = place.compare('a', 'a')
@@ -283,7 +270,5 @@ def recordings_that_end_early(place: Covers) -> None:
     place.want('damaged', (status, out[1].partition(':')[0]), (2, 'same in part'))
 
 
-class CountsTest(FolderTest, make=Covers, tests=[
-        the_counts_in_each_form, words_and_statuses, what_is_not_compared,
-        positions_beside_refused_connections, nothing_to_compare, recordings_that_end_early]):
+class CountsTest(FolderTest, make=Covers):
     """Each test has a folder of its own."""

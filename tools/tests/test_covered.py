@@ -1,6 +1,4 @@
-"""Tests of the words under which recorded connections come (judged, in part, left out, not
-checked), in all that tools/verdicts prints.
-"""
+"""Tests of the words for recorded connections: judged, in part, left out, not checked."""
 import argparse
 import json
 import lzma
@@ -12,8 +10,7 @@ import typing
 import xml.etree.ElementTree
 
 from examples.messages import MOUNT, NFS, call, fh, success
-from examples.packets import (
-    ACK, CLIENT, FIN, RST, SERVER, Talk, datagram, ethernet, pcap, segment)
+from examples.packets import ACK, CLIENT, FIN, RST, SERVER, Talk, datagram, ethernet, pcap, segment
 
 from ..nfs3tools.commands.verdicts import json_of, junit_of
 from ..nfs3tools.judgement.verdict import Verdict, counts_after, is_row, status_of
@@ -33,12 +30,7 @@ ENDS = '192.0.2.7:%d and 192.0.2.1:%d: '
 
 
 class Case(typing.NamedTuple):
-    """A recording beside one good connection, and what is said of it.
-
-    states, messages: those of its rows
-    counts: the numbers of the sum, besides the good connection
-    statuses: plain, with --allow-losses, with --allow-not-checked
-    """
+    """A recording beside a good one: its rows, its counts, and the statuses as ALLOWING has it."""
     what: str
     frames: list[bytes]
     states: list[str]
@@ -94,8 +86,7 @@ UNREAD = 'in part: %s not taken, since %s headers are not whole or do not fit %s
 
 def acknowledging(times: int = 4, step: tuple[int, int] = (100_000, 1_000_000),
                   payload: bytes = b'', service: int = 2049) -> list[bytes]:
-    """A connection of which each end acknowledges what the other sent, so many times: each time so
-    many bytes more of the client and of the server. A payload is cut, with its lengths."""
+    """Ends that acknowledge more each time; a payload is cut, with its lengths."""
     ports, frames = ((701, service), (service, 701)), list[bytes]()
     for number in range(times):
         at = 5_000 + number * step[0], 9_000 + number * step[1]
@@ -255,10 +246,9 @@ def good() -> list[bytes]:
 def run_of(tools: Tools, *words: str,
            stdin: bytes | None = None) -> tuple[int, list[str], str, str]:
     """The status of tools/verdicts, the verdicts of the rows, the sum and standard error."""
-    status, out, error = tools.tool('verdicts', '--program', tools.program, *words, stdin=stdin)
-    lines = out.splitlines()
-    return status, [re.split('  +', line)[-1]
-                    for line in lines[1:-1]], lines[-1] if lines else '', error
+    status, out, error = tools.tool('verdicts', *words, stdin=stdin)
+    _, *rows, total = out.splitlines() or ['', '']
+    return status, [re.split('  +', row)[-1] for row in rows], total, error
 
 
 def line_of(case: Case) -> str:
@@ -267,8 +257,7 @@ def line_of(case: Case) -> str:
 
 
 def words_of_all_kinds(tools: Tools) -> None:
-    """Each kind beside a good connection: the rows, the sum and the status, plain and with what is
-    allowed, with --follow, in JSON and in JUnit."""
+    """Rows, sums and statuses of each kind, plain, with --follow, and in files."""
     for case in CASES:
         line, ways = line_of(case), both_ways(tools.program, pcap(good() + case.frames), case.words)
         words_in_files(tools, case, ways[0])
@@ -327,8 +316,7 @@ def words_in_files(tools: Tools, case: Case, verdicts: list[Verdict]) -> None:
 
 
 def recordings_that_end_inside_a_frame(tools: Tools) -> None:
-    """A recording that is cut anywhere inside a frame is in part, and never refused; so is one that
-    is compressed and cut."""
+    """A recording that is cut is in part, and never refused."""
     content, ends = pcap(good()), [24]
     for frame in good():
         ends.append(ends[-1] + 16 + len(frame))
@@ -360,8 +348,7 @@ def recordings_that_end_inside_a_frame(tools: Tools) -> None:
 
 
 def interfaces_that_are_not_read(tools: Tools) -> None:
-    """Frames of an interface of pcapng whose link type is not read are not checked, beside good
-    ones."""
+    """Frames of a link type that is not read are not checked."""
     frames = [*map(enhanced, good()), *(enhanced(frame, index=1) for frame in good())]
     recording = section() + interface() + interface(105) + b''.join(frames)
     told = 'not checked: 15 frames of the link type 105 are not read; what is in them is not known'
@@ -389,41 +376,42 @@ def ports_that_are_chosen(tools: Tools) -> None:
             tools.want(f'no ports: {ports}', str(refused), f'no ports: {ports}')
 
 
-def tunnels(tools: Tools) -> None:
-    """Connections in tunnels are taken like others, also one tunnel in another, and in fragments.
-    What hides in others is named."""
-    for hosts in ((CLIENT, SERVER), (CLIENT_6, SERVER_6)):
-        frames = whole(hosts=hosts)
-        inner = [frame[14:] for frame in frames]
-        kind = 0x86dd if ':' in hosts[0] else 0x0800
-        number = 41 if ':' in hosts[0] else 4
+def outer(content: bytes, protocol: int = 17) -> bytes:
+    """What is carried between the ends of a tunnel."""
+    return datagram('198.51.100.1', '198.51.100.2', content, protocol)
 
-        def outer(content: bytes, protocol: int = 17) -> bytes:
-            return datagram('198.51.100.1', '198.51.100.2', content, protocol)
-        for what, recorded in (
-                ('MPLS', [in_labels(content) for content in inner]),
-                ('PPPoE', [in_session(content) for content in inner]),
-                ('IP in IP', [ethernet(outer(content, number)) for content in inner]),
-                ('GRE', [ethernet(outer(in_gre(kind, content), 47)) for content in inner]),
-                ('GRE with a key', [ethernet(outer(in_gre(kind, content, b'abcd', b'efgh'), 47))
-                                    for content in inner]),
-                ('GRE of Ethernet',
-                 [ethernet(outer(in_gre(0x6558, frame), 47)) for frame in frames]),
-                ('VXLAN', [ethernet(outer(in_vxlan(frame))) for frame in frames]),
-                ('VXLAN at the port of Linux',
-                 [ethernet(outer(in_vxlan(frame, 8472))) for frame in frames]),
-                ('Geneve', [ethernet(outer(in_geneve(0x6558, frame, bytes(8))))
-                            for frame in frames]),
-                ('Geneve of IP', [ethernet(outer(in_geneve(kind, content))) for content in inner]),
-                ('VXLAN in IPv6',
-                 [ethernet(datagram('2001:db8::1', '2001:db8::2', in_vxlan(frame), 17))
-                  for frame in frames]),
-                ('VXLAN in GRE', [ethernet(outer(in_gre(0x0800, outer(in_vxlan(frame))), 47))
-                                  for frame in frames]),
-                ('VXLAN in fragments', [ethernet(piece) for at, frame in enumerate(frames)
-                                        for piece in fragments(outer(in_vxlan(frame)), 64, at)])):
+
+def in_tunnels(hosts: tuple[str, str]) -> dict[str, list[bytes]]:
+    """The frames of a connection in each kind of tunnel."""
+    frames, kind, number = whole(hosts=hosts), *((0x86dd, 41) if ':' in hosts[0] else (0x0800, 4))
+    inner = [frame[14:] for frame in frames]
+    carried = {'IP in IP': [outer(one, number) for one in inner],
+               'GRE': [outer(in_gre(kind, one), 47) for one in inner],
+               'GRE with a key': [outer(in_gre(kind, one, b'abcd', b'efgh'), 47) for one in inner],
+               'GRE of Ethernet': [outer(in_gre(0x6558, frame), 47) for frame in frames],
+               'VXLAN': [outer(in_vxlan(frame)) for frame in frames],
+               'VXLAN at the port of Linux': [outer(in_vxlan(frame, 8472)) for frame in frames],
+               'Geneve': [outer(in_geneve(0x6558, frame, bytes(8))) for frame in frames],
+               'Geneve of IP': [outer(in_geneve(kind, one)) for one in inner], 'VXLAN in IPv6': [
+                   datagram('2001:db8::1', '2001:db8::2', in_vxlan(frame), 17) for frame in frames],
+               'VXLAN in GRE': [outer(in_gre(0x0800, outer(in_vxlan(frame))), 47)
+                                for frame in frames],
+               'VXLAN in fragments': [piece for at, frame in enumerate(frames)
+                                      for piece in fragments(outer(in_vxlan(frame)), 64, at)]}
+    return {'MPLS': [*map(in_labels, inner)], 'PPPoE': [*map(in_session, inner)],
+            **{name: [*map(ethernet, some)] for name, some in carried.items()}}
+
+
+def tunnels(tools: Tools) -> None:
+    """Connections in tunnels are taken like others."""
+    for hosts in ((CLIENT, SERVER), (CLIENT_6, SERVER_6)):
+        for what, recorded in in_tunnels(hosts).items():
             tools.told(what, pcap(recorded), [ALL], [])
-    secret = [ethernet(datagram('198.51.100.1', '198.51.100.2', bytes(99), 50)) for _ in range(112)]
+
+
+def what_hides_in_others(tools: Tools) -> None:
+    """What is not read is named: ESP, and many tunnels one in another."""
+    secret = [ethernet(outer(bytes(99), 50)) for _ in range(112)]
     tools.told('ESP', pcap(whole() + secret), [ALL],
                ['not checked: 112 frames of ESP are not read; what is in them is not known'])
     tools.write('a.pcap', pcap(secret + [bytes(12) + b'\x08\x06' + bytes(28)]))
@@ -432,15 +420,12 @@ def tunnels(tools: Tools) -> None:
                 'no connection to judge: 113 frames without TCP: 112 of ESP, 1 of ARP'])
     deep = whole()[4][14:]
     for _ in range(9):
-        deep = datagram('198.51.100.1', '198.51.100.2', deep, 4)
+        deep = outer(deep, 4)
     tools.told('many tunnels', pcap([*whole(), ethernet(deep)]), [ALL],
                ['not checked: 1 frame of many tunnels is not read; what is in it is not known'])
     tools.want('the kind 0',
                taken_of(pcap([bytes(14) + frame[14:] for frame in whole()])).connections, [])
 
 
-class CoveredTest(FolderTest, make=Tools, tests=[
-        words_of_all_kinds, words_on_the_command_line,
-        recordings_that_end_inside_a_frame, interfaces_that_are_not_read, ports_that_are_chosen,
-        tunnels]):
+class CoveredTest(FolderTest, make=Tools):
     """Each test has a folder of its own."""

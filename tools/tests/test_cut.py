@@ -9,26 +9,19 @@ from examples.packets import Talk, pcap, recording
 from tests.shared.running import ended
 
 from .cases import FolderTest
-from .scripts import CALLS, REPLIES, TOP, Tools, in_fragments, packed, stream, whole
+from .scripts import CALLS, FAULTS, FIRST, REPLIES, TOP, Tools, in_fragments, packed, stream, whole
 
-FAULTS = {
-    'bad_client_record': 'connection 1 client record 1 byte 4: BadEnum',
-    'bad_server_record': 'connection 2 server record 2 byte 0: NoCall',
-    'bad_status': 'connection 1 server record 1 byte 24: BadEnum',
-    'bad_bool': 'connection 1 server record 1 byte 28: BadBool',
-    'bad_length': 'connection 1 client record 1 byte 40: TooLong'}
 ONE = 'ok connections=1 calls=1 replies=1 handles=0'
 
 
 def cut(tools: Tools, *words: str) -> tuple[int, list[str], str]:
     """The status of a run, its lines, and what is told on standard error."""
-    status, out, error = tools.tool('cut', '--program', tools.program, *words)
+    status, out, error = tools.tool('cut', *words)
     return status, out.splitlines(), error
 
 
 def exchanges(tools: Tools) -> None:
-    """A call with its reply, by each kind of place, out of a recording and out of captures of both
-    versions."""
+    """A call with its reply, by each kind of place, of a recording and of captures."""
     tools.write('a.pcap', pcap([*Talk(699).opened(), *whole(), *whole(port=701)]))
     # The calls are in the frames 7 to 11, and the replies in 12 to 16, each with a fifth of the
     # bytes. The 9th record is in the second.
@@ -57,8 +50,7 @@ def exchanges(tools: Tools) -> None:
 
 
 def on_standard_output(tools: Tools) -> None:
-    """`-` is standard output, which has the capture alone; the lines go to standard error. A folder
-    that is not there is an error before the work."""
+    """`-` has the capture alone; a folder that is not there is told first."""
     tools.write('1', capture((CALLS, REPLIES)))
     place = 'connection 1 client record 3'
     done = ended([str(TOP / 'tools/cut'), '--program', tools.program, '1', place, '-'],
@@ -72,8 +64,7 @@ def on_standard_output(tools: Tools) -> None:
 
 
 def all_with_the_xid(tools: Tools) -> None:
-    """A call that was sent again and its replies, calls and replies of many fragments, and a call
-    without a reply."""
+    """What was sent again, messages of many fragments, and a call without a reply."""
     calls = stream(CALLS[:2]) + in_fragments(CALLS[1], 9) + stream(CALLS[2:5])
     replies = stream(REPLIES[:1]) + in_fragments(REPLIES[1],
                                                  5) + stream(REPLIES[2:4]) + stream(REPLIES[1:2])
@@ -93,9 +84,8 @@ def all_with_the_xid(tools: Tools) -> None:
 
 
 def faults(tools: Tools) -> None:
-    """A message that is refused is so in OUT, for the same reason; also a record that is cut, or
-    has no xid."""
-    for name, fault in FAULTS.items():
+    """A message that is refused is so in OUT, for the same reason."""
+    for name, (fault, _) in FAULTS.items():
         for kind in ('pcap', 'nfs3cap'):
             status, lines, error = cut(tools, str(TOP / f'examples/{name}.{kind}'), fault, 'out')
             place, reason = fault.split(': ')
@@ -112,8 +102,7 @@ def faults(tools: Tools) -> None:
 
 
 def handles_and_where_they_are_from(tools: Tools) -> None:
-    """The exchanges that gave the handles of a call, and of those that gave these, over
-    connections; a folder is not from its own `.`."""
+    """The exchanges that gave the handles, and theirs, over connections."""
     attributes, root, folder, file, other = fattr(2, 5), *(name * 8
                                                            for name in (b'r', b'd', b'f', b'o'))
     found = ok(fh(folder), post_op_attr(attributes), post_op_attr())
@@ -144,7 +133,7 @@ def handles_and_where_they_are_from(tools: Tools) -> None:
 
 def accepted_and_the_same(tools: Tools) -> None:
     """Exchanges of a real recording are accepted, and are listed as they were."""
-    name = str(TOP / 'examples/ganesha_a.pcap')
+    name = FIRST
     tools.want('from_pcap', tools.tool('from_pcap', name, 'a')[0], 0)
     listing = [line.split(' ', 3) for line in tools.run('show', 'a')[1].splitlines()]
     for number, (connection, side, record, rest) in enumerate(listing[::17]):
@@ -160,18 +149,11 @@ def accepted_and_the_same(tools: Tools) -> None:
 def what_is_refused(tools: Tools) -> None:
     """Places that are not there, inputs and recordings as OUT, and handles in what is refused."""
     tools.write('a.pcap', pcap(whole()))
-    shutil.copy(TOP / 'examples/null.nfs3cap', tools.path('old'))
+    for name in ('old', 'old.pcap'):
+        shutil.copy(TOP / 'examples/null.nfs3cap', tools.path(name))
     before = tools.read('old')
     for words, status, message in (
-            (('a.pcap', 'connection 1 client record 40', 'new'), 1,
-             'cut: there is no connection 1 client record 40\n'),
-            (('a.pcap', 'connection 2 client record 1', 'new'), 1,
-             'cut: there is no connection 2\n'),
-            (('a.pcap', 'connection 0 client record 1', 'new'), 1,
-             'cut: there is no connection 0\n'),
             (('a.pcap', 'file 12: BadMark', 'new'), 2, 'cut: no record: file 12\n'),
-            (('a.pcap', 'somewhere', 'new'), 2,
-             "cut: no position: somewhere (as in 'connection 1 server record 7 byte 24')\n"),
             (('a.pcap', 'connection 1 client record 1', 'a.pcap'), 2,
              'cut: a.pcap is an input, and is not replaced\n'),
             (('old', 'connection 1 client record 1', 'a.pcap'), 2,
@@ -180,13 +162,19 @@ def what_is_refused(tools: Tools) -> None:
              'cut: ./old is an input, and is not replaced\n'),
             (('absent', 'connection 1 client record 1', 'new'), 3,
              'cut: absent: No such file or directory\n'),
+            (('a.pcap', 'connection 1 client record 1', 'old.pcap'), 2,
+             'cut: old.pcap is a capture, and is not replaced\n'),
+            (('old', 'connection 1 client record 1', 'new.pcap'), 2,
+             'cut: old is a capture, which has no frames\n'),
+            (('a.pcap', 'connection 1 client record 1', 'new.pcapng'), 2,
+             'cut: new.pcapng: OUT may be a .pcap, and no .pcapng\n'),
             (('--origins', str(TOP / 'examples/bad_bool.nfs3cap'), 'connection 1 client record 1',
               'old'), 2,
              f'cut: {TOP}/examples/bad_bool.nfs3cap is refused, so the origins of its handles are '
-             f'not known: {FAULTS["bad_bool"]}\n')):
+             f'not known: {FAULTS["bad_bool"][0]}\n')):
         tools.want(message, cut(tools, *words), (status, [], message))
     tools.want('what is there', (tools.names(), tools.read('old'), tools.read('a.pcap')),
-               (['a.pcap', 'old'], before, pcap(whole())))
+               (['a.pcap', 'old', 'old.pcap'], before, pcap(whole())))
     tools.want('an older capture', (cut(tools, 'a.pcap', 'connection 1 client record 1', 'old')[0],
                                     tools.read('old') != before), (0, True))
     tools.want('no program', tools.tool('cut', '--program', './absent', 'a.pcap',
@@ -194,7 +182,5 @@ def what_is_refused(tools: Tools) -> None:
                (2, '', 'cut: ./absent is missing\n'))
 
 
-class CutTest(FolderTest, make=Tools, tests=[
-        exchanges, on_standard_output, all_with_the_xid, faults, handles_and_where_they_are_from,
-        accepted_and_the_same, what_is_refused]):
+class CutTest(FolderTest, make=Tools):
     """Each test has a folder of its own."""

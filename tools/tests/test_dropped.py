@@ -1,9 +1,6 @@
-"""Tests that no recorded byte is dropped without being counted: segments that fit nowhere, far
-numbers, stray flags, late fragments.
-
-Each recording is judged plain and with --follow.
-"""
+"""Tests that no recorded byte is dropped without being counted, plain and with --follow."""
 import io
+import itertools
 import struct
 import time
 import typing
@@ -20,7 +17,7 @@ from ..nfs3tools.recordings.coverage import Allowed
 from ..nfs3tools.recordings.selection import Options
 from .cases import FolderTest
 from .recordings import fragments, fragments_6
-from .scripts import ALL, CALLS, REPLIES, TOP, Tools, both_ways, stream, taken_of, whole
+from .scripts import ALL, CALLS, REPLIES, TOP, Tools, both_ways, stream, taken_of, timed, whole
 
 VERDICTS = str(TOP / 'tools/verdicts')
 CALL, REPLY = len(stream(CALLS[:1])), len(stream(REPLIES[:1]))
@@ -45,11 +42,9 @@ def exchanged(talk: Talk, numbers: typing.Iterable[int], bad: int | None = None)
 
 def with_times(frames: list[bytes], seconds: dict[int, int]) -> bytes:
     """A recording, with so many seconds before some frames, by their index."""
-    now, blocks = 1, [pcap([])]
-    for number, frame in enumerate(frames):
-        now += seconds.get(number, 0)
-        blocks.append(struct.pack('<4I', now, number, len(frame), len(frame)) + frame)
-    return b''.join(blocks)
+    pauses = itertools.accumulate(seconds.get(number, 0) for number in range(len(frames)))
+    return timed(((pause + number / 1e6, frame)
+                  for number, (pause, frame) in enumerate(zip(pauses, frames))), 1)
 
 
 def judged(tools: Tools, recording: bytes) -> list[tuple[int, list[str], str]]:
@@ -116,8 +111,7 @@ def one_frame_that_is_far(tools: Tools) -> None:
 
 
 def much_in_flight(tools: Tools) -> None:
-    """Acknowledgements that lag behind by 200 MB show nothing that is missing, nor does a segment
-    that comes again as late."""
+    """Acknowledgements that lag behind by 200 MB show nothing that is missing."""
     stream_of_much = streams.Stream(spool.Spool(), streams.Budget(), None)
     stream_of_much.first, stream_of_much.next, stream_of_much.acked = (50, 5_300_000_000,
                                                                        5_100_000_000)
@@ -146,8 +140,7 @@ def stray_resets(tools: Tools) -> None:
 
 
 def what_comes_after_a_line(tools: Tools) -> None:
-    """With --follow bytes that come after a connection was judged are told, and the status is 1.
-    The plain tool judges them."""
+    """--follow tells bytes that come after a line, which the plain tool judges."""
     talk = Talk()
     frames = [*talk.opened(), *exchanged(talk, range(10)), talk.frame(1, RST),
               *exchanged(talk, range(10, 20), 15), *talk.closed()]
@@ -168,8 +161,7 @@ def what_comes_after_a_line(tools: Tools) -> None:
 
 
 def many_idle_connections(tools: Tools) -> None:
-    """A connection that was judged early, since too many are open, is told if it has bytes
-    later."""
+    """A connection that was judged early is told if it has bytes later."""
     talks = [Talk(1_000 + number) for number in range(32)]
     frames = [frame for talk in talks for frame in talk.opened()]
     frames += [frame for talk in talks for frame in exchanged(talk, range(2))]
@@ -185,8 +177,7 @@ def many_idle_connections(tools: Tools) -> None:
 
 
 def stray_ends(tools: Tools) -> None:
-    """A FIN after which the stream goes on is none, if the other end acknowledges what comes after
-    it. If it does not, that is counted."""
+    """A FIN after which the stream goes on, acknowledged, is none; else it is counted."""
     for side in (0, 1):
         for bad in (None, 15):
             talk = Talk()
@@ -210,8 +201,7 @@ def stray_ends(tools: Tools) -> None:
 
 
 def stray_beginnings(tools: Tools) -> None:
-    """A SYN or SYN-ACK whose number fits no connection begins none, if the connection that is there
-    goes on."""
+    """A SYN that fits no connection begins none if the one that is there goes on."""
     for flags, side in ((SYN, 0), (SYN | ACK, 1), (SYN | ACK, 0), (SYN, 1)):
         for ahead in (0x30000000, 5_000, -300):
             for bad in (None, 15):
@@ -225,8 +215,7 @@ def stray_beginnings(tools: Tools) -> None:
 
 
 def ports_that_are_used_again(tools: Tools) -> None:
-    """Each connection has its own, also if segments of the older one come after the first of the
-    newer one, or it was refused."""
+    """Connections of one port are told apart, also by late segments."""
     first, second = Talk(), Talk(first=(900_000, 800_000))
     older = [*first.opened(), *exchanged(first, range(10)), *first.closed()]
     newer = [*second.opened(), *exchanged(second, range(10)), *second.closed()]
@@ -259,11 +248,8 @@ def syn_after_data(tools: Tools) -> None:
                                           for status, rows, _ in found], [(1, True)] * 2)
 
 
-# --- Bytes that come again ---
-
 def other_content(tools: Tools) -> None:
-    """Bytes that come again with other content, or before the first, make a connection in part.
-    Those of a keep-alive do not, nor those of RST."""
+    """Bytes with other content make a connection in part, but not a keep-alive or RST."""
     talk = Talk()
     frames = [*talk.opened(), *exchanged(talk, range(10))]
     other = talk.frame(0, ACK, b'x' * CALL, ahead=-3 * CALL)
@@ -280,8 +266,7 @@ def other_content(tools: Tools) -> None:
 
 
 def other_content_beyond_an_end(tools: Tools) -> None:
-    """Bytes beyond a FIN that come again with other content are counted, once the other end has
-    acknowledged bytes beyond it. Those that come again as they were are not."""
+    """Bytes beyond a FIN count if they come again with other content."""
     for what, again, row in (('as they were', reply(10, False), 'ok'),
                              ('with other content', b'x' * REPLY,
                               'ok in part: 20 calls, 1 frame with other content')):
@@ -305,11 +290,8 @@ def bytes_of_a_gap_that_was_given_up(tools: Tools) -> None:
                             or connection.lacks), (CALL, True))
 
 
-# --- Fragments ---
-
 def stale_fragments(tools: Tools) -> None:
-    """A fragment that was recorded twice begins no other datagram, and one that waits for too long
-    is given up."""
+    """A fragment twice begins no other datagram; one that waits is given up."""
     for cut, hosts, limit in ((fragments, ('192.0.2.7', '192.0.2.1'), 30),
                               (fragments_6, ('2001:db8::7', '2001:db8::1'), 60)):
         for again in (True, False):
@@ -336,8 +318,6 @@ def stale_fragments(tools: Tools) -> None:
                 found.spool.close()
 
 
-# --- Files that grow ---
-
 def a_file_that_becomes_shorter(tools: Tools) -> None:
     """With --follow that is told, and the status is 1."""
     tools.write('a.pcap', pcap(whole()))
@@ -355,10 +335,5 @@ def a_file_that_becomes_shorter(tools: Tools) -> None:
                                 'shorter than what was read of it'), True)
 
 
-class DroppedTest(FolderTest, make=Tools, tests=[
-        much_is_missing_in_the_middle, much_is_missing_at_the_end, one_frame_that_is_far,
-        much_in_flight, stray_resets, what_comes_after_a_line, many_idle_connections, stray_ends,
-        stray_beginnings, ports_that_are_used_again, syn_after_data, other_content,
-        other_content_beyond_an_end, bytes_of_a_gap_that_was_given_up, stale_fragments,
-        a_file_that_becomes_shorter]):
+class DroppedTest(FolderTest, make=Tools):
     """Each test has a folder of its own."""

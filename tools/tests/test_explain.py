@@ -1,8 +1,4 @@
-"""Tests of `tools/explain`: all fields of a message, recordings, bytes of a file, and what it
-costs.
-
-The reasons of refusals are tried by test_reasons.py.
-"""
+"""Tests of `tools/explain`: fields, recordings, bytes of a file, and what it costs."""
 import gzip
 import itertools
 import random
@@ -20,13 +16,14 @@ from tests.shared.running import ended
 
 from .cases import FolderTest
 from .recordings import NANOSECONDS, pcapng
-from .scripts import ALL, CALLS, REPLIES, TOP, WITH_TOOLS, Tools, measured, packed, stream, whole
+from .scripts import (
+    ALL, CALLS, FAULTS, REPLIES, TOP, WITH_TOOLS, Tools, measured, packed, stream, whole)
 
 AID = 'A reader\'s aid, and no part of what is proved.'
 ITEM = re.compile(r'byte (\d+): (\w+)( \((?:its length|residual bytes)\))? = '
                   r'(\'.*\'|b[\'"].*[\'"](?:\.\.)?|\S+)(?: \((.*)\))?')
-MOST_MEMORY = 64 << 20  # bytes
-MOST_OF_A_RECORDING = 40 << 20  # bytes, of one with a million frames
+MOST_MEMORY = 56 << 20  # bytes
+MOST_OF_A_RECORDING = 34 << 20  # bytes, of one with many frames
 STRINGS = ('name', 'path', 'machinename', 'dirpath', 'hostname', 'directory')
 
 
@@ -65,8 +62,7 @@ def fields_of_a_reply(tools: Tools) -> None:
 
 
 def values_that_are_odd(tools: Tools) -> None:
-    """Bits of the type in a mode, and a second in nanoseconds, are valid bytes and said to be
-    odd."""
+    """Bits of the type in a mode, and a second in nanoseconds, are said to be odd."""
     attributes = fattr(1, 12, mode=0o100644)[:60] + word(9) + word(10**9) + bytes(16)
     tools.write('a', messages.capture(([call(5, NFS, 3, 1, fh(b'abc'))],
                                        [success(5, ok(attributes))])))
@@ -77,12 +73,11 @@ def values_that_are_odd(tools: Tools) -> None:
 
 
 def fields_of_each_message(tools: Tools) -> None:
-    """Those that `show` lists, on every procedure, by the line that it prints; they follow one
-    another up to the end of the body."""
+    """Those that `show` lists, one after the other up to the end of the body."""
     example = str(TOP / 'examples/every_procedure.nfs3cap')
     listing = tools.run('show', example)[1].splitlines()
     tools.want('messages', len(listing), 120)
-    for line in listing[::3]:
+    for line in listing:
         lines = explained(tools, example, line)
         items = [ITEM.fullmatch(text) for text in lines[2:]]
         tools.want('items of ' + line[:60], None in items, False)
@@ -102,8 +97,7 @@ def shown(value: str) -> str:
 
 
 def are_in_a_row(items: list[re.Match[str]], second: str) -> bool:
-    """Whether items follow one another up to the body's end: words, numbers of eight bytes, and
-    bytes as many as are shown."""
+    """Whether items follow one another up to the end of the body."""
     size = int(re.findall(r'a body of (\d+) bytes', second)[0])
     begins = [int(item[1]) for item in items] + [size]
     for item, begin, end in zip(items, begins, begins[1:]):
@@ -116,8 +110,7 @@ def are_in_a_row(items: list[re.Match[str]], second: str) -> bool:
 
 
 def names_of_values(tools: Tools) -> None:
-    """Statuses of both programs, bits, modes and the ways of times have the names of the RFC; other
-    values have none."""
+    """Statuses, bits, modes and ways of times have the names of the RFC."""
     sattr = messages.sattr(mode=0o640, size=9)
     calls = [call(1, NFS, 3, 4, fh(b'a') + word(0x15)), call(2, NFS, 3, 19, fh(b'a')),
              call(3, MOUNT, 3, 1, opaque(b'/a')),
@@ -146,7 +139,7 @@ def names_of_values(tools: Tools) -> None:
 
 
 def messages_at_fault(tools: Tools) -> None:
-    """The fields are those up to the first that is at fault, and then how many bytes are left."""
+    """The fields up to the first that is at fault, and how many bytes are left."""
     calls = [call(1, NFS, 3, 0, bytes(12)), call(2, NFS, 3, 1, word(65) + bytes(68)),
              call(3, NFS, 3, 1, word(8) + bytes(3))]
     tools.write('a', messages.capture((calls, [success(1), success(9, b'tail')])))
@@ -165,7 +158,7 @@ def messages_at_fault(tools: Tools) -> None:
 
 
 def long_values(tools: Tools) -> None:
-    """A long value is cut, and the bytes around a place in it are those around the byte."""
+    """A long value is cut, and the bytes around a place are those of the byte."""
     data = bytes(range(256)) * 40
     tools.write('a', messages.capture(([call(1, NFS, 3, 6, fh(b'a') + hyper(0) + word(10_240))],
                                        [success(1, ok(post_op_attr(), word(10_240), word(1),
@@ -182,57 +175,49 @@ def long_values(tools: Tools) -> None:
                True)
 
 
-# --- Recordings ---
-
-FAULTS = {'bad_client_record': ('client record 1 byte 4: BadEnum', 4, 'mtype = 2'),
-          'bad_status': ('server record 1 byte 24: BadEnum', 5, 'status = 3'),
-          'bad_bool': ('server record 1 byte 28: BadBool', 5, 'attr = 2'),
-          'bad_length': ('client record 1 byte 40: TooLong', 4, 'fh (its length) = 65')}
+# What is said of the items at fault in the examples.
+ITEMS = {'bad_client_record': 'mtype = 2', 'bad_status': 'status = 3', 'bad_bool': 'attr = 2',
+         'bad_length': 'fh (its length) = 65'}
 
 
 def faults_of_recordings(tools: Tools) -> None:
     """The frame, and what is wrong in it, of the recordings in examples/."""
-    for name, (place, frame, item) in FAULTS.items():
-        path = str(TOP / f'examples/{name}.pcap')
-        lines = explained(tools, path, 'connection 1 ' + place)
+    for name, item in ITEMS.items():
+        place, frame = FAULTS[name]
+        lines = explained(tools, str(TOP / f'examples/{name}.pcap'), place)
         tools.want(name + ', its frame', lines[2], f'frame.number == {frame}')
-        tools.want(name + ', its item', lines[5], f'byte {place.split()[4].rstrip(":")}: {item}')
-        capture = explained(tools, str(TOP / f'examples/{name}.nfs3cap'), 'connection 1 ' + place)
+        tools.want(name + ', its item', lines[5], f'byte {place.split()[6].rstrip(":")}: {item}')
+        capture = explained(tools, str(TOP / f'examples/{name}.nfs3cap'), place)
         tools.want(name + ', as of its capture', lines[3:], capture)
 
 
 def recordings_of_all_kinds(tools: Tools) -> None:
-    """pcap, pcapng, gzip, standard input, a pipe, and parts: the frames of `tools/where`, and then
-    what a capture of them has."""
-    frames = [*whole(), *whole(port=701)]
+    """Each kind of input has the frames of `where` and the words of a capture."""
+    frames, place = [*whole(), *whole(port=701)], 'connection 2 server record 39 byte 8'
     tools.write('capture', packed(ALL, ALL))
     tools.write('a.pcap', pcap(frames, magic=NANOSECONDS))
     tools.write('b.pcapng', pcapng(frames))
     tools.write('c.gz', gzip.compress(pcap(frames)))
     tools.write('part0', pcap(frames[:9]))
     tools.write('part1', pcap(frames[9:]))
-    for place, number in (('connection 2 server record 39 byte 8', 28),
-                          ('connection 1 client record 1', 4)):
-        wanted = explained(tools, 'capture', place)
-        for name in ('a.pcap', 'b.pcapng', 'c.gz', 'part?'):
-            lines = explained(tools, name, place)
-            tools.want(f'{name} {place}', lines[-len(wanted):], wanted)
-            told = [line for line in lines[:-len(wanted)] if line.startswith('frame ')]
-            tools.want('its frames', [int(re.findall(r'\d+', line)[0]) for line in told], [number])
-        for name in ('a.pcap', 'c.gz', 'capture'):
-            content = tools.read(name) or b''
-            tools.want('standard input', tools.tool('explain', '-', place, stdin=content)[1],
-                       tools.tool('explain', name, place)[1])
-            piped = ended(['bash', '-c', f'exec "$@" <(cat {name}) "{place}"', 'bash',
-                           str(TOP / 'tools/explain')], tools.folder).text()
-            tools.want('a pipe', piped[:2], tools.tool('explain', name, place)[:2])
+    wanted = explained(tools, 'capture', place)
+    for name in ('a.pcap', 'b.pcapng', 'c.gz', 'part?'):
+        lines = explained(tools, name, place)
+        told = [line.split(',')[0] for line in lines if line.startswith('frame ')]
+        tools.want(name, (told, lines[-len(wanted):]), (['frame 28'], wanted))
+    for name in ('a.pcap', 'c.gz', 'capture'):
+        plain = tools.tool('explain', name, place)
+        tools.want('standard input',
+                   tools.tool('explain', '-', place, stdin=tools.read(name)), plain)
+        piped = ended(['bash', '-c', f'exec "$@" <(cat {name}) "{place}"', 'bash',
+                       str(TOP / 'tools/explain')], tools.folder).text()
+        tools.want('a pipe', piped, plain)
     tools.want('no place', tools.tool('explain', '-', stdin=pcap(frames)),
                (2, '', 'explain: POSITION has to be an argument if FILE is standard input\n'))
 
 
 def records_of_recordings(tools: Tools) -> None:
-    """Records have the numbers that `tools/from_pcap` gives them, after bytes that are missing and
-    at an end that is cut."""
+    """Records have the numbers that `tools/from_pcap` gives them."""
     frames, size, piece = whole(), len(stream(CALLS[:1])), -(-len(ALL[0]) // 5)
     tools.write('a.pcap', pcap(frames[:4] + frames[5:]))
     first = 2 * piece // size + 1  # the first whole call behind the second piece, which is missing
@@ -247,11 +232,8 @@ def records_of_recordings(tools: Tools) -> None:
                len(explained(tools, 'a.pcap', 'connection 1 client record 8')) > 3, True)
 
 
-# --- Bytes of a file ---
-
 def bytes_of_captures(tools: Tools) -> None:
-    """The part of each byte of a capture, also of one that is cut, compressed, or of a recording of
-    which it could be made."""
+    """The part of each byte of a capture, also of one that is cut or compressed."""
     capture = packed(ALL)
     tools.write('a', capture)
     tools.write('a.gz', gzip.compress(capture))
@@ -277,23 +259,10 @@ def bytes_of_captures(tools: Tools) -> None:
                explained(tools, 'cut', 'connection 1 client record 1')[2], 'byte 0: xid = 1')
 
 
-def places_that_are_not_there(tools: Tools) -> None:
-    tools.write('a', packed(ALL))
-    tools.write('a.pcap', pcap(whole()))
-    for place, message in (
-            ('connection 1 client record 1 byte 41',
-             'there is no connection 1 client record 1 byte 41: the body is shorter'),
-            ('connection 1 client record 40', 'there is no connection 1 client record 40'),
-            ('connection 1 client record 0', 'there is no connection 1 client record 0'),
-            ('connection 2 client record 1 byte 0', 'there is no connection 2'),
-            ('connection 0 client record 1', 'there is no connection 0'),
-            ('file 999999', 'the capture has no byte 999999')):
-        for name in ('a', 'a.pcap'):
-            tools.want(f'{name} {place}', tools.tool('explain', name, place),
-                       (1, '', f'explain: {message}\n'))
+def files_that_are_neither(tools: Tools) -> None:
+    """What is neither a recording nor a capture has a first byte alone."""
     tools.write('none', b'no recording')
-    tools.want('a file that is neither',
-               tools.tool('explain', 'none', 'connection 1 client record 1'),
+    tools.want('a record', tools.tool('explain', 'none', 'connection 1 client record 1'),
                (2, '', 'explain: it is neither pcap nor pcapng\n'))
     tools.want('its first byte', explained(tools, 'none', 'file 0: BadMagic')[0],
                'file byte 0: the magic, from byte 0')
@@ -312,11 +281,11 @@ for line in sys.stdin:
 
 
 def faults_of_damaged_captures(tools: Tools) -> None:
-    """Each place at which `check` refuses a capture is there, whatever became of the capture."""
+    """Each place at which `check` refuses a damaged capture is explained."""
     chance, lines = random.Random(11), list[str]()
     bases = [(TOP / f'examples/{name}.nfs3cap').read_bytes()
              for name in ('every_procedure', 'interleaved', 'auth_sys', 'two_connections')]
-    for number in range(300):
+    for number in range(150):
         content = bytearray(chance.choice(bases))
         for _ in range(chance.randrange(1, 4)):
             content[chance.randrange(len(content))] = chance.choice(
@@ -348,34 +317,33 @@ def written(tools: Tools, name: str, pieces: Iterator[bytes]) -> None:
 
 
 def memory_of_large_captures(tools: Tools) -> None:
-    """20 replies of 16 MB each, in one connection of either version."""
+    """12 replies of 16 MB each, in one connection of either version."""
     read = fh(b'a') + hyper(0) + word(1 << 24)
     data = ok(post_op_attr(), word(1), word(1), opaque(bytes((1 << 24) - 100)))
-    calls, replies = [call(number, NFS, 3, 6, read) for number in range(1, 21)], (
-        success(number, data) for number in range(1, 21))
+    calls, replies = [call(number, NFS, 3, 6, read) for number in range(1, 13)], (
+        success(number, data) for number in range(1, 13))
     written(tools, 'one', itertools.chain([messages.MAGIC, word(1), chunk(stream(calls)), word(0)],
                                           (chunk(fragment(body)) for body in replies),
                                           [word(0), word(0)]))
-    replies = (success(number, data) for number in range(1, 21))
+    replies = (success(number, data) for number in range(1, 13))
     written(tools, 'two',
             itertools.chain([messages.MAGIC_2, word(1), word(1), chunk(stream(calls))],
                             (word(2) + chunk(fragment(body)) for body in replies),
                             [word(0), word(0)]))
     for name in ('one', 'two'):
-        heading = ('connection 1 server record 20: reply NFSPROC3_READ of program 100003, version '
+        heading = ('connection 1 server record 12: reply NFSPROC3_READ of program 100003, version '
                    '3, procedure 6')
-        in_memory(tools, name, 'connection 1 server record 20', heading,
+        in_memory(tools, name, 'connection 1 server record 12', heading,
                   f'byte 44: data = {"00" * 100}..')
-        in_memory(tools, name, 'connection 1 server record 20 byte 16000000', heading,
+        in_memory(tools, name, 'connection 1 server record 12 byte 16000000', heading,
                   f'byte 16000000: data = {"00" * 100}..')
-        in_memory(tools, name, 'file 200000000: BadMark',
+        in_memory(tools, name, 'file 180000000: BadMark',
                   'BadMark: a connection word is 0 or 1, and of version 2 a side word 0, 1 or 2, '
                   'and a length word at least 1')
 
 
 def memory_of_many_parts(tools: Tools) -> None:
-    """65,535 connections; 200,000 calls; a message of 500,000 fields; a record of 200,000
-    fragments."""
+    """Connections, calls, fields and fragments by the thousand."""
     one = word(1) + chunk(stream(CALLS[:1])) + word(0) + chunk(stream(REPLIES[:1])) + word(0)
     written(tools, 'connections', iter([messages.MAGIC, one * 65_535, word(0)]))
     in_memory(tools, 'connections', 'connection 65535 server record 1',
@@ -383,9 +351,9 @@ def memory_of_many_parts(tools: Tools) -> None:
     calls, replies = ([make(number) for number in range(200_000)]
                       for make in (lambda number: call(number, NFS, 3, 0), success))
     tools.write('calls', packed((stream(calls), stream(replies))))
-    in_memory(tools, 'calls', 'connection 1 server record 200000',
-              'xid 199999, a body of 24 bytes, to call record 200000')
-    names = entries(None, bytes(8), (entry(number, b'name', number) for number in range(100_000)),
+    in_memory(tools, 'calls', 'connection 1 server record 60000',
+              'xid 59999, a body of 24 bytes, to call record 60000')
+    names = entries(None, bytes(8), (entry(number, b'name', number) for number in range(30_000)),
                     True)
     listed = [call(7, NFS, 3, 16, fh(b'a') + bytes(16) + word(1 << 22))], [success(7, ok(names))]
     tools.write('fields', messages.capture(listed))
@@ -393,8 +361,7 @@ def memory_of_many_parts(tools: Tools) -> None:
     for place in ('', f' byte {size - 4}'):
         in_memory(tools, 'fields', 'connection 1 server record 1' + place,
                   f'byte {size - 4}: eof = 1 (TRUE)')
-    body = call(7, NFS, 3, 7, fh(b'a') + hyper(0) + word(199_900) + word(0)
-                + opaque(bytes(199_900)))
+    body = call(7, NFS, 3, 7, fh(b'a') + hyper(0) + word(60_000) + word(0) + opaque(bytes(60_000)))
     pieces = b''.join(fragment(body[at:at + 1], is_last=at == len(body) - 1)
                       for at in range(len(body)))
     tools.write('fragments', packed((pieces, b'')))
@@ -403,9 +370,8 @@ def memory_of_many_parts(tools: Tools) -> None:
 
 
 def memory_of_large_recordings(tools: Tools) -> None:
-    """A recording of 1,000,000 frames, each with some bytes of calls: memory does not follow
-    them."""
-    talk, size, count = Talk(), 16, 1_000_000
+    """Memory does not follow the frames of a recording."""
+    talk, size, count = Talk(), 16, 300_000
     frame = ethernet(talk.datagram(0, ACK, bytes(size)))
     opened = pcap(talk.opened())
     head, rest = frame[:38], frame[42:-size]
@@ -421,10 +387,5 @@ def memory_of_large_recordings(tools: Tools) -> None:
               f'frame.number == {4 + ((last - 1) * 44 + 4) // size}', most=MOST_OF_A_RECORDING)
 
 
-class ExplainTest(FolderTest, make=Tools, tests=[
-        fields_of_a_reply, values_that_are_odd, fields_of_each_message, names_of_values,
-        messages_at_fault, long_values, faults_of_recordings, recordings_of_all_kinds,
-        records_of_recordings, bytes_of_captures, places_that_are_not_there,
-        faults_of_damaged_captures, memory_of_large_captures, memory_of_many_parts,
-        memory_of_large_recordings]):
+class ExplainTest(FolderTest, make=Tools):
     """Each test has a folder of its own."""

@@ -1,11 +1,5 @@
-"""Tests of what tools/compare says of differences: where long values part, what numbers are called,
-what is printed once or left out, and JSON.
-
-What is expected is written by hand, by RFC 1813 and RFC 5531.
-"""
+"""Tests of what tools/compare says of differences, by RFC 1813 and RFC 5531."""
 import functools
-import json
-import os
 import random
 from collections.abc import Sequence
 from typing import Any, NamedTuple
@@ -20,16 +14,15 @@ from ..nfs3tools.comparison.values.long_values import apart
 from ..nfs3tools.comparison.verdict.differences import Comparison
 from ..nfs3tools.reporting.telling import of_difference
 from .cases import FolderTest
-from .test_compare import (
-    CHANGED, COUNTS, FIRST, Comparisons, Conversation, conversation_of)
+from .comparisons import Comparisons, Conversation, conversation_of
+from .scripts import CHANGED, EXAMPLES, FIRST
 
 H, VERIFIER = b'handle', b'verifier'
 FILE, FOLDER = fattr(REG, 5, 6), fattr(DIR, 7, 8)
 
 
 class Findings(Comparisons):
-    """Runs of tools/compare in the order that the runs have. The verdict in words, the last line,
-    is left out."""
+    """Runs of tools/compare in the order of the runs, without the verdict in words."""
 
     def compare(self, *words: str) -> tuple[int, list[str], str]:
         status, out, error = super().compare('--order', 'strict', *words)
@@ -38,8 +31,7 @@ class Findings(Comparisons):
     def differs(self, name: str, what: str, first: Conversation, second: Conversation,
                 *lines: str) -> None:
         """These lines are printed of an item that differs in two runs."""
-        self.put('a', first)
-        self.put('b', second)
+        self.put_both(first, second)
         found = [line for line in self.compare('a', 'b')[1] if line[4:].startswith(f'{name}=')]
         self.want(what, found, [*lines])
 
@@ -48,8 +40,7 @@ def names_of_hosts(place: Findings) -> None:
     """The names of hosts in replies to DUMP are any, with those of machines in credentials."""
     def run(host: bytes, folder: bytes) -> Conversation:
         return [call(1, MOUNT, 3, 2, b'')], [success(1, messages.mountlist([(host, folder)]))]
-    place.put('a', run(b'box', b'/a'))
-    place.put('b', run(b'another', b'/a'))
+    place.put_both(run(b'box', b'/a'), run(b'another', b'/a'))
     place.want('masked', place.compare('a', 'b')[0], 0)
     place.want('compared', [line for line in place.compare('--mask=-machines', 'a', 'b')[1]
                             if line.startswith(('  - ', '  + '))],
@@ -101,8 +92,7 @@ def data_of_files(place: Findings) -> None:
 
 
 def values_that_part(place: Findings) -> None:
-    """Where two values part and how much differs is what a comparison byte by byte says, and what
-    is shown of them is never equal."""
+    """Where two values part is what a comparison byte by byte says."""
     chance = random.Random(8)
     for _ in range(3_000):
         one = bytes(chance.choices(b'ab\0"', k=chance.choice((0, 1, 15, 16, 17, 40))))
@@ -128,8 +118,7 @@ def listed_string(content: bytes) -> str:
 
 
 def long_names(place: Findings) -> None:
-    """Names are printed readably, round the first byte that differs, and whole up to 60
-    characters."""
+    """Names are printed round the first byte that differs, whole up to 60 characters."""
     def linked(path: bytes, name: bytes = b'n') -> Conversation:
         return conversation_of([(10, dirop(H, name) + sattr() + opaque(path),
                                  failed(NOENT, wcc()))])
@@ -151,8 +140,7 @@ def long_names(place: Findings) -> None:
 
 
 def long_handles(place: Findings) -> None:
-    """A handle that stands for two is printed whole, and raw bytes are compared with the handles of
-    the other run in them."""
+    """A handle that stands for two is whole; raw bytes have the other run's handles."""
     one, two, other = bytes(range(64)), bytes(range(1, 65)), bytes(range(2, 66))
     def asked(first: bytes, second: bytes, acl: bytes, rest: bytes) -> Conversation:
         return [call(1, NFS, 3, 1, fh(first)), call(2, NFS, 3, 1, fh(second)),
@@ -253,8 +241,7 @@ NUMBERS = [
 
 
 def names_of_numbers(place: Findings) -> None:
-    """Numbers have the names that RFC 1813 and RFC 5531 give them, and modes are in octal. A LOOKUP
-    before each call keeps those of one row together."""
+    """Numbers have the names of the RFCs, and modes are in octal."""
     for side, run in enumerate('ab'):
         calls, replies = list[bytes](), list[bytes]()
         for xid, one in enumerate(NUMBERS):
@@ -272,8 +259,7 @@ def names_of_numbers(place: Findings) -> None:
 # --- Findings that say the same ---
 
 def asked_for(*files: tuple[bytes, int], more: int = 0) -> Conversation:
-    """LOOKUP of each file by its name in one folder, then GETATTR of each with its link count, and
-    `more` GETATTR of the first."""
+    """LOOKUP of each file, GETATTR of each with its link count, and more of the first."""
     return conversation_of([
         *((3, dirop(H, b'f%d' % at), ok(fh(handle), NOTHING, NOTHING))
           for at, (handle, _) in enumerate(files)),
@@ -282,10 +268,9 @@ def asked_for(*files: tuple[bytes, int], more: int = 0) -> Conversation:
 
 
 def equal_findings(place: Findings) -> None:
-    """Findings that say the same are one, with their number and the first place, unless all are
-    asked for."""
-    place.put('a', asked_for((b'1', 3), (b'2', 3), (b'3', 3), (b'4', 3), more=1))
-    place.put('b', asked_for((b'1', 2), (b'2', 2), (b'3', 2), (b'4', 1), more=1))
+    """Findings that say the same are one, with their number and first place."""
+    place.put_both(asked_for((b'1', 3), (b'2', 3), (b'3', 3), (b'4', 3), more=1),
+                   asked_for((b'1', 2), (b'2', 2), (b'3', 2), (b'4', 1), more=1))
     summary = 'fields that differ, and how often: obj.nlink of NFSPROC3_GETATTR 5'
     def where(record: int) -> str:
         return f'connection 1 server record {record} | connection 1 server record {record}'
@@ -297,8 +282,7 @@ def equal_findings(place: Findings) -> None:
     place.wants('all', 1, [*(line for record, file, nlink in every for line in (
         f'NFSPROC3_GETATTR reply ?/f{file}: {where(record)}', '  - obj.nlink=3',
         f'  + obj.nlink={nlink}')), summary], '--all')
-    place.put('a', asked_for((b'1', 3), more=2))
-    place.put('b', asked_for((b'1', 2), more=2))
+    place.put_both(asked_for((b'1', 3), more=2), asked_for((b'1', 2), more=2))
     place.wants('one path', 1, [f'3 replies of NFSPROC3_GETATTR ?/f0, first: {where(2)}',
                                 '  - obj.nlink=3', '  + obj.nlink=2', f'{summary[:-1]}3'])
 
@@ -330,8 +314,7 @@ ASKED_ALONE: list[tuple[int, bytes, str, Sequence[str]]] = [
 
 
 def arguments_of_one_run(place: Findings) -> None:
-    """A call that one run alone has is printed with its arguments, by hand of RFC 1813: not those
-    that say what follows or what is masked."""
+    """A call of one run alone has its arguments, but for those that say nothing."""
     null = [call(1, NFS, 3, 0)], [success(1)]
     place.put('a', null)
     for number, arguments, what, wanted in ASKED_ALONE:
@@ -345,20 +328,18 @@ def arguments_of_one_run(place: Findings) -> None:
                     [': '.join([heading % 'second', '; '.join(f'+{one}' for one in wanted)])],
                     '--brief')
     place.compare('--json', 'out.json', 'a', 'b')
-    found = json.loads(place.read('out.json') or b'')['findings'][0]['arguments']
+    found = place.json('out.json')['findings'][0]['arguments']
     place.want('json', [(one['label'], one['value'], one['name']) for one in found][1:4],
                [('offset', '5', None), ('count', '2', None), ('stable', '1', 'DATA_SYNC')])
 
 
 def calls_of_one_run_with_other_arguments(place: Findings) -> None:
-    """Two SETATTRs of one file that set something else are two findings, and WRITEs to it at other
-    places are one."""
+    """SETATTRs that set other values are several findings."""
     first = 3, dirop(H, b'x'), ok(fh(b'x'), NOTHING, NOTHING)
     more = [*((2, fh(b'x') + sattr(mode) + guard()) for mode in (0o600, 0o640, 0o640)),
             *((7, fh(b'x') + hyper(at) + word(1) + word(2) + opaque(b'a')) for at in range(3))]
     calls, replies = conversation_of([first, *((number, asked, b'') for number, asked in more)])
-    place.put('a', (calls[:1], replies[:1]))
-    place.put('b', (calls, replies[:1]))
+    place.put_both((calls[:1], replies[:1]), (calls, replies[:1]))
     found = [line for line in place.compare('a', 'b')[1][2:] if not line.startswith('  ')]
     only = 'only in the second run: '
     place.want('found', found, [f'{only}NFSPROC3_SETATTR ?/x: connection 1 client record 2',
@@ -369,13 +350,12 @@ def calls_of_one_run_with_other_arguments(place: Findings) -> None:
 
 
 def equal_findings_of_renamed_values(place: Findings) -> None:
-    """Handles that stand for several are folded by what is said of them, though each has values of
-    its own."""
+    """Handles that stand for several are folded by what is said."""
     def links(*handles: bytes) -> Conversation:
         return conversation_of((15, fh(b'from') + dirop(handle, b'a'), ok(NOTHING, wcc()))
                                for handle in handles)
-    place.put('a', links(b'1111', b'2222', b'3333', b'4444'))
-    place.put('b', links(b'5555', b'5555', b'5555', b'6666'))
+    place.put_both(links(b'1111', b'2222', b'3333', b'4444'),
+                   links(b'5555', b'5555', b'5555', b'6666'))
     place.wants('two', 1, [
         '2 calls of NFSPROC3_LINK ?/a, first: connection 1 client record 2 | connection 1 client '
         'record 2', '  - link.fh=32323232',
@@ -403,18 +383,17 @@ def the_first_twenty(place: Findings) -> None:
                    (number + 9, True))
 
 
-# --- Fields that are left out ---
+def of_attributes(number: int) -> Conversation:
+    """GETATTR and READDIRPLUS, whose attributes have a mode and a count of links."""
+    attributes = fattr(REG, 1, 0, nlink=number, mode=0o640 + number)
+    listing = messages.entries(FOLDER, bytes(8), [messages.entryplus(1, name, 0, attributes)
+                                                  for name in (b'a', b'b,c.')], is_end=True)
+    return conversation_of([(1, fh(H), ok(attributes)), (17, fh(H) + bytes(24), ok(listing))])
+
 
 def fields_left_out(place: Findings) -> None:
-    """Fields are left out of what is said by labels and names, of one procedure or of any. The
-    verdict stays, and they are counted."""
-    def run(number: int) -> Conversation:
-        attributes = fattr(REG, 1, 0, nlink=number, mode=0o640 + number)
-        listing = messages.entries(FOLDER, bytes(8), [messages.entryplus(1, name, 0, attributes)
-                                                      for name in (b'a', b'b,c.')], is_end=True)
-        return conversation_of([(1, fh(H), ok(attributes)), (17, fh(H) + bytes(24), ok(listing))])
-    place.put('a', run(1))
-    place.put('b', run(2))
+    """--ignore leaves out fields by label and name; they are counted."""
+    place.put_both(of_attributes(1), of_attributes(2))
     of_file, of_folder = (f'{name} reply: connection 1 server record {record} | connection 1 '
                           f'server record {record}'
                             for name, record in (('NFSPROC3_GETATTR', 1),
@@ -446,6 +425,11 @@ def fields_left_out(place: Findings) -> None:
                   'obj.nlink of NFSPROC3_GETATTR 1']
     place.wants('all', 1, everything, '--ignore', '*.entry.nlink,*.entry.mode', '--ignore',
                 '*.obj.nlink', '--ignore', 'NFSPROC3_GETATTR.mode')
+
+
+def words_of_ignore_that_are_none(place: Findings) -> None:
+    """A procedure or a field that is none is named, and refused."""
+    place.put_both(of_attributes(1), of_attributes(2))
     for bad, named in (('GETATTR.nlink', 'GETATTR'), ('*.nothing', 'nothing'),
                        ('NFSPROC3_GETATTR.dir.nlink', 'dir.nlink'),
                        ('NFSPROC3_GETATTR', 'NFSPROC3_GETATTR'),
@@ -457,27 +441,30 @@ def fields_left_out(place: Findings) -> None:
 
 # --- JSON ---
 
+def mounted(name: bytes, status: int, data: bytes, more: int = 0) -> Conversation:
+    """MNT, a LOOKUP with a status, a WRITE of some data, and NULLs."""
+    mounting = call(1, MOUNT, 3, 1, opaque(b'/m')), success(1, ok(fh(b'root'), messages.array([])))
+    looking = call(2, NFS, 3, 3,
+                   dirop(b'root', name)), success(2, failed(status, post_op_attr(FOLDER)))
+    writing = (call(3, NFS, 3, 7, fh(b'root') + hyper(1_000) + word(40) + word(2) + opaque(data)),
+               success(3, ok(wcc(), word(40), word(2), VERIFIER)))
+    null = [(call(4 + number, NFS, 3, 0), success(4 + number)) for number in range(more)]
+    return tuple(map(list, zip(mounting, looking, writing, *null)))
+
+
+def at(side: str, record: int) -> dict[str, object]:
+    return {'position': f'connection 1 {side} record {record}', 'frames': []}
+
+
+def finding(kind: str, procedure: str, path: str | None, *, is_call: bool = True,
+            **more: object) -> dict[str, object]:
+    return {'kind': kind, 'procedure': procedure, 'is_call': is_call, 'path': path,
+            'remark': '', 'differences': [], 'arguments': [], **more}
+
+
 def as_json(place: Findings) -> None:
     """A comparison as an object: verdict, mask, both runs, and each finding."""
-    def run(name: bytes, status: int, data: bytes,
-            more: int = 0) -> Conversation:
-        mounting = call(1, MOUNT, 3, 1,
-                        opaque(b'/m')), success(1, ok(fh(b'root'), messages.array([])))
-        looking = call(2, NFS, 3, 3,
-                       dirop(b'root', name)), success(2, failed(status, post_op_attr(FOLDER)))
-        writing = (call(3, NFS, 3, 7, fh(b'root') + hyper(1_000) + word(40) + word(2)
-                        + opaque(data)),
-                   success(3, ok(wcc(), word(40), word(2), VERIFIER)))
-        null = [(call(4 + number, NFS, 3, 0), success(4 + number)) for number in range(more)]
-        return tuple(map(list, zip(mounting, looking, writing, *null)))
-    place.put('a', run(b'x', 2, b'o' * 40, more=1))
-    place.put('b', run(b'x', 13, b'o' * 38))
-    def at(side: str, record: int) -> dict[str, object]:
-        return {'position': f'connection 1 {side} record {record}', 'frames': []}
-    def finding(kind: str, procedure: str, path: str | None, *, is_call: bool = True,
-                **more: object) -> dict[str, object]:
-        return {'kind': kind, 'procedure': procedure, 'is_call': is_call, 'path': path,
-                'remark': '', 'differences': [], 'arguments': [], **more}
+    place.put_both(mounted(b'x', 2, b'o' * 40, more=1), mounted(b'x', 13, b'o' * 38))
     status = {'field': 'status', 'label': 'status', 'first': '2', 'second': '13', 'remark': '',
               'names': ['NFS3ERR_NOENT', 'NFS3ERR_ACCES'], 'apart': None}
     data = {'field': 'data', 'label': 'data', 'first': '6f' * 40, 'second': '6f' * 38, 'remark': '',
@@ -504,13 +491,12 @@ def as_json(place: Findings) -> None:
                     second=at('client', 3), differences=[data]),
             finding('only', 'NFSPROC3_NULL', None, first=at('client', 4), second=None)]}
     place.want('status', place.compare('--mask', 'times,ids', '--json', 'out.json', 'a', 'b')[0], 1)
-    place.want('differ', json.loads(place.read('out.json') or b''), wanted)
+    place.want('differ', place.json('out.json'), wanted)
     place.compare('--mask', 'times,ids', '--ignore', '*.status', '--json', 'out.json', 'a', 'b')
-    place.want('left out', json.loads(place.read('out.json') or b''), {
-        **wanted, 'findings': wanted['findings'][1:], 'fields': wanted['fields'][1:],
-        'ignored': wanted['fields'][:1]})
+    place.want('left out', place.json('out.json'), {**wanted, 'findings': wanted[
+        'findings'][1:], 'fields': wanted['fields'][1:], 'ignored': wanted['fields'][:1]})
     place.want('status', place.compare('--mask', 'none', '--json', 'out.json', 'a', 'a')[0], 0)
-    place.want('same', json.loads(place.read('out.json') or b''), {
+    place.want('same', place.json('out.json'), {
         **wanted, 'verdict': 'same', 'position': None, 'mask': {},
         'order': {**wanted['order'], 'together': 4},
         'runs': [{**wanted['runs'][0], 'only': 0}] * 2, 'fields': [], 'findings': []})
@@ -519,94 +505,32 @@ def as_json(place: Findings) -> None:
 def json_of_recordings(place: Findings) -> None:
     """Findings have the numbers of their frames, and equal ones are all there."""
     place.want('status', place.compare('--json', 'out.json', FIRST, CHANGED)[0], 1)
-    found = json.loads(place.read('out.json') or b'')
+    found = place.json('out.json')
     place.want('runs', [(run['name'], run['calls'], run['connections'], run['missing'])
                         for run in found['runs']],
                [(FIRST, 103, 3, 0), (CHANGED, 103, 3, 0)])
     place.want('frames', [(finding['path'], finding['first']['frames'], finding['second']['frames'])
                           for finding in found['findings']],
                [('/mem', [21], [21])])
-    place.put('a', asked_for((b'1', 3), (b'2', 3), more=2))
-    place.put('b', asked_for((b'1', 2), (b'2', 2), more=2))
+    place.put_both(asked_for((b'1', 3), (b'2', 3), more=2), asked_for((b'1', 2), (b'2', 2), more=2))
     place.compare('--json', 'out.json', 'a', 'b')
-    place.want('each', [finding['first']['position']
-                        for finding in json.loads(place.read('out.json') or b'')['findings']],
-               [f'connection 1 server record {record}' for record in (3, 4, 5, 6)])
-
-
-def json_is_an_output(place: Findings) -> None:
-    """What begins as a recording or a capture, or is an input, is not replaced."""
-    place.put('a', asked_for((b'1', 3)))
-    place.write('text', b'text')
-    before = place.read('a')
-    for name in ('a', './a', FIRST):
-        status, out, error = place.compare('--json', name, 'a', 'a')
-        place.want(name, (status, out, 'is not replaced' in error), (2, [], True))
-    place.want('as it was', place.read('a'), before)
-    place.want('an old file', (place.compare('--json', 'text', 'a', 'a')[0],
-                               (place.read('text') or b'')[:1]), (0, b'{'))
-    place.want('no folder', place.compare('--json', 'absent/out.json', 'a', 'a')[:2], (3, []))
-
-
-def outputs_are_tried_before_the_work(place: Findings) -> None:
-    """A folder that is not there or a file that may not be written ends a comparison before it
-    reads a run, and so do two outputs that are one file, however it is named."""
-    place.write('text', b'text')
-    os.symlink('text', place.path('link'))
-    os.mkdir(place.path('folder'))
-    for words in (['--html', 'absent/x'], ['--junit', 'absent/x'], ['--json', 'folder'],
-                  ['--json', 'text/x']):
-        status, out, error = place.compare(*words, 'no run', 'no run')
-        place.want(' '.join(words), (status, out, words[1] in error, 'no run' in error),
-                   (3, [], True, False))
-    for words in (['--html', 'x', '--json', 'x'], ['--html', 'x', '--json', './x'],
-                  ['--json', 'text', '--junit', 'link'],
-                  ['--html', '-', '--json', '-'], ['--junit', '-', '--json', '/dev/stdout']):
-        status, out, error = place.compare(*words, 'no run', 'no run')
-        place.want(' '.join(words), (status, out, 'are one file' in error), (2, [], True))
-    place.want('what is there', (place.names(), place.read('text')),
-               (['folder', 'link', 'text'], b'text'))
-    os.chmod(place.path('text'), 0o444)
-    place.want('not to be written', (place.compare('--json', 'text', 'no run', 'no run')[0],
-                                     place.read('text')), (3, b'text'))
-    place.put('a', asked_for((b'1', 3)))
-    place.want('devices', place.compare('--json', '/dev/null', '--html', '/dev/null', 'a', 'a')[0],
-               0)
-
-
-def json_on_standard_output(place: Findings) -> None:
-    """`-` is standard output, which has the output alone: what is printed otherwise goes to
-    standard error."""
-    place.put('a', asked_for((b'1', 3)))
-    place.put('b', asked_for((b'1', 2)))
-    _, printed, _ = place.compare('a', 'b')
-    for option, begin in (('--json', '{'), ('--html', '<!DOCTYPE html>'), ('--junit', '<?xml')):
-        status, out, error = place.compare(option, '-', 'a', 'b')
-        told = [line for line in error.splitlines() if ' matched' not in line
-                and not COUNTS.match(line)]
-        place.want(option, (status, out[0].startswith(begin), told), (1, True, printed))
-    out = '\n'.join(place.compare('--json', '-', 'a', 'b')[1])
-    place.want('read again', json.loads(out)['verdict'], 'differ')
-    place.want('no file', '-' in place.names(), False)
+    place.want('each', [finding['first']['position'] for finding in place.json('out.json')[
+        'findings']], [f'connection 1 server record {record}' for record in (3, 4, 5, 6)])
 
 
 def each_error_names_its_run(place: Findings) -> None:
-    """Whichever of two runs cannot be read, its name is in the message."""
+    """Whichever of two runs cannot be read or is refused, its name is in the one line."""
     place.put('a', asked_for((b'1', 3)))
     place.write('text', b'no recording')
     place.write('empty', b'')
-    for name in ('text', 'empty', 'absent'):
+    place.write('bad', (EXAMPLES / 'bad_status.nfs3cap').read_bytes())
+    for name, told in (('text', ''), ('empty', ''), ('absent', ''),
+                       ('bad', 'connection 1 server record 1 byte 24: BadEnum\n')):
         for words in ((name, 'a'), ('a', name)):
             status, out, error = place.compare(*words)
-            place.want(f'{words}', (status, out, error.startswith(f'compare: {name}: '),
-                                    error.count('\n')),
-                       (3 if name == 'absent' else 2, [], True, 1))
+            place.want(f'{words}', (status, out, error.startswith(f'compare: {name}: {told}'),
+                                    error.count('\n')), (2 + (name == 'absent'), [], True, 1))
 
 
-class FindingsTest(FolderTest, make=Findings, tests=[
-        names_of_hosts, data_of_files, values_that_part, long_names, long_handles, names_of_numbers,
-        equal_findings, equal_findings_of_one_run, arguments_of_one_run,
-        calls_of_one_run_with_other_arguments, equal_findings_of_renamed_values, the_first_twenty,
-        fields_left_out, as_json, json_of_recordings, json_is_an_output,
-        outputs_are_tried_before_the_work, json_on_standard_output, each_error_names_its_run]):
+class FindingsTest(FolderTest, make=Findings):
     """Each test has a folder of its own."""

@@ -1,10 +1,4 @@
-"""`tools/verdicts --follow` against plain `tools/verdicts`, on recordings made at random.
-
-Of each seed a recording is made of some connections of random traffic: frames are lost, come later
-or again, and have flipped bits; times pass between them; some lack their beginning. A row of
---follow is to be one of the plain tool. If it is not, it must have been printed early, by a rule of
-the manual page, and then it is to be the row that the plain tool prints of the frames up to there.
-"""
+"""`tools/verdicts --follow` against plain `tools/verdicts`, on random recordings."""
 import collections
 import contextlib
 import functools
@@ -36,11 +30,8 @@ LATER = ' came after it was judged'
 Row = tuple[object, ...]
 
 
-# --- Recordings at random ---
-
 class Make(typing.NamedTuple):
-    """How a recording is made: by which choices, and whether each xid has one call and one
-    reply."""
+    """How a recording is made, and whether each xid has one call and one reply."""
     chance: random.Random
     seed: int
     is_plain: bool
@@ -67,8 +58,7 @@ class Make(typing.NamedTuple):
         return frames
 
     def connection(self, number: int) -> list[bytes]:
-        """The frames of a connection, of which the replies are some rounds behind the calls. It is
-        closed, reset or open at the end."""
+        """A connection whose replies are some rounds behind, with any end."""
         chance, waiting = self.chance, collections.deque[list[bytes]]()
         talk = Talk(700 + number, first=(chance.randrange(1 << 32), chance.randrange(1 << 32)))
         frames, first_xid = talk.opened(), chance.randrange(1 << 31)
@@ -166,8 +156,7 @@ def followed(program: str, recording: bytes, options: Options) -> list[Said]:
 
 
 def row(verdict: Verdict) -> Row:
-    """What is printed of a verdict, without the connection's number. A fault stands for the numbers
-    of messages, of which more may come."""
+    """What is printed of a verdict, without numbers that may change."""
     counts = (verdict.calls, verdict.replies) if verdict.state != 'refused' else (None, None)
     return (verdict.state, verdict.client, verdict.server, *counts, verdict.message)
 
@@ -200,8 +189,7 @@ def prefix(recording: bytes, number: int) -> bytes:
 
 
 def is_over(recording: bytes, one: Said) -> bool:
-    """Whether the connection of a verdict is closed by its frame: by both ends, reset, or by one
-    end and then nothing for ten seconds. Then segments of it come later."""
+    """Whether a connection is closed by its frame, and segments come later."""
     assert one.number is not None
     segments, flags, fins, last, now, is_later = Segments(), 0, set[bytes](), 0, 0, False
     for frame in Recording(Source(io.BytesIO(recording))).frames():
@@ -219,8 +207,7 @@ def is_over(recording: bytes, one: Said) -> bool:
 
 def why_early(program: str, recording: bytes, options: Options, one: Said, plain: list[Verdict],
               is_any_skipped: bool) -> str | None:
-    """Why a row that the plain tool does not print is right as the manual page has it; None if it
-    is not."""
+    """Why a row that the plain tool does not print is right by the manual page, or None."""
     verdict, is_open = one.verdict, one.verdict.state == 'refused'
     others = [other for other in plain if (other.client, other.server)
               == (verdict.client, verdict.server)]
@@ -278,8 +265,8 @@ class FollowedTest(SeedsTest):
 
     def test_whole(self) -> None:
         """Connections that are judged as a whole."""
-        self.check(300, functools.partial(compared, is_forgetting=False))
+        self.check(120, functools.partial(compared, is_forgetting=False))
 
     def test_in_sections(self) -> None:
         """Connections that are judged in sections, of which those without a fault are forgotten."""
-        self.check(300, functools.partial(compared, is_forgetting=True))
+        self.check(120, functools.partial(compared, is_forgetting=True))

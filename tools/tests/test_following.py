@@ -65,7 +65,7 @@ class Fed:
         return re.split('  +', line.decode()) if newline else []
 
     def ended(self) -> tuple[int, list[list[str]], str]:
-        """Closes the pipe. Returns the status, the cells of the other lines, and standard error."""
+        """Closes the pipe. Returns the status, the other lines, and standard error."""
         self.input.close()
         self.process.stdin = None
         lines = []
@@ -112,8 +112,7 @@ def written(number: int, size: int, committed: int = 0) -> bytes:
 # --- When lines come ---
 
 def closed_connections(tools: Tools) -> None:
-    """The line of a closed connection comes while the pipe is open: after FIN of both sides, in any
-    order of the last segments, and after RST."""
+    """The line of a closed connection comes at once, by FIN and by RST."""
     fed = Fed(tools)
     tools.want('heads', fed.line(), HEADS)
     fed.send(whole())
@@ -142,8 +141,7 @@ def closed_connections(tools: Tools) -> None:
 
 
 def bytes_that_never_come(tools: Tools) -> None:
-    """A closed connection that lacks bytes is judged after ten seconds of the recording, or eleven,
-    without a segment of it."""
+    """A closed connection that lacks bytes is judged after ten seconds."""
     lost, fed = whole(), Fed(tools)
     fed.line()
     fed.send([*lost[:4], *lost[5:]], 1)
@@ -161,8 +159,7 @@ def bytes_that_never_come(tools: Tools) -> None:
 
 
 def faults_of_open_connections(tools: Tools) -> None:
-    """By the rules of the manual page: after a second of the recording, after a second without
-    input, and at 65,536 bytes."""
+    """After a second of either clock, and at 65,536 bytes."""
     fault = 'server record 1 byte 20: BadEnum, frame %d'
     fed, talk = Fed(tools), Talk()
     fed.line()
@@ -182,8 +179,7 @@ def faults_of_open_connections(tools: Tools) -> None:
 
 
 def what_is_no_fault_yet(tools: Tools) -> None:
-    """A record that is not whole yet, and a reply whose call was recorded later. A reply without a
-    call is a fault at the second look."""
+    """A record that is not whole, and a reply whose call comes later."""
     fed, talk = Fed(tools), Talk()
     fed.line()
     late = talk.opened() + [talk.sent(0, ALL[0]), talk.sent(1, ALL[1][:-9])]
@@ -202,8 +198,7 @@ def what_is_no_fault_yet(tools: Tools) -> None:
 # --- How it ends ---
 
 def interrupted(tools: Tools) -> None:
-    """SIGINT and SIGTERM: connections that are open are judged, and the sums are printed. Another
-    ends it at once."""
+    """A signal judges what is open, and prints the sums."""
     for number in (signal.SIGINT, signal.SIGTERM):
         fed, talk = Fed(tools), Talk(701)
         fed.line()
@@ -237,8 +232,7 @@ def files_that_grow(tools: Tools) -> None:
 
 
 def what_is_refused(tools: Tools) -> None:
-    """What needs the whole recording, or several; a capture; a file that is not there or is
-    damaged."""
+    """What needs the whole recording, and what is none."""
     tools.write('a.pcap', pcap(whole()))
     tools.write('b.pcap', pcap(whole()) + b'\xff' * 16)
     said = '--follow takes one recording, and none of -j, --junit, --html and --filter'
@@ -256,16 +250,14 @@ def what_is_refused(tools: Tools) -> None:
                                 ('-', pcap([]) + b'\xff' * 16,
                                  'the recording is damaged after frame 0: frame 1 claims '
                                  '4294967295 bytes')):
-        status, out, _ = tools.tool('verdicts', '--follow', '--program', tools.program, name,
-                                    stdin=content)
+        status, out, _ = tools.tool('verdicts', '--follow', name, stdin=content)
         rows = [re.split('  +', one) for one in out.splitlines()]
         tools.want(line, (status, rows[1:]),
                    (1, [[name, '-', '-', '-', '-', '-', line], [sums(0, 0, 0, 1)]]))
 
 
 def lines_of_json(tools: Tools) -> None:
-    """With --json - a line comes as soon as a connection is closed or has a fault; the counts and
-    the status at the end are those of the plain form, and -q leaves out what is `ok`."""
+    """A line comes at once; counts and status are those of the plain form."""
     tools.want('a file', (tools.tool('verdicts', '--follow', '--json', 'x', '-')[0],
                           tools.exists('x')), (2, False))
     frames = whole()
@@ -289,42 +281,24 @@ def lines_of_json(tools: Tools) -> None:
 
 
 def the_same_verdicts(tools: Tools) -> None:
-    """On the recordings of the examples, cut at the front or not: the rows of the tool without
-    --follow, in another order, and the same words on standard error."""
+    """The rows and the words of the plain tool on all examples, in any order."""
     for path in sorted((TOP / 'examples').glob('*.pcap')):
-        content = path.read_bytes()
-        for options, begun in (([], 0), ([], 40), (['--port', '2049,20048'], 0)):
-            recording = content[:24] + content[at_frame(content, begun):]
-            named = ['--program', tools.program, *options]
-            answers = [tools.tool('verdicts', *named, *words, '-', stdin=recording)
-                       for words in ([], ['--follow'])]
-            (status, out,
-             error), found = [(status, sorted(re.split('  +', line) for line in out.splitlines()),
-                               sorted(error.splitlines()))
-                              for status, out, error in answers]
-            tools.want(f'{path.name} {options} {begun}', found, (status, out, error))
-
-
-def at_frame(recording: bytes, number: int) -> int:
-    """Where the frame with an index begins in a recording in little-endian pcap, or the last
-    one."""
-    at = 24
-    for _ in range(number):
-        size, = struct.unpack_from('<I', recording, at + 8)
-        at = at + 16 + size if at + 16 + size < len(recording) else at
-    return at
+        plain, followed = ((status, sorted(re.split('  +', line) for line in out.splitlines()),
+                            sorted(error.splitlines())) for status, out, error in (
+            tools.tool('verdicts', *words, '-', stdin=path.read_bytes())
+            for words in ([], ['--follow'])))
+        tools.want(path.name, followed, plain)
 
 
 # --- How much is kept ---
 
 def many_short_connections(tools: Tools) -> None:
-    """2,000 connections of 210 KB one after the other: 64 MB of memory and 1 MB of the temporary
-    file are enough."""
+    """Memory and the temporary file stay small."""
     fed, size = Fed(tools), 0
     fed.line()
     content = stream(write_of(number, 30_000) for number in range(1, 8)), stream(
         written(number, 30_000) for number in range(1, 8))
-    for number in range(2_000):
+    for number in range(400):
         talk = Talk(1_000 + number)
         frames = [*talk.opened(), *(talk.sent(0, content[0][at:at + 60_000])
                                     for at in range(0, len(content[0]), 60_000))]
@@ -333,28 +307,25 @@ def many_short_connections(tools: Tools) -> None:
         size = max(size, fed.stored()) if not number % 100 else size
     tools.want('memory', fed.memory() < 64_000 or fed.memory(), True)
     tools.want('the temporary file', size < 1 << 20 or size, True)
-    tools.want('the end', fed.ended()[:2], (0, [[sums(2_000)]]))
+    tools.want('the end', fed.ended()[:2], (0, [[sums(400)]]))
 
 
 def a_long_connection(tools: Tools) -> None:
-    """300 MB of one connection, with and without its beginning: 64 MB of memory, and of the
-    temporary file four times the 8 MB that are judged at once. A fault then has the number of its
-    record in the whole stream, and that of its frame. A call whose reply comes 300 MB later is not
-    forgotten."""
+    """Memory stays small, a fault has its numbers, and late replies their calls."""
     for words, first in (([], 0), ([], 4)):
         fed, talk, size = Fed(tools, *words), Talk(), 0
         fed.line()
         fed.send([*talk.opened(), talk.sent(0, stream([call(7_000_000, NFS, 3, 0)]))][first:])
-        for number in range(1, 5_001):
+        for number in range(1, 1_201):
             frames = [talk.sent(0, fragment(write_of(number, 60_000))),
                       talk.sent(1, fragment(written(number, 60_000)))]
             fed.send(frames, 1 + number / 100)
             size = max(size, fed.stored()) if not number % 50 else size
         tools.want('no line', fed.line(0.1), [])
         late = [] if first else [success(7_000_000)]
-        fed.send([talk.sent(0, stream([write_of(5_001, 5)])),
-                  talk.sent(1, stream([*late, written(5_001, 5, 3)]))])
-        calls = 5_001 + len(late)
+        fed.send([talk.sent(0, stream([write_of(1_201, 5)])),
+                  talk.sent(1, stream([*late, written(1_201, 5, 3)]))])
+        calls = 1_201 + len(late)
         tools.want('a fault', fed.line(),
                    row(1, 700, calls, calls,
                        f'server record {calls} byte 40: BadEnum, frame {fed.frames}'))
@@ -364,12 +335,11 @@ def a_long_connection(tools: Tools) -> None:
 
 
 def bytes_that_are_forgotten(tools: Tools) -> None:
-    """At random: what is not forgotten reads as it was appended, and the temporary file has no more
-    than twice the most that was kept."""
+    """What is not forgotten reads as it was, and the file is used again."""
     chance, spool = random.Random(7), Spool()
     streams = [(Stored(spool), bytearray()) for _ in range(5)]
     dropped, most, largest = [0] * 5, 0, 0
-    for step in range(3_000):
+    for step in range(1_000):
         index = chance.randrange(5)
         stored, content = streams[index]
         piece = chance.randbytes(chance.choice([10, 1_000, 70_000]))
@@ -391,8 +361,5 @@ def bytes_that_are_forgotten(tools: Tools) -> None:
     spool.close()
 
 
-class FollowingTest(FolderTest, make=Tools, tests=[
-        closed_connections, bytes_that_never_come, faults_of_open_connections, what_is_no_fault_yet,
-        interrupted, files_that_grow, what_is_refused, lines_of_json, the_same_verdicts,
-        many_short_connections, a_long_connection, bytes_that_are_forgotten]):
+class FollowingTest(FolderTest, make=Tools):
     """Each test has a folder of its own."""

@@ -1,6 +1,4 @@
-"""Tests of the formats of recordings and of the layers of their frames, which `tools/from_pcap` and
-the other tools read alike.
-"""
+"""Tests of the formats of recordings and of the layers of their frames."""
 import bz2
 import gzip
 import lzma
@@ -13,7 +11,7 @@ import sys
 import typing
 
 from examples.packets import ACK, CLIENT, SERVER, SYN, Talk, datagram, ethernet, pcap
-from tests.shared.running import begin, ended
+from tests.shared.running import ended
 
 from ..nfs3tools.recordings.container import capture_of
 from ..nfs3tools.recordings.taken import NotTaken
@@ -26,8 +24,7 @@ from .scripts import ALL, TOP, Tools, packed, taken_of, whole
 # --- Recordings ---
 
 def recordings_of_all_kinds(tools: Tools) -> None:
-    """pcap in both byte orders and units of time, pcapng with sections, interfaces and each kind of
-    packet, gzip."""
+    """Both orders and units of pcap, all packets of pcapng, and gzip."""
     frames = whole()
     for order in '<>':
         tools.taken('pcap ' + order, pcap(frames, order=order), [ALL])
@@ -64,9 +61,7 @@ if shutil.which('zstd'):
 
 
 def compressed_recordings(tools: Tools) -> None:
-    """Recordings and captures by each packer, also in several pieces. One that is cut anywhere, or
-    that goes on in another way, is never whole, nor is one in which a bit is another, unless the
-    bit says nothing."""
+    """By each packer; one that is cut or damaged is never taken as whole."""
     content, several = pcap(whole()), pcapng(whole())
     for name, pack in PACKERS.items():
         packed_one = pack(content)
@@ -107,8 +102,7 @@ def taken_as_whole(recording: bytes) -> bytes | None:
 
 
 def what_is_not_decompressed(tools: Tools) -> None:
-    """A stream of xz that asks for much memory is refused. If zstd is not there or is killed, that
-    is told."""
+    """A large window is refused, and a zstd that dies is told."""
     large = lzma.compress(pcap(whole()), filters=[{'id': lzma.FILTER_LZMA2, 'dict_size': 1 << 30}])
     tools.refused('a window of 1 GB', large,
                   'the compressed file is damaged: Memory usage limit exceeded')
@@ -147,8 +141,7 @@ def times(tools: Tools) -> None:
 
 
 def times_past_63_bits(tools: Tools) -> None:
-    """A time that does not fit 63 bits of nanoseconds is unknown: by its number, by its unit and by
-    its offset."""
+    """A time that does not fit 63 bits of nanoseconds is unknown."""
     frames, most, year = whole(), (1 << 63) - 1, 31_536_000
     for what, head, number, time in (
             ('the last that fits', interface(unit=9), most, most),
@@ -170,8 +163,7 @@ def times_past_63_bits(tools: Tools) -> None:
 
 
 def empty_gzip_members(tools: Tools) -> None:
-    """Any number of empty members before, between and after those with bytes cost what their bytes
-    cost."""
+    """Any number of empty members costs what their bytes cost."""
     content, empty = pcap(whole()), gzip.compress(b'')
     begin = os.times()
     for size in (1, 700, len(content)):
@@ -193,8 +185,7 @@ def in_member(content: bytes, size: int) -> bytes:
 
 
 def recordings_that_end_early(tools: Tools) -> None:
-    """A recording that is cut, damaged, or none. What is before the damage is taken, and no memory
-    for what a length claims."""
+    """What is before the damage is taken, whatever a length claims."""
     frames, cut = whole(), 'in part: the recording ends inside a frame (frame 15)'
     plain, blocks, packed_whole = pcap(frames), pcapng(frames), gzip.compress(pcap(frames))
     last = len(frames[-1])
@@ -211,6 +202,12 @@ def recordings_that_end_early(tools: Tools) -> None:
     claim = struct.pack('<4I', 1, 0, 0xffffffff, 0xffffffff)
     claimed = 'the recording is damaged after frame 15: frame 16 claims 4294967295 bytes'
     tools.told('a frame of 4 GB', plain + claim + frames[0], [ALL], [claimed])
+
+
+def blocks_that_are_damaged(tools: Tools) -> None:
+    """What is before a damaged block of pcapng is taken, and the damage is told."""
+    frames = whole()
+    blocks = pcapng(frames)
     for what, damage, words in (
             ('a block of 4 GB', struct.pack('<3I', 6, 0xfffffffc, 0),
              'a block claims 4294967292 bytes'),
@@ -230,6 +227,10 @@ def recordings_that_end_early(tools: Tools) -> None:
         told = taken_of(blocks + damage + enhanced(frames[0]))
         tools.want(what, (b''.join(capture_of(told.pairs())),
                           words in (told.damage or '') or told.damage), (packed(ALL), True))
+
+
+def recordings_that_are_none(tools: Tools) -> None:
+    """What is no recording is refused with its reason."""
     for what, recording, message in (
             ('nothing', b'', 'it is empty'),
             ('text', b'no recording', 'it is neither pcap nor pcapng'),
@@ -238,7 +239,7 @@ def recordings_that_end_early(tools: Tools) -> None:
             ('xz', b'\xfd7zXZ\0\0', 'the compressed file is cut short'),
             ('zstd', b'\x28\xb5\x2f\xfd', ''),
             ('lz4', b'\x04\x22\x4d\x18', 'it is compressed by lz4'),
-            ('a magic alone', plain[:4], 'its header is cut short')):
+            ('a magic alone', pcap([])[:4], 'its header is cut short')):
         tools.refused(what, recording, message) if what != 'a magic alone' else tools.want(
             what, message in (taken_of(recording).damage or ''), True)
 
@@ -310,8 +311,5 @@ def internet_layers(tools: Tools) -> None:
                tools.taken('a TCP header that lies', pcap(lying + whole()[4:5]), [ALL])[-1], told)
 
 
-class FormatsTest(FolderTest, make=Tools, tests=[
-        recordings_of_all_kinds, compressed_recordings, what_is_not_decompressed, times,
-        times_past_63_bits, empty_gzip_members, recordings_that_end_early, link_layers,
-        internet_layers]):
+class FormatsTest(FolderTest, make=Tools):
     """Each test has a folder of its own."""

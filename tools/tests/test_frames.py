@@ -1,8 +1,4 @@
-"""Tests of frames: as positions of `tools/where`, `tools/explain` and `tools/cut`, and as the
-recording that `tools/cut` writes.
-
-What needs tshark is skipped, with a word, if tshark is not there.
-"""
+"""Tests of frames as positions, and of the recordings that `tools/cut` writes."""
 import json
 import os
 import shutil
@@ -20,7 +16,7 @@ from ..nfs3tools.recordings.extract import frames_of
 from ..nfs3tools.shared.places import Place
 from .cases import FolderTest
 from .recordings import cooked, enhanced, fragments, fragments_6, interface, part_of, section
-from .scripts import ALL, CALLS, REPLIES, TOP, Tools, packed, stream, sums, taken_of, whole
+from .scripts import ALL, CALLS, FIRST, REPLIES, TOP, Tools, packed, stream, sums, taken_of, whole
 
 EXAMPLE = "(as in 'connection 1 server record 7 byte 24')"
 # In `whole` the calls are in the frames 4 to 8, each with a fifth of the bytes: 344 of records of
@@ -38,8 +34,7 @@ def tool(tools: Tools, name: str, *words: str) -> tuple[int, list[str], str]:
 
 def extract(frames: Sequence[bytes], numbers: Sequence[int], link: int = 1,
             unit: int = 1_000) -> bytes:
-    """A recording of some frames of those that `pcap` writes one each microsecond or nanosecond,
-    numbered from 1."""
+    """A recording of some frames of those that `pcap` writes, numbered from 1."""
     header = struct.pack('<IHHiIII', 0xa1b2c3d4 if unit == 1_000 else 0xa1b23c4d, 2, 4, 0, 0,
                          1 << 18, link)
     return header + b''.join(struct.pack('<IIII', 1, number - 1, len(frames[number - 1]),
@@ -118,6 +113,30 @@ def words_of_a_position(tools: Tools) -> None:
                        (2, [], f'{name}: no position: {text} {EXAMPLE}\n'))
 
 
+def places_that_are_not_there(tools: Tools) -> None:
+    """Each tool says which place is not there, of a recording and of a capture."""
+    tools.write('a.pcap', pcap(whole()))
+    tools.write('a', packed(ALL))
+    for place, told in (('connection 1 client record 40',) * 2, ('connection 1 client record 0',)
+                        * 2, ('connection 2 client record 1 byte 0', 'connection 2'),
+                        ('connection 0 client record 1', 'connection 0')):
+        for name, *words in (('where', 'a.pcap', place), ('explain', 'a.pcap', place),
+                             ('explain', 'a', place), ('cut', 'a.pcap', place, 'out')):
+            tools.want(f'{name} {words}', tool(tools, name, *words),
+                       (1, [], f'{name}: there is no {told}\n'))
+    place = 'connection 1 client record 1 byte 41'
+    for name in ('where', 'explain'):
+        tools.want(f'{name} {place}', tool(tools, name, 'a.pcap', place),
+                   (1, [], f'{name}: there is no {place}: the body is shorter\n'))
+    for byte in (8, 15, 999_999):
+        tools.want(f'where {byte}', tool(tools, 'where', 'a.pcap', f'file {byte}'), (
+            1,
+            [], f'where: byte {byte} of the capture is not of a stream, so no frame carries it\n'))
+    for name in ('a', 'a.pcap'):
+        tools.want(f'explain {name}', tool(tools, 'explain', name, 'file 999999'),
+                   (1, [], 'explain: the capture has no byte 999999\n'))
+
+
 # --- As a recording ---
 
 def parts_of(frames: Sequence[bytes], parts: dict[int, tuple[int, int]]) -> list[bytes]:
@@ -127,8 +146,7 @@ def parts_of(frames: Sequence[bytes], parts: dict[int, tuple[int, int]]) -> list
 
 
 def frames_of_the_records(tools: Tools) -> None:
-    """OUT.pcap has the frames of SYN, and those of the call and of its reply without the bytes of
-    other records, with their times, in both units of time."""
+    """The frames of SYN, and those of the exchange without other records."""
     frames = [*whole(port=699), *whole()]
     for magic, unit in ((0xa1b2c3d4, 1_000), (0xa1b23c4d, 1)):
         for order in '<>':
@@ -149,7 +167,7 @@ def frames_of_the_records(tools: Tools) -> None:
             os.remove(tools.path('out.pcap'))
     tools.write('a.pcap', pcap(frames))
     with open(tools.path('a.pcap'), 'rb') as source:
-        tools.want('standard input', tools.tool('cut', '--program', tools.program, '-',
+        tools.want('standard input', tools.tool('cut', '-',
                                                 'frame 20', 'out.pcap', stdin=source)[0], 0)
     # (the records 8 to 16, from byte 308 to 704 of the calls, and from 196 to 448 of the replies)
     parts = parts_of(frames, {19: (308, 344), 21: (0, 16), 24: (196, 219), 26: (0, 10)})
@@ -166,8 +184,7 @@ def frames_of_the_records(tools: Tools) -> None:
 
 
 def parts_and_pcapng(tools: Tools) -> None:
-    """Frames are numbered through all parts; pcapng has units of its own, and may have frames of
-    several link types."""
+    """Frames are numbered through all parts; pcapng has units of its own."""
     frames = whole()
     tools.write('run.pcap0', pcap(frames[:6]))
     tools.write('run.pcap1', pcap(frames)[:24] + pcap(frames)[len(pcap(frames[:6])):])
@@ -199,9 +216,7 @@ def parts_and_pcapng(tools: Tools) -> None:
 
 
 def datagrams_in_fragments(tools: Tools) -> None:
-    """Of a datagram that came in fragments all frames are taken as they are, though the last alone
-    completed it, and none of another one. That other records are in it is said, and the status
-    1."""
+    """Of a datagram all fragments are taken as they are, and that is said."""
     for cut_up, hosts in ((fragments, ('192.0.2.7', '192.0.2.1')),
                           (fragments_6, ('2001:db8::7', '2001:db8::1'))):
         talk = Talk(hosts=hosts)
@@ -226,8 +241,7 @@ def datagrams_in_fragments(tools: Tools) -> None:
 
 
 def exchanges_in_the_extract(tools: Tools) -> None:
-    """What `calls` says of an exchange of a real recording it says of OUT, but for paths that are
-    not there; and `verdicts` judges OUT."""
+    """`calls` says the same of OUT as of the recording, and it is judged."""
     for name in ('ganesha_a', 'concurrent_a'):
         recording = str(TOP / f'examples/{name}.pcap')
         known = listed(tools, recording)
@@ -239,15 +253,14 @@ def exchanges_in_the_extract(tools: Tools) -> None:
             found = [other for other in listed(tools, 'out.pcap')
                      if comparable(other) == comparable(one)]
             tools.want('calls of ' + place, len(found), 1)
-            judged = tools.tool('verdicts', '--program', tools.program,
-                                'out.pcap')[1].splitlines()[-1]
+            judged = tools.tool('verdicts', 'out.pcap')[1].splitlines()[-1]
             tools.want('verdicts of ' + place, (judged, judged.endswith(', 0 errors')),
                        (lines[-1], True))
             os.remove(tools.path('out.pcap'))
 
 
 def listed(tools: Tools, name: str) -> list[dict[str, Any]]:
-    out = tools.tool('calls', '--program', tools.program, '--json', name)[1]
+    out = tools.tool('calls', '--json', name)[1]
     found: list[dict[str, Any]] = json.loads(out)['calls']
     return found
 
@@ -258,9 +271,8 @@ def comparable(one: dict[str, Any]) -> list[object]:
 
 
 def with_origins(tools: Tools) -> None:
-    """The frames of the exchanges that gave the handles are there, too, so that OUT has the whole
-    path."""
-    recording = str(TOP / 'examples/ganesha_a.pcap')
+    """The exchanges that gave the handles are there, so OUT has the whole path."""
+    recording = FIRST
     one = next(one for one in listed(tools, recording) if one['procedure'] == 'NFSPROC3_READ')
     status, lines, _ = tool(tools, 'cut', '--origins', recording,
                             f'frame {one["frame"]}', 'out.pcap')
@@ -280,8 +292,7 @@ def records_at_fault(tools: Tools) -> None:
 
 
 def openings_that_do_not_fit(tools: Tools) -> None:
-    """If the records are so far from SYN that they can be read only without it, its frames are left
-    out."""
+    """Frames of SYN are left out if they are too far from the records."""
     talk = Talk()
     opened = talk.opened()
     talk.next = [1_000 - 90_000, 5_000 - 90_000]  # as 4 GiB later, but for 90 kB
@@ -301,49 +312,9 @@ def openings_that_do_not_fit(tools: Tools) -> None:
         tools.want('frames', found[1].content == extract(frames, numbers), True)
 
 
-def outputs_that_are_refused(tools: Tools) -> None:
-    """A recording is never replaced, a capture has no frames, and OUT is no pcapng."""
-    tools.write('a.pcap', pcap(whole()))
-    shutil.copy(TOP / 'examples/null.nfs3cap', tools.path('b'))
-    shutil.copy(TOP / 'examples/null.nfs3cap', tools.path('c.pcap'))
-    tools.write('old.pcap', pcap([]))
-    place = 'connection 1 client record 1'
-    for words, status, told in ((('a.pcap', place, 'a.pcap'),
-                                 2, 'a.pcap is an input, and is not replaced'),
-                                (('a.pcap', place, 'old.pcap'),
-                                 2, 'old.pcap is a recording, and is not replaced'),
-                                (('a.pcap', place, 'c.pcap'),
-                                 2, 'c.pcap is a capture, and is not replaced'),
-                                (('b', place, 'new.pcap'), 2,
-                                 'b is a capture, which has no frames'),
-                                (('a.pcap', place, 'new.pcapng'),
-                                 2, 'new.pcapng: OUT may be a .pcap, and no .pcapng'),
-                                (('a.pcap', 'connection 9 client record 1', 'new.pcap'),
-                                 1, 'there is no connection 9'),
-                                (('absent', place, 'new.pcap'),
-                                 3, 'absent: No such file or directory')):
-        tools.want(told, tool(tools, 'cut', *words), (status, [], f'cut: {told}\n'))
-    tools.want('what is there', tools.names(), ['a.pcap', 'b', 'c.pcap', 'old.pcap'])
-
-
-@unittest.skipUnless(shutil.which('tshark'), 'tshark is not there')
-def as_tshark_reads_it(tools: Tools) -> None:
-    """tshark finds the call and its reply in OUT, with their times."""
-    recording = str(TOP / 'examples/ganesha_a.pcap')
-    tools.want('cut', tool(tools, 'cut', recording, 'frame 176', 'out.pcap')[0], 0)
-    fields = ['-T', 'fields', '-e', 'rpc.msgtyp', '-e', 'rpc.xid', '-e', 'frame.time_epoch',
-              '-e', 'nfs.status3']
-    there, here = (ended(['tshark', '-n', '-r', name, '-Y', choice, *fields],
-                         tools.folder).out.decode() for name,
-                   choice in (('out.pcap', 'rpc'),
-                              (recording, 'rpc && (frame.number == 176 || frame.number == 177)')))
-    tools.want('messages', (there, len(there.splitlines())), (here, 2))
-
-
 @unittest.skipUnless(shutil.which('tshark'), 'tshark is not there')
 def cuts_as_tshark_reads_them(tools: Tools) -> None:
-    """tshark finds the call and its reply in each cut, and nothing else, though in the recording
-    they begin and end inside segments; their checksums are right."""
+    """tshark finds the exchange alone in OUT, with right checksums."""
     v6 = '2001:db8::7', '2001:db8::1'
     several = {
         'Ethernet': pcap(whole()), 'IPv6': pcap(whole(hosts=v6)),
@@ -372,8 +343,7 @@ def cuts_as_tshark_reads_them(tools: Tools) -> None:
 
 
 def large_messages(**options: Any) -> list[bytes]:
-    """A connection with three WRITEs of 20,000 bytes and their replies, in segments of 1,448
-    bytes."""
+    """Three WRITEs of 20,000 bytes and their replies, in segments."""
     calls = [call(xid, NFS, 3, 7, fh(b'h') + struct.pack('>QII', 0, 20_000, 2)
                   + opaque(bytes(20_000)))
              for xid in (1, 2, 3)]
@@ -387,9 +357,5 @@ def large_messages(**options: Any) -> list[bytes]:
     return [part_of(frame, 0, len(frame)) for frame in (*frames, *talk.closed())]
 
 
-class FramesTest(FolderTest, make=Tools, tests=[
-        records_of_a_frame, frames_without_a_record, words_of_a_position, frames_of_the_records,
-        parts_and_pcapng, datagrams_in_fragments, exchanges_in_the_extract, with_origins,
-        records_at_fault, openings_that_do_not_fit, outputs_that_are_refused, as_tshark_reads_it,
-        cuts_as_tshark_reads_them]):
+class FramesTest(FolderTest, make=Tools):
     """Each test has a folder of its own."""

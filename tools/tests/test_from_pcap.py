@@ -1,8 +1,4 @@
-"""Tests of how the streams of recordings are put together, which `tools/from_pcap` and the other
-tools do alike.
-
-What needs tshark is left out, with a word, if tshark is not there.
-"""
+"""Tests of how the streams of recordings are put together, alike for all tools."""
 import itertools
 import lzma
 import os
@@ -67,8 +63,7 @@ def datagrams_in_fragments(tools: Tools) -> None:
 
 
 def repeated_last_fragments(tools: Tools) -> None:
-    """Repetitions of a fragment cost what their bytes cost, and a datagram of too many is given up
-    and told."""
+    """Repetitions cost what their bytes cost; too many are given up and told."""
     last = ethernet(fragments(datagram(CLIENT, SERVER, bytes(65_508)), 65_504)[-1])
     begin = os.times()
     told = 'in part: 3 datagrams of TCP are not taken, since not all fragments of them came in time'
@@ -122,8 +117,7 @@ def bytewise(content: bytes) -> list[bytes]:
 
 
 def bytes_that_came_first(tools: Tools) -> None:
-    """Of bytes that came twice the first are taken, also among those held back, and a difference is
-    told."""
+    """Of bytes that came twice the first are taken, and a difference is told."""
     content, other = ALL[0], bytes(255 - byte for byte in ALL[0])
     told = ('connection 1 1 frame repeats bytes with other content, first frame %d; the bytes that '
             'came first are taken')
@@ -160,19 +154,21 @@ def bytes_that_came_first(tools: Tools) -> None:
     tools.told('a keep-alive with another byte', pcap(frames), [(content, b'')], [])
 
 
+def ports_that_are_used_again(tools: Tools) -> None:
+    """SYN again, also after data, begins no connection; a port that is used again has several."""
+    frames, other = whole(), whole(first=(900_000, 800_000))
+    reset = Talk(first=(1_001 + len(ALL[0]), 5_001)).frame(0, RST)
+    for what, recorded, number in (
+            ('SYN again', [frames[0], frames[0], frames[1], frames[1], *frames[2:]], 1),
+            ('SYN again after data', [*frames[:5], frames[0], *frames[5:]], 1),
+            ('a port used again', frames + other, 2), ('with the same numbers', frames + frames, 2),
+            ('after RST', [*frames[:-2], reset, *frames], 2),
+            ('of which SYN is missing', frames + other[1:], 2)):
+        tools.taken(what, pcap(recorded), [ALL] * number)
+
+
 def beginnings_and_ends(tools: Tools) -> None:
-    """SYN again, with payload, of a later connection; FIN with payload and what is after it;
-    RST."""
-    frames = whole()
-    tools.taken('SYN again', pcap([frames[0], frames[0], frames[1], frames[1], *frames[2:]]), [ALL])
-    tools.taken('SYN again after data', pcap([*frames[:5], frames[0], *frames[5:]]), [ALL])
-    tools.taken('a port used again', pcap(whole() + whole(first=(900_000, 800_000))), [ALL, ALL])
-    tools.taken('a port used again, with the same numbers', pcap(whole() + whole()), [ALL, ALL])
-    tools.taken('a port used again after RST',
-                pcap([*frames[:-2], Talk(first=(1_001 + len(ALL[0]), 5_001)).frame(0, RST),
-                      *whole()]), [ALL, ALL])
-    tools.taken('a port used again, of which SYN is missing',
-                pcap(whole() + whole(first=(900_000, 800_000))[1:]), [ALL, ALL])
+    """SYN and FIN with payload, what is after FIN, RST, and ends of older connections."""
     talk = Talk()
     early = talk.frame(0, SYN, ALL[0][:99])
     talk.next[0] += 1
@@ -187,18 +183,15 @@ def beginnings_and_ends(tools: Tools) -> None:
                ['connection 1 server: 13 bytes fit nowhere in the stream, and are left out, first '
                 'frame 6'])
     talk = Talk()
-    frames = [*talk.opened(), *exchange(talk), talk.frame(0, RST, b'a reason in words'),
-              talk.frame(1, RST | ACK)]
-    tools.told('RST', pcap(frames), [ALL], [])
-    talk = Talk()
     frames = [*talk.opened(), *exchange(talk)]
+    tools.told('RST', pcap([*frames, talk.frame(0, RST, b'a reason in words'),
+                            talk.frame(1, RST | ACK)]), [ALL], [])
     talk.next[0] += 1 << 30
     far = ('connection 1 client: frame 6 shows bytes far beyond the last that is known, and no '
            'other frame does')
-    tools.told('an acknowledgement of an older connection', pcap([*frames, talk.frame(1, ACK)]),
-               [ALL], [far])
-    tools.told('FIN of an older connection', pcap([*frames, talk.frame(0, FIN | ACK)]), [ALL],
-               [far])
+    for what, last in (('an acknowledgement', talk.frame(1, ACK)),
+                       ('FIN', talk.frame(0, FIN | ACK))):
+        tools.told(f'{what} of an older connection', pcap([*frames, last]), [ALL], [far])
     talk = Talk()
     frames = [*talk.opened(), talk.sent(0, ALL[0]), talk.frame(0, RST), talk.sent(1, ALL[1])]
     tools.told('what is on its way as RST comes', pcap(frames), [ALL], [])
@@ -218,18 +211,13 @@ def who_is_the_client(tools: Tools) -> None:
         replies_first = whole(service=service)[8:] + whole(service=service)[3:8]
         tools.want('calls', told(pcap(replies_first)), client + 'by its calls' + SIZES)
     tools.want('calls before ports', told(pcap(swapped[3:])), server + 'by its calls' + SIZES)
-    for talk, first in ((Talk(), 1), (Talk(port=111, service=900), 1)):
-        frames = [*exchange(talk, calls=[])]
-        lines = tools.taken('no calls', pcap(frames), [])
-        tools.want('no calls', lines,
-                   ['left out: %s: no position was found from which its records follow one another'
-                    % ' and '.join(ends_of(talk, first))])
+    for talk, ends in ((Talk(), '192.0.2.1:2049 and 192.0.2.7:700'),
+                       (Talk(port=111, service=900), '192.0.2.1:900 and 192.0.2.7:111')):
+        lines = tools.taken('no calls', pcap(exchange(talk, calls=[])), [])
+        tools.want('no calls', lines, [f'left out: {ends}: no position was found from which its '
+                                       'records follow one another'])
     garbage = [Talk(service=900).frame(0, ACK, stream(REPLIES))]
     tools.taken('replies alone', pcap(garbage), [])
-
-
-def ends_of(talk: Talk, first: int) -> list[str]:
-    return ['%s:%d' % (talk.hosts[side], talk.ports[side]) for side in (first, 1 - first)]
 
 
 # --- Missing bytes ---
@@ -265,8 +253,7 @@ def what_is_left_out(tools: Tools) -> None:
 
 
 def bytes_are_missing(tools: Tools) -> None:
-    """A stream goes on after missing bytes, at the next record, and replies to calls that are
-    missing are left out."""
+    """A stream goes on at the next record, without replies to calls that are missing."""
     frames, calls, replies = whole(), *ALL
     torn = (BEHIND_A_GAP - BEFORE_A_GAP) * CALL - FIFTH
     tools.told('a gap in the calls', pcap(frames[:4] + frames[5:]), [AROUND_A_GAP],
@@ -291,6 +278,11 @@ def bytes_are_missing(tools: Tools) -> None:
                [(calls, replies[:4 * FIFTH_OF_REPLIES // REPLY * REPLY])],
                [told_of_gap('server', len(replies) - 4 * FIFTH_OF_REPLIES, 4 * FIFTH_OF_REPLIES, 13)
                 + torn_records(4 * FIFTH_OF_REPLIES % REPLY)])
+
+
+def several_gaps(tools: Tools) -> None:
+    """Two gaps are told together; a wrong mark beside one stays, and half a closing is none."""
+    frames, calls, replies = whole(), *ALL
     present = [at for at in range(39) if at < BEFORE_A_GAP or 2 * FIFTH <= at * CALL and at * CALL
                + CALL <= 3 * FIFTH or at * CALL >= 4 * FIFTH]
     left = [b''.join(content[size * at:size * at + size] for at in present)
@@ -319,8 +311,7 @@ def bytes_are_missing(tools: Tools) -> None:
 
 
 def whole_in_parts(size: int, between: int, part: int) -> list[int]:
-    """The records of one size that lie whole in the first bytes of a part. Parts begin at equal
-    distances."""
+    """The records of one size that lie whole in the first bytes of a part."""
     return [at for at in range(len(CALLS)) if at * size % between + size <= part]
 
 
@@ -397,8 +388,7 @@ def beginnings_that_are_missing(tools: Tools) -> None:
 
 
 def faults_stay(tools: Tools) -> None:
-    """No fault in contiguous bytes is passed over: the answers of `check`, from the SYN on and
-    without it."""
+    """No fault in contiguous bytes is passed over, from the SYN on and without it."""
     mark = struct.pack('>I', 0x81000001)
     wrong = [('a wrong mark', ALL[0], ALL[1][:10 * REPLY] + mark + ALL[1][10 * REPLY:],
               'connection 1 server record 11 byte 0: RecordTooLong'),
@@ -423,8 +413,7 @@ def faults_stay(tools: Tools) -> None:
 
 
 def embedded(tools: Tools) -> None:
-    """Records in the data of a record, as of a capture that is written over NFS, are no
-    beginning."""
+    """Records in the data of a record, as of a capture on NFS, are no beginning."""
     inner = messages.capture((CALLS[:20], REPLIES[:20]))[8:]
     data = messages.fh(b'abcde') + messages.hyper(0) + messages.word(len(inner)) + messages.word(
         0) + messages.opaque(inner)
@@ -465,13 +454,13 @@ def embedded(tools: Tools) -> None:
 def search_is_linear(tools: Tools) -> None:
     """Input made to cost: many places from which records nearly reach the end."""
     head = call(1, NFS, 3, 0)
-    chain = stream([head] * 60_000) + struct.pack('>I', 0x81000001) + bytes(400)
+    chain = stream([head] * 15_000) + struct.pack('>I', 0x81000001) + bytes(400)
     talk = Talk()
     pieces = [talk.sent(0, chain[at:at + 60_000]) for at in range(0, len(chain), 60_000)]
     begin = os.times()
     taken = taken_of(pcap(pieces)).connections[0]
     tools.want('what is taken', (taken.client.read(0, len(chain) + 1), taken.notes), (chain, []))
-    tools.want('seconds', os.times().user - begin.user < 20, True)
+    tools.want('seconds', os.times().user - begin.user < 5, True)
 
 
 # --- Files and memory ---
@@ -484,15 +473,15 @@ def files(tools: Tools) -> None:
     tools.want('a file', (tools.tool('from_pcap', 'a.pcap', 'out'), tools.read('out')),
                ((0, '', told), packed(ALL)))
     tools.write('out', b'old')
-    os.chmod(os.path.join(tools.folder, 'out'), 0o640)
+    os.chmod(tools.path('out'), 0o640)
     tools.want('an old OUT', (tools.tool('from_pcap', 'a.pcap', 'out'), tools.read('out')),
                ((0, '', told), packed(ALL)))
-    tools.want('its mode', os.stat(os.path.join(tools.folder, 'out')).st_mode & 0o777, 0o640)
+    tools.want('its mode', os.stat(tools.path('out')).st_mode & 0o777, 0o640)
     tools.want('standard input', (tools.tool('from_pcap', '-', 'out2', stdin=pcap(whole())),
                                   tools.read('out2')), ((0, '', told), packed(ALL)))
-    os.symlink('out2', os.path.join(tools.folder, 'link'))
+    os.symlink('out2', tools.path('link'))
     tools.want('a link', (tools.tool('from_pcap', 'a.pcap', 'link')[0],
-                          os.path.islink(os.path.join(tools.folder, 'link'))), (0, True))
+                          os.path.islink(tools.path('link'))), (0, True))
     tools.want('standard output', tools.tool('from_pcap', 'a.pcap', '/dev/stdout'),
                (0, packed(ALL).decode(errors='replace'), told))
     tools.want('a full device', tools.tool('from_pcap', 'a.pcap', '/dev/full'),
@@ -512,21 +501,22 @@ def files(tools: Tools) -> None:
     tools.want('no connection', tools.tool('from_pcap', 'none.pcap', 'x'),
                (1, '', 'from_pcap: no connection to pack\n'))
     tools.want('no OUT is made', tools.exists('x'), False)
+
+
+def full_disks(tools: Tools) -> None:
+    """OUT stays as it was if it, or a temporary file, does not fit on the disk."""
     tools.write('out', b'old')
     limited = ['sh', '-c', 'ulimit -f 8; exec "$@"', 'sh']
-    talk = Talk()
-    tools.write('long.pcap', pcap([*talk.opened(), *(talk.sent(0, bytes(50_000)) for _ in range(2)),
-                                   *talk.closed()]))
-    talk = Talk()
-    tools.write('wide.pcap', pcap([*talk.opened(), *(talk.sent(0, bytes(9_000)) for _ in range(5)),
-                                   *talk.closed()]))
+    for name, size, number in (('long.pcap', 50_000, 2), ('wide.pcap', 9_000, 5)):
+        talk = Talk()
+        tools.write(name, pcap([*talk.opened(), *(talk.sent(0, bytes(size)) for _ in range(number)),
+                                *talk.closed()]))
     for name, message in (('wide.pcap', 'from_pcap: out: File too large'),
                           ('long.pcap', 'from_pcap: a temporary file: File too large')):
         status, _, error = tools.tool('from_pcap', name, 'out', before=limited)
         tools.want('a full disk', (status, error.splitlines()[-1], tools.read('out')),
                    (3, message, b'old'))
-    tools.want('what is left', [name for name in os.listdir(tools.folder) if name.startswith('.')],
-               [])
+    tools.want('what is left', [name for name in tools.names() if name[0] == '.'], [])
 
 
 def long_streams(tools: Tools) -> None:
@@ -580,12 +570,11 @@ class Endless(TakenStream):
 
 
 def memory(tools: Tools) -> None:
-    """Memory follows what is held back, not the recording: 200 MB by standard input, plain, and
-    behind a gap."""
+    """Memory follows what is held back, not the recording, plain and behind a gap."""
     for what, lost in (('plain', -1), ('behind a gap', 3)):
-        kilobytes, told = streamed(tools, 3_200, lost)
+        kilobytes, told = streamed(tools, 1_200, lost)
         tools.want(what + ': taken', told[:2], ['connection', '1:'])
-        tools.want(what + ': memory below 80 MB', kilobytes < 80_000 or kilobytes, True)
+        tools.want(what + ': memory below 60 MB', kilobytes < 60_000 or kilobytes, True)
     pending = Segments()
     for number in range(40_000):
         pending.segment(Frame(1, 0, 1,
@@ -596,8 +585,7 @@ def memory(tools: Tools) -> None:
 
 
 def streamed(tools: Tools, count: int, lost: int) -> tuple[int, list[str]]:
-    """Feeds a recording of frames of 64 KB of records, but for one, and gives the memory of the
-    tool and what it tells."""
+    """Feeds frames of 64 KB of records, and gives the memory and what is told."""
     body = call(1, NFS, 3, 7, messages.fh(b'a') + messages.hyper(0) + messages.word(65_336)
                 + messages.word(0) + messages.opaque(bytes(65_336)))
     record, talk = stream([body]), Talk()
@@ -619,8 +607,6 @@ def streamed(tools: Tools, count: int, lost: int) -> tuple[int, list[str]]:
         *told, _, taken = error.read().decode().split()
         return int(taken) // 1024, told
 
-
-# --- tshark ---
 
 @unittest.skipUnless(shutil.which('tshark'), 'tshark is not there')
 def filters(tools: Tools) -> None:
@@ -657,9 +643,5 @@ def filters(tools: Tools) -> None:
                    (2, '', 'from_pcap: tshark is missing, which --filter needs\n'))
 
 
-class FromPcapTest(FolderTest, make=Tools, tests=[
-        memory, datagrams_in_fragments, repeated_last_fragments, segments_in_any_order,
-        bytes_that_came_first, beginnings_and_ends, who_is_the_client, what_is_left_out,
-        bytes_are_missing, frames_that_are_cut, beginnings_that_are_missing, faults_stay, embedded,
-        search_is_linear, files, long_streams, limits, filters]):
+class FromPcapTest(FolderTest, make=Tools):
     """Each test has a folder of its own."""

@@ -1,11 +1,7 @@
-"""Tests of calls without a reply, of calls that were sent again on a later connection, of windows
-of time, and of names that change."""
+"""Tests of calls without a reply or sent again, of windows of time, and of names."""
 import json
 import re
-import struct
 import tracemalloc
-import xml.etree.ElementTree
-from collections.abc import Iterable
 
 from examples.messages import MOUNT, NFS, call, dirop, fh, fragment, ok, opaque, success, wcc, word
 from examples.packets import ACK, RST, SERVER, SYN, Talk, datagram, ethernet, segment
@@ -13,25 +9,15 @@ from examples.packets import ACK, RST, SERVER, SYN, Talk, datagram, ethernet, se
 from ..nfs3tools.commands.verdicts import Judge
 from ..nfs3tools.recordings.selection import Options
 from .cases import FolderTest
-from .scripts import Tools, sums, taken_of
+from .scripts import Tools, sums, taken_of, timed
 
 BEGUN = 1_600_000_000  # 12:26:40 UTC
 ROOT, FOLDER, FILE = b'root', b'folder', b'file'
 GETATTR, LOOKUP, READ, CREATE, RENAME = 1, 3, 6, 8, 14
 
 
-def timed(frames: Iterable[tuple[float, bytes]]) -> bytes:
-    """A recording of frames, each so many seconds after it began."""
-    header = struct.pack('<IHHiIII', 0xa1b2c3d4, 2, 4, 0, 0, 65_535, 1)
-    return header + b''.join(
-        struct.pack('<IIII', BEGUN + int(at), round(at % 1 * 1_000_000), len(frame), len(frame))
-        + frame
-        for at, frame in frames)
-
-
 def hung() -> bytes:
-    """A server that stops: of three calls one is answered. The client sends two again on another
-    connection, where one is answered; the last frame is 20 seconds after the first."""
+    """A server that stops: of three calls one is answered, and two are sent again later."""
     first, second = Talk(700), Talk(701)
     calls = [fragment(call(xid, NFS, 3, 1, fh(bytes([xid])))) for xid in (1, 2, 3)]
     frames = [(0.0, frame) for frame in first.opened()]
@@ -41,24 +27,21 @@ def hung() -> bytes:
     frames += [(6.0, frame) for frame in second.opened()]
     frames += [(7.0, second.sent(0, calls[1] + calls[2])),
                (9.0, second.sent(1, fragment(success(2, word(70))))), (20.0, second.frame(0, ACK))]
-    return timed(sorted(frames, key=lambda one: one[0]))
+    return timed(sorted(frames, key=lambda one: one[0]), BEGUN)
 
 
 def rows_of(tools: Tools, *words: str) -> list[list[str]]:
     """The cells of what tools/calls lists."""
-    status, out, error = tools.tool('calls', '--program', tools.program, *words)
+    status, out, error = tools.tool('calls', *words)
     tools.want(f'calls {words}', (status, error), (0, ''))
     return [re.split('  +', line.strip()) for line in out.splitlines()[1:-2]]
 
-
-# --- Calls without a reply ---
 
 LINE = sums(2, silent=2)
 
 
 def listed_without_a_reply(tools: Tools) -> None:
-    """--no-reply lists those that never got one, and those that got it on a later connection, with
-    how long each waited; --slow counts that as well."""
+    """--no-reply lists how long each waited, and --slow counts that."""
     tools.write('a.pcap', hung())
     wanted = [['2.000000', '1:2', 'GETATTR ?', 'no reply in 7.000 s, answered as 2:1'],
               ['3.000000', '1:3', 'GETATTR ?', 'no reply in 17.000 s, sent again as 2:2']]
@@ -75,28 +58,27 @@ def counted_in_each_form(tools: Tools) -> None:
     """Their number is the same in each form of output, and changes no status."""
     tools.write('a.pcap', hung())
     words = '--json', 'x.json', '--junit', 'x.xml', '--html', 'x.html', 'a.pcap'
-    status, out, _ = tools.tool('verdicts', '--program', tools.program, *words)
+    status, out, _ = tools.tool('verdicts', *words)
     tools.want('text', (status, out.splitlines()[-1]), (0, LINE))
-    written = json.loads(tools.read('x.json') or b'')
+    written = tools.json('x.json')
     tools.want('JSON', (written['counts']['without reply'],
                         [row['unanswered'] for row in written['rows']]),
                (2, [2, 0]))
-    suite = xml.etree.ElementTree.fromstring((tools.read('x.xml') or b'').decode())
+    suite = tools.xml('x.xml')
     tools.want('JUnit', [one.get('value') for one in suite.iter('property')
                          if one.get('name') == 'without reply'], ['2'])
     tools.want('page', b'<b>2</b> calls without a reply' in (tools.read('x.html') or b''), True)
     for tool, more in (('verdicts', ['--follow']), ('procedures', ['--total']), ('calls', [])):
-        out = tools.tool(tool, '--program', tools.program, *more, '-' if more == ['--follow']
+        out = tools.tool(tool, *more, '-' if more == ['--follow']
                          else 'a.pcap', stdin=tools.read('a.pcap'))[1]
         tools.want(tool, LINE in out, True)
 
 
 def sent_again_later(tools: Tools) -> None:
-    """An equal call with the same xid on a later connection of the same ends is a retransmission;
-    one with other bytes, of another client or of another server is none."""
+    """An equal call of the same xid and ends on a later connection is sent again."""
     tools.write('a.pcap', hung())
-    tools.tool('procedures', '--program', tools.program, '--json', 'x.json', 'a.pcap')
-    tables = json.loads(tools.read('x.json') or b'')['tables']
+    tools.tool('procedures', '--json', 'x.json', 'a.pcap')
+    tables = tools.json('x.json')['tables']
     tools.want('again', [table['procedures'][-1]['again'] for table in tables], [0, 2, 2])
     tools.want('no reply', [table['procedures'][-1]['unanswered'] for table in tables], [2, 0, 2])
     others = [Talk(701, hosts=('192.0.2.9', SERVER)), Talk(701, hosts=('192.0.2.7', '192.0.2.2')),
@@ -106,12 +88,10 @@ def sent_again_later(tools: Tools) -> None:
         frames = [*first.opened(), first.sent(0, fragment(call(1, NFS, 3, 1, fh(b'a')))),
                   first.frame(0, RST | ACK), *other.opened(),
                   other.sent(0, fragment(call(1, NFS, 3, 1, fh(handle))))]
-        tools.write('b.pcap', timed((at, frame) for at, frame in enumerate(frames)))
+        tools.write('b.pcap', timed(enumerate(frames), BEGUN))
         tools.want('none', [row[3] for row in rows_of(tools, '--no-reply', 'b.pcap')],
                    ['1:1', '2:1'])
 
-
-# --- Positions, and windows of time ---
 
 def positions_of_calls(tools: Tools) -> None:
     """`where`, `explain` and `cut` take a position as `calls` and `procedures` print it."""
@@ -120,7 +100,7 @@ def positions_of_calls(tools: Tools) -> None:
         status, out, _ = tools.tool('where', 'a.pcap', text)
         tools.want(text, (status, out.split(':')[0]), (0, 'connection 2 client record 1'))
     tools.want('explain', tools.tool('explain', 'a.pcap', '1:2')[0], 0)
-    tools.want('cut', tools.tool('cut', '--program', tools.program, 'a.pcap', '1:2', 'out')[0], 0)
+    tools.want('cut', tools.tool('cut', 'a.pcap', '1:2', 'out')[0], 0)
     tools.want('none', tools.tool('where', 'a.pcap', '2:')[0], 2)
 
 
@@ -133,13 +113,11 @@ def windows(tools: Tools) -> None:
                   ['--from', '1.5', '--to', '12:26:43']):
         tools.want(' '.join(words), [row[3] for row in rows_of(tools, *words, 'a.pcap')],
                    ['1:2', '1:3'])
-        tools.tool('procedures', '--program', tools.program, *words, '--json', 'x.json', 'a.pcap')
-        tables = json.loads(tools.read('x.json') or b'')['tables']
+        tools.tool('procedures', *words, '--json', 'x.json', 'a.pcap')
+        tables = tools.json('x.json')['tables']
         tools.want('procedures', tables[-1]['procedures'][-1]['calls'], 2)
     tools.want('no time', tools.tool('calls', '--from', '25:00', 'a.pcap')[0], 2)
 
-
-# --- Names ---
 
 def renamed() -> bytes:
     """A file that is made in a folder, and renamed twice; then the folder is."""
@@ -159,12 +137,11 @@ def renamed() -> bytes:
     for xid, (program, procedure, arguments, results) in enumerate(asked):
         frames.append(talk.sent(0, fragment(call(xid, program, 3, procedure, arguments))))
         frames.append(talk.sent(1, fragment(success(xid, results))))
-    return timed((at, frame) for at, frame in enumerate(frames))
+    return timed(enumerate(frames), BEGUN)
 
 
 def names_at_the_time(tools: Tools) -> None:
-    """A file has the name that it had when it was called, and --path fits each name; so in a
-    capture."""
+    """A file has the name that it had when it was called; --path fits each."""
     tools.write('a.pcap', renamed())
     tools.want('from_pcap', tools.tool('from_pcap', 'a.pcap', 'a.nfs3cap')[0], 0)
     wanted = ['/x/d/tmp', '/x/d/final', '/x/e/final']
@@ -176,15 +153,12 @@ def names_at_the_time(tools: Tools) -> None:
         tools.want(pattern, len(found), 3)
     tools.want('made', rows_of(tools, '--path', 'final', 'a.pcap')[0][4:6],
                ['CREATE', '/x/d/tmp UNCHECKED'])
-    out = tools.tool('calls', '--program', tools.program, '--json', '--procedure', 'GETATTR',
-                     'a.pcap')[1]
+    out = tools.tool('calls', '--json', '--procedure', 'GETATTR', 'a.pcap')[1]
     tools.want('JSON', [(one['path'], one['other_names']) for one in json.loads(out)['calls']],
                [(path, [other for other in wanted if other != path]) for path in wanted])
     told = tools.tool('calls', '--user', 'root', 'a.pcap')[2]
     tools.want('--user', 'no uid: root (a number, as `id -u` prints it)' in told, True)
 
-
-# --- Memory ---
 
 def memory_of_connections(tools: Tools) -> None:
     """A connection of a SYN alone takes a few hundred bytes, from its frame to its verdict."""
@@ -192,7 +166,7 @@ def memory_of_connections(tools: Tools) -> None:
     frames = (ethernet(datagram(f'10.1.{at // 256}.{at % 256}', SERVER,
                                 segment((700, 2049), 1 << 31, 0, SYN)))
               for at in range(number))
-    recording = timed((0.0, frame) for frame in frames)
+    recording = timed(((0.0, frame) for frame in frames), BEGUN)
     tracemalloc.start()
     try:
         with taken_of(recording) as taken:
@@ -204,7 +178,5 @@ def memory_of_connections(tools: Tools) -> None:
     tools.want('bytes of each', most / number < 1_200 or most / number, True)
 
 
-class HangsTest(FolderTest, make=Tools, tests=[
-        listed_without_a_reply, counted_in_each_form, sent_again_later, positions_of_calls, windows,
-        names_at_the_time, memory_of_connections]):
+class HangsTest(FolderTest, make=Tools):
     """Each test has a folder of its own."""

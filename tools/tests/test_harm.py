@@ -1,10 +1,7 @@
-"""Tests of what tools/ could harm: files of others, outputs that are not whole, and answers of
-programs that died.
-
-Making devices takes root, and is left out otherwise.
-"""
+"""Tests of what tools/ could harm: files of others, outputs, answers of dead programs."""
 import errno
 import gzip
+import itertools
 import json
 import lzma
 import os
@@ -21,12 +18,11 @@ from tests.shared.outputs import AS_IT_WAS, NULL_DEVICE
 from tests.shared.running import Answer, ended, program_named
 
 from .cases import FolderTest
-from .scripts import ALL, TOP, WITH_TOOLS, Tools, packed, whole
+from .scripts import (
+    ALL, CHANGED, EXAMPLES, FIRST, TOP, WITHOUT_PROGRAM, WITH_TOOLS, Tools, packed, whole)
 
 RECORDING, CAPTURE = pcap(whole()), packed(ALL)
-EXAMPLES = TOP / 'examples'
-FIRST, CHANGED, NULL = (str(EXAMPLES / name) for name in ('ganesha_a.pcap', 'ganesha_changed.pcap',
-                                                          'null.nfs3cap'))
+NULL = str(EXAMPLES / 'null.nfs3cap')
 IS_ROOT, NOBODY = os.geteuid() == 0, 65534
 # Runs a tool in this process, in which a call of the system is not what it was.
 PATCHED = '''
@@ -60,18 +56,12 @@ def parts(tools: Tools) -> list[str]:
     return [name for name in tools.names() if name.startswith('.nfs3canon')]
 
 
-def last_of(error: str) -> str:
-    return ''.join(error.splitlines()[-1:])
-
-
 def one_line(tools: Tools, what: str, answer: Answer, status: int, *texts: str) -> None:
     """It ends with the status and one line on standard error, which has the texts."""
     lines = answer[2].splitlines()
     tools.want(what, (answer[0], len(lines), [text for text in texts if text not in answer[2]]),
                (status, 1, []))
 
-
-# --- What is not replaced ---
 
 def writers(tools: Tools, file: str, *inputs: str) -> list[list[str]]:
     """The command lines that write a file, of tools with these inputs."""
@@ -90,27 +80,22 @@ def writers(tools: Tools, file: str, *inputs: str) -> list[list[str]]:
 
 def outputs_that_are_inputs(tools: Tools) -> None:
     """Under any name, be it the first input or the last, and whatever is in it."""
-    tools.write('a.pcap', RECORDING)
-    tools.write('b.pcap', b'no recording')
     for content, name in ((RECORDING, 'a.pcap'), (b'no recording', 'b.pcap')):
-        for link in ('link', 'hard'):
-            if tools.exists(link):
-                os.remove(tools.path(link))
-        os.symlink(name, tools.path('link'))
-        os.link(tools.path(name), tools.path('hard'))
-        for file in (name, './' + name, 'link', 'hard', '/proc/self/cwd/' + name):
-            for words in [*writers(tools, file, name), *writers(tools, file, FIRST, name)]:
-                one_line(tools, ' '.join(words[-3:]), tools.tool(*words), 2, file)
-                tools.want('what it has', tools.read(name), content)
+        tools.write(name, content)
+        os.symlink(name, tools.path(f'link of {name}'))
+        os.link(tools.path(name), tools.path(f'hard {name}'))
+        several = [writers(tools, name, FIRST, name), *(writers(tools, file, name) for file in (
+            name, f'./{name}', f'link of {name}', f'hard {name}', f'/proc/self/cwd/{name}'))]
+        for words in itertools.chain.from_iterable(several):
+            one_line(tools, ' '.join(words[-3:]), tools.tool(*words), 2, 'is an input')
+            tools.want('what it has', tools.read(name), content)
         with open(tools.path(name), 'rb') as source:
-            one_line(tools, 'standard input', tools.tool('verdicts', '--json', 'hard', '-',
-                                                         stdin=source), 2, 'hard is an input')
-    tools.want('what is there', tools.names(), ['a.pcap', 'b.pcap', 'hard', 'link'])
+            one_line(tools, 'standard input', tools.tool(
+                'verdicts', '--json', f'hard {name}', '-', stdin=source), 2, 'is an input')
 
 
 def outputs_that_are_recordings(tools: Tools) -> None:
-    """A file that is no input is not replaced either if it begins as a recording or a capture. Only
-    from_pcap replaces captures."""
+    """A recording or a capture is not replaced, but captures by from_pcap."""
     big = pcap(whole())[:4][::-1] + RECORDING[4:]
     zstd = b'\x28\xb5\x2f\xfd' + RECORDING
     files = {'pcap': RECORDING, 'big': big, 'nano': b'\x4d\x3c\xb2\xa1' + RECORDING[4:],
@@ -132,11 +117,8 @@ def outputs_that_are_recordings(tools: Tools) -> None:
                        (tools.tool(*words)[0], tools.read('page') != content), (0, True))
 
 
-# --- Whole, or as it was ---
-
 def full_disks(tools: Tools) -> None:
-    """A page or a list that does not fit on the disk leaves the old one, and a device that is full
-    is told."""
+    """What does not fit on the disk leaves the old file, and a full device is told."""
     for name, mode in (('a', 0), ('b', 1)):
         asked = [call(xid, NFS, 3, 1, fh(b'f')) for xid in range(60)]
         tools.write(name,
@@ -152,7 +134,7 @@ def full_disks(tools: Tools) -> None:
         tools.want('the old one', (tools.read('page'), parts(tools)), (AS_IT_WAS, []))
     for words in writers(tools, '/dev/full', FIRST):
         status, _, error = tools.tool(*words)
-        tools.want('a full device', (status, last_of(error)),
+        tools.want('a full device', (status, error.splitlines()[-1]),
                    (3, f'{words[0]}: /dev/full: No space left on device'))
 
 
@@ -172,8 +154,7 @@ os.stat, os.lstat = failing(os.stat), failing(os.lstat)
 
 
 def looks_that_fail(tools: Tools) -> None:
-    """Whichever look at an output fails, or comes too early to find it, a device stays one, and a
-    file is whole or as it was."""
+    """Whichever look at an output fails, a file is whole or as it was."""
     tools.write('a.pcap', RECORDING)
     if IS_ROOT:
         os.mknod(tools.path('node'), 0o600 | stat.S_IFCHR, NULL_DEVICE)
@@ -201,11 +182,8 @@ def links_to_nothing(tools: Tools) -> None:
     tools.want('what is there', tools.names(), ['link'])
 
 
-# --- Permissions and signals ---
-
 def permissions(tools: Tools) -> None:
-    """A file that is replaced keeps its permissions, and a new one has those that the umask leaves.
-    One that nobody may write stays."""
+    """A file keeps its permissions, a new one has those of the umask."""
     tools.write('a.pcap', RECORDING)
     for umask, mode in ((0o022, 0o644), (0o027, 0o640), (0o077, 0o600)):
         answer = patched(tools, '', 'from_pcap', 'a.pcap', 'new', umask=umask)
@@ -259,14 +237,13 @@ for name in ('open', 'fsync', 'fchmod', 'replace', 'unlink', 'fstat', 'mkdir'):
 
 
 def signals(tools: Tools) -> None:
-    """Whenever SIGHUP, SIGINT or SIGTERM comes, nothing is left beside the output, nor where
-    temporary files are."""
+    """Whenever a signal comes, nothing is left beside the output or among temporary files."""
     tools.write('a.pcap', RECORDING)
     os.mkdir(tools.path('tmp'))
     calm = ('signal.signal(signal.SIGINT, signal.default_int_handler); os.environ["TMPDIR"] = '
             '"tmp"\n')
-    for number in (signal.SIGHUP, signal.SIGINT, signal.SIGTERM):
-        for at in range(1, 18):
+    for number, step in ((signal.SIGTERM, 1), (signal.SIGINT, 2), (signal.SIGHUP, 2)):
+        for at in range(1, 18, step):
             words = ['compare', '--program', tools.program, '--html', 'out', 'a.pcap',
                      NULL] if at % 3 == 0 else ['from_pcap', 'a.pcap', 'out']
             tools.write('out', AS_IT_WAS)
@@ -279,8 +256,6 @@ def signals(tools: Tools) -> None:
                        True)
 
 
-# --- Programs that die ---
-
 DYING = '''#!/bin/sh
 [ "%s" != "${0##*/}" ] && [ "%s" != "$1" ] && exec %s "$@"
 %s
@@ -289,8 +264,7 @@ KILLED, ABSENT, FAILED = 'kill -9 $$', 'exit 127', 'echo "out of memory" >&2; ex
 
 
 def dying(tools: Tools, command: str, how: str) -> str:
-    """Makes programs that do as the built ones, but that one of their commands ends so. Returns the
-    first."""
+    """Makes programs one of whose commands ends so. Returns the first."""
     for name in ('nfs3canon', 'nfs3mask'):
         tools.write(name,
                     (DYING % (command, command, program_named(name, tools.program), how)).encode())
@@ -299,8 +273,7 @@ def dying(tools: Tools, command: str, how: str) -> str:
 
 
 def programs_that_die(tools: Tools) -> None:
-    """A program that is killed, that is not there, that fails or does not say what its status says
-    has given no answer."""
+    """A program that ends otherwise than it says has given no answer."""
     ways = ((KILLED, 'was killed by signal 9'), (ABSENT, 'ended with status 127'),
             (FAILED, 'ended with status 3: out of memory'),
             ('exit 4', 'ended with status 4'))
@@ -341,8 +314,7 @@ def programs_that_die(tools: Tools) -> None:
 
 
 def filters_that_die(tools: Tools) -> None:
-    """A tshark that is killed or cannot run has not chosen frames; one that refuses the filter
-    has."""
+    """A tshark that dies has not chosen frames; one that refuses a filter has."""
     os.mkdir(tools.path('bin'))
     env = {**os.environ, 'PATH': f'{tools.path("bin")}:{os.environ["PATH"]}'}
     for how, status, told in ((KILLED, 3, 'tshark was killed by signal 9'),
@@ -360,74 +332,69 @@ def filters_that_die(tools: Tools) -> None:
 
 # --- Standard streams, and names ---
 
+# Command lines, and whether something goes to standard output, and to standard error.
+PLACE = 'connection 1 client record 1 byte 0'
+SAYING: list[tuple[list[str], bool, bool]] = [
+    (['compare', FIRST, CHANGED], True, False),
+    (['compare', str(EXAMPLES / 'bad_bool.pcap'), FIRST], False, True),
+    (['verdicts', 'bare.pcap'], True, True), (['procedures', 'bare.pcap'], True, True),
+    (['calls', 'bare.pcap'], True, True), (['calls', '--json', FIRST], True, False),
+    (['procedures', '--beside', FIRST, CHANGED], True, False),
+    (['cut', FIRST, PLACE, 'out'], True, False), (['where', FIRST, PLACE], True, False),
+    (['where', FIRST, 'nothing'], False, True), (['from_pcap', FIRST, 'out'], False, True),
+    (['explain', NULL, PLACE], True, False), (['install', 'prefix'], True, False),
+    (['release', '--program', 'absent', '.'], False, True), (['compare', '--help'], True, False)]
+
+
 def closed_outputs(tools: Tools) -> None:
-    """A standard stream that is closed, or on a full device, is a failure: one line at most, and
-    never the status of an answer."""
-    program, place = ['--program', tools.program], 'connection 1 client record 1 byte 0'
+    """A standard stream that is closed or full is a failure of one line at most."""
     bare = Talk(701)
     tools.write('bare.pcap', pcap([*whole(), *bare.opened(), *bare.closed()]))
-    # whether something goes to standard output, and to standard error
-    rows: list[tuple[list[str], bool, bool]] = [
-(['compare', *program, FIRST, CHANGED], True, False),
-        (['compare', *program, FIRST, FIRST], True, False),
-(['compare', *program, str(EXAMPLES / 'bad_bool.pcap'), FIRST], False, True),
-        (['verdicts', *program, FIRST], True, False),
-(['verdicts', *program, 'bare.pcap'], True, True),
-        (['procedures', *program, 'bare.pcap'], True, True),
-(['calls', *program, 'bare.pcap'], True, True),
-(['calls', *program, '--json', FIRST], True, False),
-(['procedures', *program, '--beside', FIRST, CHANGED], True, False),
-        (['cut', *program, FIRST, place, 'out'], True, False),
-(['where', FIRST, place], True, False),
-(['where', FIRST, 'connection 9 client record 1'], False, True),
-        (['where', FIRST, 'nothing'], False, True),
-(['from_pcap', FIRST, 'out'], False, True), (['explain', NULL, place], True, False),
-        (['explain', NULL, 'file 999'], False, True),
-(['install', *program, 'prefix'], True, False), (['install', '--program', 'absent', 'prefix'],
-                                                 False, True),
-(['release', '--program', 'absent', '.'], False, True),
-*(([name, '--help'], True, False) for name in ('compare', 'verdicts', 'calls', 'procedures', 'cut',
-                                               'where', 'from_pcap', 'explain',
-                                                 'install', 'release'))]
-    for words, prints, tells in rows:
-        for streams, is_wanted in (('>&-', True), ('2>&-', True), ('>&- 2>&-', True),
-                                   ('>/dev/full', prints), ('2>/dev/full', tells)):
-            if is_wanted:
-                status, _, error = through_bash(tools, f'exec "$@" {streams}', tool(words[0]),
-                                                *words[1:])
-                last = error.splitlines()[-1:]
-                tools.want(f'{" ".join(words)} {streams}',
-                           (status,
-                            [line for line in last if not line.startswith(words[0] + ': ')]),
-                           (3, []))
-                tools.want('lines', len(error.splitlines()) - tells
-                           * (words[-1] == 'bare.pcap' and streams != '>&-'
-                              and not streams.startswith('2')) <= 1, True)
+    for (name, *words), prints, tells in SAYING:
+        own = ['--program', tools.program] * (name not in WITHOUT_PROGRAM and words[0][:2] != '--')
+        for streams in ('>&-', '2>&-', *['>/dev/full'] * prints, *['2>/dev/full'] * tells):
+            status, _, error = through_bash(tools, f'exec "$@" {streams}', tool(name), *own, *words)
+            lines = error.splitlines()
+            tools.want(f'{name} {words} {streams}', (
+                status, [line for line in lines[-1:] if not line.startswith(f'{name}: ')]), (3, []))
+            # (of a connection without calls a line is told besides)
+            most = 1 + (words == ['bare.pcap'] and streams == '>/dev/full')
+            tools.want('lines', len(lines) <= most, True)
     answer = through_bash(tools, 'exec "$@" <&-', tool('from_pcap'), '-', 'out')
     one_line(tools, 'standard input that is closed', answer, 3, 'from_pcap: ')
 
 
 def outputs_before_the_work(tools: Tools) -> None:
-    """Each tool tries its outputs before it reads anything, takes none twice, and writes to
-    standard output if one is called `-`; the table goes to standard error then."""
-    program = ['--program', tools.program]
-    for name, *options in (['verdicts', '--json', '--junit'], ['procedures', '--json', '--csv'],
-                           ['compare', '--json', '--html']):
+    """Outputs are tried first, none is taken twice, and `-` has it alone."""
+    tools.write('text', b'text')
+    os.symlink('text', tools.path('link'))
+    os.mkdir(tools.path('folder'))
+    for name, one, other in (('verdicts', '--json', '--junit'), ('procedures', '--json', '--csv'),
+                             ('compare', '--json', '--html'), ('compare', '--junit', '--json'),
+                             ('compare', '--html', '--junit')):
         inputs = ['no recording'] * (2 if name == 'compare' else 1)
-        for words, status, told in (([options[0], 'absent/x'], 3, 'absent/x: '),
-                                    ([options[0], 'x', options[1], './x'], 2, 'are one file')):
-            answer = tools.tool(name, *program, *words, *inputs)
+        for words, status, told in (
+                ([one, 'absent/x'], 3, 'absent/x: '), ([one, 'folder'], 3, 'folder: '),
+                ([one, 'text/x'], 3, 'text/x: '), ([one, 'x', other, './x'], 2, 'are one file'),
+                ([one, 'text', other, 'link'], 2, 'are one file'),
+                ([one, '-', other, '-'], 2, 'are one file'),
+                ([one, '-', other, '/dev/stdout'], 2, 'are one file')):
+            answer = tools.tool(name, *words, *inputs)
             tools.want(f'{name} {words}', (answer[0], answer[1], told in answer[2],
                                            'no recording' in answer[2]), (status, '', True, False))
-        status, out, error = tools.tool(name, *program, options[0], '-', FIRST,
-                                        *([FIRST] if name == 'compare' else []))
-        tools.want(f'{name} {options[0]} -', (status, isinstance(json.loads(out), (dict, list)),
-                                              '103' in error or 'judged' in error), (0, True, True))
+        runs = [FIRST, CHANGED] if name == 'compare' else [FIRST]
+        status, out, error = tools.tool(name, one, '-', *runs)
+        tools.want(f'{name} {one} -', (out[:1] in '{<', 'judged' in error), (True, True))
+        tools.want('devices',
+                   tools.tool(name, one, '/dev/null', other, '/dev/null', *runs)[0], status)
     done = ended([tool('from_pcap'), FIRST, '-'], tools.folder)
     tools.want('a capture on standard output', (done.status, done.out[:8]), (0, b'NFS3CAP1'))
     answer = tools.tool('from_pcap', 'no recording', 'absent/x')
     tools.want('from_pcap', (answer[0], 'absent/x: ' in answer[2]), (3, True))
-    tools.want('what is there', tools.names(), [])
+    os.chmod(tools.path('text'), 0o444)
+    tools.want('not to be written', tools.tool('compare', '--json', 'text', FIRST, FIRST)[0], 3)
+    tools.want('what is there',
+               (tools.names(), tools.read('text')), (['folder', 'link', 'text'], b'text'))
 
 
 HOSTILE = 'a\x1b[31m\n\\ä\udcff'
@@ -493,8 +460,5 @@ def refused_lines(tools: Tools) -> None:
                    [line.startswith(f'{name}: error: ') for line in told], [True])
 
 
-class HarmTest(FolderTest, make=Tools, tests=[
-        outputs_that_are_inputs, outputs_that_are_recordings, full_disks, looks_that_fail,
-        links_to_nothing, permissions, access_control_lists, signals, programs_that_die,
-        filters_that_die, closed_outputs, outputs_before_the_work, names, refused_lines]):
+class HarmTest(FolderTest, make=Tools):
     """Each test has a folder of its own."""

@@ -1,7 +1,4 @@
-"""Tests of tools/install and tools/release.
-
-What is installed is run from a folder elsewhere.
-"""
+"""Tests of tools/install and tools/release: what is installed is run elsewhere."""
 import hashlib
 import os
 import pathlib
@@ -57,6 +54,8 @@ def works(place: Place, prefix: pathlib.Path) -> None:
         path = str(prefix / 'bin' / name)
         place.want('version of ' + name, place.command(path, '--version'),
                    (0, f'{name} {version()}\n', ''))
+        text = place.command(program_named(name, place.program), '--help')[2]
+        place.want('help of ' + name, place.command(path, '--help'), (0, text, ''))
     for tool in TOOLS:
         own = str(prefix / 'bin' / ('nfs3-' + tool))
         place.want('version of ' + tool, place.command(own, '--version')[1].split()[1:],
@@ -79,30 +78,8 @@ def works(place: Place, prefix: pathlib.Path) -> None:
         place.want(path, (prefix / 'share' / path).is_file(), True)
 
 
-def help_of_the_installed_programs(place: Place) -> None:
-    """The installed launchers print what the program says of itself, on standard output with status
-    0, and leave wrong lines as they are."""
-    place.want('install', place.tool('install', 'prefix')[0], 0)
-    asking = [('nfs3canon', '--help'), ('nfs3canon', '-h'), ('nfs3canon', 'help'),
-              ('nfs3canon', 'check', '--help'),
-              ('nfs3canon', 'help', 'pack'), ('nfs3mask', '--help'), ('nfs3mask', 'in', '-h')]
-    for name, *words in asking:
-        text = place.command(program_named(name, place.program), *words)[2]
-        found = place.command(place.path(f'prefix/bin/{name}'), *words)
-        place.want(f'{name} {words}', (found, f'Usage: {name} ' in text), ((0, text, ''), True))
-    for name, *words in (('nfs3canon', 'help', 'no'), ('nfs3canon', '--no', '--help'),
-                         ('nfs3canon',), ('nfs3canon', 'check', '--', '--help'), ('nfs3mask',)):
-        own = place.command(program_named(name, place.program), *words)
-        place.want(f'wrong: {name} {words}',
-                   place.command(place.path(f'prefix/bin/{name}'), *words), own)
-    full = place.command('sh', '-c', 'prefix/bin/nfs3canon --help >/dev/full')
-    place.want('full', full, (3, '', 'nfs3canon: standard output is closed or full\n'))
-
-
 def signals_leave_nothing(place: Place) -> None:
-    """A signal while a file is written ends the launchers of a clone and of a prefix, and the
-    program, and leaves no file of this run; one of another run stays. Ctrl-C signals both, `kill`
-    the launcher alone."""
+    """A signal ends launcher and program, and leaves no file of this run."""
     place.want('install', place.tool('install', 'prefix')[0], 0)
     os.mkdir(place.path('out'))
     mine, half = '.nfs3canon-0123456789abcdef', (
@@ -130,8 +107,7 @@ def signals_leave_nothing(place: Place) -> None:
 
 
 def part_named_by_a_user(place: Place) -> None:
-    """A signal takes away no IN that is named like a part, while OUT is a pipe that nobody
-    reads."""
+    """A signal takes away no IN that is named like a part."""
     place.want('install', place.tool('install', 'prefix')[0], 0)
     name = '.nfs3canon-0123456789abcdef'
     place.write(name, packed((stream(call(xid, NFS, 3, 0) for xid in range(9_000)), b'')))
@@ -161,30 +137,12 @@ def a_limit_on_the_size_of_files(place: Place) -> None:
                        (3, ['in', 'prefix']))
 
 
-def recordings_through_the_launchers(place: Place) -> None:
-    """The installed launchers say which installed tool reads a recording, after the line of the
-    program, whose status they keep."""
-    place.want('install', place.tool('install', 'prefix')[0], 0)
-    place.write('a b.pcap', b'\x0a\x0d\x0d\x0a' + bytes(20))
-    for words, own, advice in (
-            (('nfs3canon', 'check', 'a b.pcap'), 'file 0', "`nfs3-verdicts 'a b.pcap'` reads it"),
-            (('nfs3canon', 'show', 'a b.pcap'), 'file 0', "`nfs3-calls 'a b.pcap'` reads it"),
-            (('nfs3canon', 'same', str(TOP / 'examples/null.nfs3cap'), 'a b.pcap'),
-             'second: file 0', '`nfs3-compare A B` reads recordings'),
-            (('nfs3mask', 'a b.pcap', 'out'), 'file 0',
-             "`nfs3-from-pcap 'a b.pcap' CAPTURE` makes a capture of it")):
-        found = place.command(place.path(f'prefix/bin/{words[0]}'), *words[1:])
-        line = f"{words[0]}: 'a b.pcap' is a recording: {advice}\n"
-        place.want(' '.join(words[:2]), found, (2, '', f'{own}: BadMagic\n{line}'))
-
-
 PIP = '--no-build-isolation --no-index --no-warn-script-location --root-user-action=ignore'.split()
 BUILDS = 'import setuptools, wheel, pip; assert int(setuptools.__version__.split(".")[0]) >= 61'
 
 
 def by_pip(place: Place) -> None:
-    """`pip install` works from a copy of the folder tools alone, leaves there only what git
-    ignores, and its commands say where the programs come from."""
+    """`pip install` works from the folder tools alone, and says what is missing."""
     pythons = [python for python in (sys.executable, '/usr/bin/python3')
                if place.command(python, '-W', 'ignore', '-c', BUILDS)[0] == 0]
     if not pythons:
@@ -231,8 +189,7 @@ OTHER_NAMES = (r'tools/|(?<!nfs3-)\b(?:from_pcap|where|verdicts|calls|procedures
 
 
 def named_as_installed(place: Place) -> None:
-    """The help and the manual page of each tool have the names under which the tools are installed,
-    and no others."""
+    """Help and manual pages have the names under which the tools are installed."""
     prefix = pathlib.Path(place.folder, 'prefix')
     place.want('install', place.tool('install', 'prefix')[0], 0)
     for tool in TOOLS:
@@ -307,8 +264,7 @@ IN_FISH = 'complete -C "$argv"'
 
 
 def completions_load(place: Place) -> None:
-    """Each shell that is there finds the completion of each program and tool by its name, and
-    offers an option of its own."""
+    """Each shell that is there finds each completion, and offers what it has."""
     place.want('install', place.tool('install', 'prefix')[0], 0)
     share = pathlib.Path(place.folder, 'prefix/share')
     path = f'PATH={share.parent / "bin"}:{os.environ["PATH"]}'
@@ -337,13 +293,24 @@ def completions_load(place: Place) -> None:
 
 
 def syntax_of(place: Place, shell: str, share: pathlib.Path) -> list[tuple[int, str]]:
-    """What a shell says of the files of both programs when it only reads them: the status and
-    standard error of each."""
+    """The status and standard error of a shell that only reads the completions."""
     files = {'bash': 'bash-completion/completions/%s', 'zsh': 'zsh/site-functions/_%s',
              'fish': 'fish/vendor_completions.d/%s.fish'}
     answers = (place.command('env', f'HOME={place.folder}', shell, '-n',
                              str(share / (files[shell] % name))) for name in PROGRAMS)
     return [(status, error) for status, _, error in answers]
+
+
+def advice_of_the_launchers(place: Place) -> None:
+    """The launchers say which installed tool reads a recording."""
+    place.want('install', place.tool('install', 'prefix')[0], 0)
+    place.write('a b.pcap', b'\x0a\x0d\x0d\x0a' + bytes(20))
+    for name, words, advice in (('nfs3canon',
+                                 ['check', 'a b.pcap'], "`nfs3-verdicts 'a b.pcap'` reads it"),
+                                ('nfs3mask', ['a b.pcap', 'out'],
+                                 "`nfs3-from-pcap 'a b.pcap' CAPTURE` makes a capture of it")):
+        place.want(name, place.command(place.path(f'prefix/bin/{name}'), *words), (
+            2, '', f"file 0: BadMagic\n{name}: 'a b.pcap' is a recording: {advice}\n"))
 
 
 def under_a_prefix(place: Place) -> None:
@@ -386,8 +353,7 @@ def nothing_changes(place: Place, status: int, *words: str) -> None:
 
 
 def without_a_program(place: Place) -> None:
-    """Where no launcher can make the programs, with a program that is mistyped, and with one that
-    cannot be run."""
+    """A program that is missing, mistyped, or cannot be run changes nothing."""
     clone = pathlib.Path(place.folder, 'clone')
     for name in ('tools', 'man', 'completions'):
         shutil.copytree(TOP / name, clone / name)
@@ -402,8 +368,7 @@ def without_a_program(place: Place) -> None:
 
 
 def on_a_full_disk(place: Place) -> None:
-    """Each old file stays whole or has become a new one, and nothing else is left; also if a folder
-    has one of the names."""
+    """Each old file stays whole or is a new one, and nothing else is left."""
     bin_folder = pathlib.Path(place.folder, 'prefix/bin')
     bin_folder.mkdir(parents=True)
     for name in PROGRAMS:
@@ -423,8 +388,7 @@ def on_a_full_disk(place: Place) -> None:
 
 
 def nothing_that_would_not_work(place: Place) -> None:
-    """Without an nfs3mask beside the program, with a launcher of a clone for it, and with a folder
-    under the prefix that is a symbolic link, nothing is installed or released."""
+    """Without nfs3mask, or through a link, nothing is installed."""
     for folder in ('only', 'real', 'elsewhere'):
         os.mkdir(place.path(folder))
     only = shutil.copy(place.program, place.path('only/nfs3canon'))
@@ -457,8 +421,7 @@ PACKED = ('dpkg', 'dpkg-deb')
 
 @unittest.skipUnless(all(map(shutil.which, PACKED)), 'dpkg is not there')
 def as_a_package(place: Place) -> None:
-    """The package for Debian is installed into a root of its own, where the tools and the programs
-    run. It is the same when it is made again, and its files are where Debian has them."""
+    """The package for Debian has its form, is made again alike, and is installed."""
     name, contents = f'nfs3canon_{version()}_amd64.deb', set[bytes]()
     for umask in ('022', '077'):
         os.mkdir(place.path(umask))
@@ -479,6 +442,11 @@ def as_a_package(place: Place) -> None:
     place.want('owners', {words[1] for words in listed}, {'root/root'})
     place.want('permissions', {words[0] for words in listed},
                {'drwxr-xr-x', '-rwxr-xr-x', '-rw-r--r--', 'lrwxrwxrwx'})
+    installed_package(place, f'022/{name}')
+
+
+def installed_package(place: Place, package: str) -> None:
+    """Installs a package into a root of its own, where its tools run."""
     root = pathlib.Path(place.folder, 'root')
     for folder in ('info', 'updates'):
         (root / 'var/lib/dpkg' / folder).mkdir(parents=True)
@@ -486,7 +454,7 @@ def as_a_package(place: Place) -> None:
     # (the root has no Python of its own)
     place.want('dpkg', place.command('dpkg', f'--root={root}', '--force-not-root',
                                      '--force-depends', f'--log={root}/log', '-i',
-                                     f'022/{name}')[0], 0)
+                                     package)[0], 0)
     for path in ('share/man/man1/nfs3-compare.1.gz', 'share/man/man1/nfs3canon.1.gz',
                  'share/zsh/vendor-completions/_nfs3canon',
                  'share/bash-completion/completions/nfs3-verdicts',
@@ -509,15 +477,13 @@ UMASKS = (0o000, 0o077)
 
 
 def modes_under(folder: pathlib.Path) -> set[tuple[bool, int]]:
-    """The permissions of the folders and files under a folder, and which are of folders. A link has
-    none of its own."""
+    """The permissions under a folder, and which are of folders."""
     return {(path.is_dir(), path.stat().st_mode & 0o7777) for path in folder.rglob('*')
             if not path.is_symlink()}
 
 
 def under_every_umask(place: Place) -> None:
-    """A release has the same bytes, and what is installed the same permissions: folders and
-    programs are for all, and nobody else writes."""
+    """A release has the same bytes, and what is installed the same permissions."""
     contents = set()
     for umask in UMASKS:
         run = ['bash', '-c', 'umask %03o; exec "$@"' % umask, 'bash']
@@ -556,10 +522,5 @@ def under_a_name_that_is_no_text(place: Place) -> None:
     place.want('what is there', os.listdir(place.folder), [])
 
 
-class InstallingTest(FolderTest, make=Place, tests=[
-        under_a_prefix, named_as_installed, commands_of_the_package, completions_load,
-        where_nothing_can_be_written, without_a_program, on_a_full_disk, as_a_release,
-        nothing_that_would_not_work, part_named_by_a_user, a_limit_on_the_size_of_files,
-        recordings_through_the_launchers, by_pip, as_a_package, help_of_the_installed_programs,
-        signals_leave_nothing, under_every_umask, under_a_name_that_is_no_text]):
+class InstallingTest(FolderTest, make=Place):
     """Each test has a folder of its own."""

@@ -1,8 +1,4 @@
-"""Tests of whose a field is that tools/compare names, in each procedure, and of the classes of
-values that whose an item is decides.
-
-What is expected is written by hand, by RFC 1813 and RFC 5531.
-"""
+"""Tests of whose a field is, in each procedure, by RFC 1813 and RFC 5531."""
 import random
 from collections.abc import Sequence
 
@@ -18,7 +14,7 @@ from ..nfs3tools.exchanges.whose import Labels, fields_of
 from ..nfs3tools.comparison.values.classes import Mask, Way, mask_of
 from ..nfs3tools.comparison.verdict.differences import Comparison
 from .cases import FolderTest
-from .test_compare import Conversation
+from .comparisons import Conversation
 from .test_findings import FILE, FOLDER, Findings, H, VERIFIER
 
 SETTINGS = sattr(0o644, 1, 2, 3, set_to_client_time(NOW), set_to_client_time(NOW))
@@ -209,8 +205,7 @@ def labels_of_fewer_parts(place: Findings) -> None:
 
 
 def fields_are_those_of_labels(place: Findings) -> None:
-    """Each field that a message has is among those that its procedure may have, also in an
-    entry."""
+    """Each field of a message is one that its procedure may have."""
     for number, (arguments, done, *_) in NFS_ROWS.items():
         for message in of_exchange(place, NFS, number, arguments,
                                    [success(7, ok(done) if number else b'')]):
@@ -237,8 +232,7 @@ def differing_labels(place: Findings) -> None:
         calls = [call(1, NFS, 3, 14, dirop(b'from', b'a') + dirop(b'to', b'b')),
                  call(2, NFS, 3, 17, fh(b'from') + bytes(24))]
         return calls, [success(1, reply), success(2, listing)]
-    place.put('a', moved(5, 6))
-    place.put('b', moved(7, 8))
+    place.put_both(moved(5, 6), moved(7, 8))
     place.wants('labels', 1, [
         'NFSPROC3_RENAME reply ?/a: connection 1 server record 1 | connection 1 server record 1',
         '  - from-dir before.size=5', '  + from-dir before.size=7', '  - to-dir after.nlink=6',
@@ -257,8 +251,7 @@ def differing_labels(place: Findings) -> None:
 
 def differing_under(place: Findings, mask: Mask, first: tuple[int, bytes, bytes],
                     second: tuple[int, bytes, bytes]) -> list[str]:
-    """Returns the labels that differ between two exchanges under a mask: their procedures,
-    arguments and results."""
+    """Returns the labels that differ between two exchanges under a mask."""
     comparison = Comparison(mask)
     (one, reply), (other, answer) = (of_exchange(place, NFS, number, arguments,
                                                  [success(7, results)])
@@ -269,8 +262,7 @@ def differing_under(place: Findings, mask: Mask, first: tuple[int, bytes, bytes]
 
 
 def sizes_of_changes(place: Findings) -> None:
-    """The class wcc has sizes before, sizes and link counts after, and those of directories, in
-    replies alone."""
+    """The class wcc has sizes and counts of links of what replies say changed."""
     mask = {'wcc': Way.ZERO}
     def wants(what: str, number: int, arguments: tuple[bytes, bytes], results: tuple[bytes, bytes],
               *labels: str) -> None:
@@ -329,19 +321,5 @@ def names_of_removed_files(place: Findings) -> None:
                ['entry.name', 'entry.name'])
 
 
-def raw_bytes_that_are_masked(place: Findings) -> None:
-    """Of raw bodies that are masked the lengths alone differ."""
-    def of_bodies(one: bytes, other: bytes) -> list[str]:
-        comparison, found = Comparison({'raw': Way.ZERO}), list[str]()
-        pair = [of_exchange(place, NFSACL, 1, body, [success(7, body)]) for body in (one, other)]
-        for first, second in zip(*pair):
-            found += [difference.label for difference in comparison.of_messages(first, second)]
-        return found
-    place.want('other bytes', of_bodies(b'abcd', b'efgh'), [])
-    place.want('more bytes', of_bodies(b'abcd', b'abcdefgh'), ['rest', 'rest'])
-
-
-class LabelsTest(FolderTest, make=Findings, tests=[
-        labels_of_every_procedure, labels_of_fewer_parts, fields_are_those_of_labels,
-        differing_labels, sizes_of_changes, names_of_removed_files, raw_bytes_that_are_masked]):
+class LabelsTest(FolderTest, make=Findings):
     """Each test has a folder of its own."""

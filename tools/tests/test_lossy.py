@@ -28,8 +28,7 @@ def frames_of(recording: bytes) -> list[bytes]:
 
 
 def mutated(tools: Tools) -> None:
-    """Random mutations of recordings: no traceback, and no byte in a capture that its frame does
-    not have."""
+    """No traceback, and no byte in a capture that its frame does not have."""
     chance = random.Random(11)
     v6 = whole(hosts=('2001:db8::7', '2001:db8::1'), vlan=3)
     bases = [pcap(whole()), pcapng(whole()), pcap(v6),
@@ -37,7 +36,7 @@ def mutated(tools: Tools) -> None:
              gzip.compress(pcap(whole())),
              pcap(ethernet(piece) for number, frame in enumerate(whole())
                   for piece in fragments(frame[14:], 64, number))]
-    for number in range(4_000):
+    for number in range(1_500):
         base = bases[number % len(bases)]
         recording = mutation(chance, base)
         try:
@@ -53,11 +52,10 @@ def mutated(tools: Tools) -> None:
 
 
 def short_way(tools: Tools) -> None:
-    """Plain frames, which are read by a way of their own, give the same segments as by that for
-    frames of any kind."""
+    """Plain frames, read by a way of their own, give the segments of the general way."""
     chance = random.Random(13)
     frames = [frame for vlan in (None, 7) for frame in whole(vlan=vlan)]
-    for number in range(20_000):
+    for number in range(6_000):
         data = bytearray(chance.choice(frames))
         for _ in range(chance.randrange(3)):
             data[chance.randrange(12, min(60, len(data)))] = chance.choice(
@@ -235,5 +233,5 @@ def cuts_and_losses(tools: Tools) -> None:
             checked(tools, f'{number}: {len(present)} of {begin} to {end}', conversation, present)
 
 
-class LossyTest(FolderTest, make=Tools, tests=[mutated, short_way, cuts_and_losses]):
+class LossyTest(FolderTest, make=Tools):
     """Each test has a folder of its own."""

@@ -1,9 +1,7 @@
 """Tests of tools/compare --marks: runs that are cut at marks, and compared part by part."""
-import json
 import os
 import random
 import sys
-import xml.etree.ElementTree
 from collections.abc import Sequence
 from itertools import chain
 
@@ -19,8 +17,8 @@ from ..nfs3tools.comparison.parts.marks import Piece, pieces_of
 from ..nfs3tools.recordings.taken import TakenStream, take
 from ..nfs3tools.shared.programs import Died
 from .cases import FolderTest
-from .scripts import TOP, WITH_TOOLS, measured
-from .test_compare import COUNTS, Comparisons, Conversation, is_unchecked
+from .comparisons import COUNTS, Comparisons, Conversation, is_unchecked
+from .scripts import TOP, WITH_TOOLS, in_turn, measured
 
 GETATTR, SETATTR, LOOKUP, CREATE, MKDIR = 1, 2, 3, 8, 9
 FILES = ('x', 'y', 'z')
@@ -36,8 +34,7 @@ sys.exit(messages.run('compare', compare.main))
 
 
 class Run:
-    """A run of which each message is known. Connections are numbered from 1. What no two runs share
-    comes out of a seed."""
+    """A run of which each message is known. What no two runs share comes out of a seed."""
 
     def __init__(self, seed: int) -> None:
         self.seed, self.xid = seed, 1_000 * seed
@@ -92,9 +89,7 @@ class Run:
     def recording(self) -> bytes:
         """A recording: three frames open each connection, and then each message is one."""
         talks = [Talk(700 + number) for number in range(len(self.connections()))]
-        frames = [frame for talk in talks for frame in talk.opened()]
-        frames += [talks[number - 1].sent(side, fragment(body)) for number, side, body in self.sent]
-        return pcap([*frames, *(frame for talk in talks for frame in talk.closed())])
+        return pcap(in_turn(talks, ((number - 1, side, body) for number, side, body in self.sent)))
 
 
 def put(place: Comparisons, first: Run, second: Run) -> None:
@@ -112,8 +107,7 @@ def wants(place: Comparisons, what: str, status: int, lines: list[str], *words: 
 # --- Parts ---
 
 def parts_that_are_the_same(place: Comparisons) -> None:
-    """Objects that were reached before a mark, in another order or not at all, do not matter after
-    it."""
+    """What was reached before a mark does not matter after it."""
     def run(seed: int, *reached: str) -> Run:
         run = Run(seed)
         for name in reached:
@@ -136,8 +130,7 @@ def parts_that_are_the_same(place: Comparisons) -> None:
 
 
 def runs_of_the_programs(place: Comparisons, parts: int, mode: int) -> tuple[str, int]:
-    """Compares so many parts, whose last replies have another mode in the second run. Returns the
-    last line, and how often programs ran."""
+    """Compares parts. Returns the last line, and how often programs ran."""
     for name in ('nfs3canon', 'nfs3mask'):
         place.write(name, f'#!/bin/sh\necho >> runs\nexec {program_named(name, place.program)} '
                     '"$@"\n'.encode())
@@ -197,8 +190,7 @@ def parts_listed_at_once(place: Comparisons) -> None:
 
 
 def one_part_that_differs(place: Comparisons) -> None:
-    """It is named, with places and frames of the whole run, and with paths that are known from
-    before the mark."""
+    """It is named, with places, frames and paths of the whole run."""
     def run(seed: int, mode: int) -> Run:
         return Run(seed).reach('x').mark('test 1').get('x').mark('test 2').get('x', mode).mark(
             'test 3').get('x')
@@ -245,8 +237,7 @@ def a_part_more(place: Comparisons) -> None:
 
 
 def names_that_come_again(place: Comparisons) -> None:
-    """Each time after another mark it is a new part. After a mark of the same name it is not: it is
-    looked up again, or made."""
+    """A name that comes after another mark is a new part."""
     def run(seed: int) -> Run:
         run = Run(seed).mark('test 1').get('x').mark('test 2').get('y').mark('test 1')
         run.exchange(1, MKDIR, dirop(run.handle('top'), b'test 1') + sattr(),
@@ -293,8 +284,7 @@ def orders_within_a_part(place: Comparisons) -> None:
 # --- Connections ---
 
 def several_connections(place: Comparisons) -> None:
-    """Frames say to which part a call belongs, and a reply is in the part of its call, whenever it
-    came."""
+    """Frames say to which part a call belongs; its reply is in the same."""
     def run(seed: int, moved: bool) -> Run:
         run = Run(seed).reach('x').reach('y', 2).mark('test 1').get('x', connection=2)
         late = run.begin(2, GETATTR, fh(run.handle('y')))
@@ -325,8 +315,7 @@ def several_connections(place: Comparisons) -> None:
 
 
 def a_call_that_moved_in_secret(place: Comparisons) -> None:
-    """The same connections follow one another in all parts of both runs, but one is of another
-    part."""
+    """It is of another part, though the connections follow as before."""
     def run(seed: int, moved: bool) -> Run:
         run = Run(seed).mark('test 1', 2).get('x', connection=2)
         if not moved:
@@ -343,8 +332,7 @@ def a_call_that_moved_in_secret(place: Comparisons) -> None:
 
 
 def what_is_left_out_of_parts(place: Comparisons) -> None:
-    """Calls that one run alone has in a part are listed under the part, at their positions and
-    paths in the whole run."""
+    """What is left out is listed under its part, with whole positions."""
     def run(seed: int, more: int) -> Run:
         run = Run(seed).reach('x').mark('test 1').get('x').mark('test 2').set('x', 0o600)
         for _ in range(more):
@@ -359,8 +347,7 @@ def what_is_left_out_of_parts(place: Comparisons) -> None:
 
 
 def marks_that_fit_no_call(place: Comparisons) -> None:
-    """A pattern that fits no name of both runs compares nothing by parts: it is an error, also in
-    JUnit XML. One run with a mark is enough."""
+    """A pattern that fits no name is an error, also in JUnit XML."""
     put(place, Run(1).mark('test 1').get('x'), Run(2).mark('test 1').get('x'))
     message = "no call of LOOKUP, CREATE or MKDIR has a name that fits 'nomatch*'"
     for words in ((), ('--order', 'any'), ('--junit', 'x.xml')):
@@ -390,8 +377,7 @@ def captures_connection_by_connection(place: Comparisons) -> None:
 
 
 def nothing_is_lost(place: Comparisons) -> None:
-    """A connection without calls counts, before the first mark. A record whose part is not known
-    ends the comparison."""
+    """A connection without calls counts, and a record of no part ends it."""
     run = Run(1).mark('test 1').get('x', connection=2)
     place.put('a', *run.connections())
     place.put('b', *run.connections(), ([], []))
@@ -415,8 +401,7 @@ def is_refused(stream: TakenStream, owners: Sequence[int]) -> bool:
 
 
 def calls_that_were_sent_again(place: Comparisons) -> None:
-    """One is in the next part. The reply is in the part of the first, so no reply lacks its
-    call."""
+    """A reply is in the part of the first of two calls."""
     def run(seed: int) -> Run:
         run = Run(seed).mark('test 1')
         xid = run.begin(1, GETATTR, fh(run.handle('x')))
@@ -432,9 +417,7 @@ def calls_that_were_sent_again(place: Comparisons) -> None:
 def frames_in_another_order(place: Comparisons) -> None:
     """A call that was recorded before the mark, but comes after it in the stream, is after it."""
     run = Run(1).get('x').mark('test 1').get('x')
-    talk = Talk(700)
-    frames = [*talk.opened(), *(talk.sent(side, fragment(body)) for _, side, body in run.sent),
-              *talk.closed()]
+    frames = in_turn([Talk(700)], [(0, side, body) for _, side, body in run.sent])
     mark, reply, get = frames[5:8]
     frames[5:8] = [get, mark, reply]
     for name in ('a', 'b'):
@@ -444,8 +427,7 @@ def frames_in_another_order(place: Comparisons) -> None:
 
 
 def random_runs(place: Comparisons) -> None:
-    """Random traffic is the same under other names in each part, and no call is lost, in both kinds
-    of input."""
+    """Random traffic is the same in each part, and no call is lost."""
     for seed in range(40):
         names = Names.drawn(random.Random(seed))
         first, second = (Traffic(seed, some).connections for some in (names, names.turned()))
@@ -465,12 +447,9 @@ def random_runs(place: Comparisons) -> None:
 
 
 def is_mark(body: bytes) -> bool:
-    """Whether a call is LOOKUP, CREATE or MKDIR of NFS version 3, by its numbers (RFC 5531, section
-    9)."""
+    """Whether a call is LOOKUP, CREATE or MKDIR, by RFC 5531, section 9."""
     return body[12:24] in [word(NFS) + word(3) + word(number) for number in (LOOKUP, CREATE, MKDIR)]
 
-
-# --- Words and files ---
 
 def patterns_of_names(place: Comparisons) -> None:
     """A pattern is one of the shell, for the whole name, and small letters are not capital ones."""
@@ -495,7 +474,7 @@ def files_for_others(place: Comparisons) -> None:
     put(place, run(1, 0o644), run(2, 0o600).mark('test 3'))
     status, out, _ = place.compare('--marks', PATTERN, '--json', 'json', '--junit', 'junit', 'a',
                                    'b')
-    content = json.loads(place.read('json') or b'')
+    content = place.json('json')
     place.want('json', (status, content['marks'], [run['missing'] for run in content['runs']]),
                (1, PATTERN, [0, 0]))
     place.want('parts', [(part['name'], part['number'], part['verdict'], part['only'])
@@ -510,7 +489,7 @@ def files_for_others(place: Comparisons) -> None:
                           for finding in first['findings']], [
                               ({'position': 'connection 1 server record 2', 'frames': [7]},
                                'obj.mode')])
-    root = xml.etree.ElementTree.fromstring((place.read('junit') or b'').decode())
+    root = place.xml('junit')
     cases = [(case.get('name'), [(item.get('type'), item.get('message')) for item in case
                                  if item.tag == 'failure'])
              for case in root.iter('testcase')]
@@ -537,40 +516,31 @@ def bytes_that_are_missing(place: Comparisons) -> None:
     for words, wanted in (([], 1), (['--allow-losses'], 0)):
         status, out, _ = place.compare('--marks', PATTERN, *words, '--junit', 'junit', 'a', 'b')
         place.want('losses', (status, out[1:]), (wanted, lines))
-        root = xml.etree.ElementTree.fromstring((place.read('junit') or b'').decode())
+        root = place.xml('junit')
         place.want('cases', len(list(root.iter('failure'))), wanted)
 
 
-# --- Cost ---
-
 def many_parts(place: Comparisons) -> None:
-    """100,000 calls with 500 marks take at most 3 times what a whole comparison takes, and 64 MB
-    more."""
+    """20,000 calls with 100 marks take at most 3 times the time of a comparison."""
     def run(seed: int, changed: Sequence[int]) -> Run:
         run = Run(seed)
-        for test in range(500):
+        for test in range(100):
             run.mark(f'test {test}').reach('x')
             for number in range(198):
                 run.get('x', 0o600 if number == 9 and test in changed else 0o644, 1 + number % 2)
         return run
-    put(place, run(1, []), run(2, [7, 300]))
+    put(place, run(1, []), run(2, [7, 60]))
     costs = list[tuple[float, int]]()
     for words in ([], ['--marks', PATTERN]):
         status, lines, seconds, memory = measured(place, 'compare', '--program', place.program,
                                                   *words, 'a', 'b')
         place.want('status', status, 1)
         costs.append((seconds, memory))
-    place.want('parts', lines[-1], '500 parts: 498 same, 2 differ')
+    place.want('parts', lines[-1], '100 parts: 98 same, 2 differ')
     (whole, memory), (parts, more) = costs
     place.want(f'{parts} seconds for {whole}', parts < 3 * whole, True)
-    place.want(f'{more} bytes for {memory}', more < memory + 64e6, True)
+    place.want(f'{more} bytes for {memory}', more < memory + 32e6, True)
 
 
-class MarksTest(FolderTest, make=Comparisons, tests=[
-        few_runs_of_the_programs, few_runs_for_parts_that_differ, parts_listed_at_once,
-        parts_that_are_the_same, one_part_that_differs, a_part_more, names_that_come_again,
-        orders_within_a_part, several_connections, a_call_that_moved_in_secret,
-        captures_connection_by_connection, marks_that_fit_no_call, what_is_left_out_of_parts,
-        nothing_is_lost, calls_that_were_sent_again, frames_in_another_order, random_runs,
-        patterns_of_names, files_for_others, bytes_that_are_missing, many_parts]):
+class MarksTest(FolderTest, make=Comparisons):
     """Each test has a folder of its own."""

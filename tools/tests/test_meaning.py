@@ -1,12 +1,10 @@
-"""Tests of `tools/meaning`: for each rule a fault and what is sound beside it; one item changed in
-recorded replies; and exchanges that are hidden, as those of a client that is not recorded."""
+"""Tests of `tools/meaning`: each rule, items that are changed, exchanges that are hidden."""
 import collections
 import contextlib
 import functools
 import json
 import os
 import random
-import struct
 import unittest
 from collections.abc import Callable, Iterable, Iterator
 from pathlib import Path
@@ -14,10 +12,9 @@ from typing import Any, NamedTuple, Optional
 
 from examples.messages import (
     DIR, EXCLUSIVE, FIFO, FILE_SYNC, GUARDED, LNK, NFS, NFS_PROCEDURES, NOENT, REG, UNCHECKED,
-    UNSTABLE, call, capture, dirop, entries, entry, entryplus, failed, fattr, fh, fragment, guard,
-    how, hyper, made, nfstime, ok, opaque, optional, post_op_attr, sattr,
-    set_to_client_time, success, word)
-from examples.packets import Talk, pcap
+    UNSTABLE, call, capture, dirop, entries, entry, entryplus, failed, fattr, fh, guard, how, hyper,
+    made, nfstime, ok, opaque, optional, post_op_attr, sattr, set_to_client_time, success, word)
+from examples.packets import Talk
 from tools.nfs3tools.exchanges.kept import Kept
 from tools.nfs3tools.exchanges.stored import Values
 from tools.nfs3tools.judgement.verdict import Verdict, kept_in
@@ -28,7 +25,7 @@ from tools.nfs3tools.recordings.selection import Options
 from tools.nfs3tools.recordings.taken import take
 
 from .cases import PROGRAM, FolderTest
-from .scripts import TOP, Tools
+from .scripts import TOP, Tools, in_turn, timed
 
 FOLDER, FILE, OTHER = b'folder', b'file', b'other'
 EARLY, LATER, LATEST = (nfstime(seconds, 250_000_000) for seconds in (100, 200, 300))
@@ -36,8 +33,9 @@ VERIFIER, RESTARTED = b'verifier', b'restart.'
 SECONDS = 10**9
 # Recordings of the repository, or all of a folder.
 FOLDER_OF_RECORDINGS = os.environ.get('RECORDINGS')
-RECORDINGS = sorted(Path(FOLDER_OF_RECORDINGS).glob('*.pcap') if FOLDER_OF_RECORDINGS else [
-    *(TOP / 'examples').glob('*_a.pcap'), *(TOP / 'tools/tests/recorded').glob('*-a.pcap.xz')])
+RECORDINGS = sorted(Path(FOLDER_OF_RECORDINGS).glob('*.pcap') if FOLDER_OF_RECORDINGS
+                    else [*(TOP / 'examples').glob('*_a.pcap'), TOP / 'examples/knfsd_readdir.pcap',
+                          *(TOP / 'tools/tests/recorded').glob('*-a.pcap.xz')])
 SHARE_FOUND = 0.65
 OLD_CACHE = 'live-cached'  # a recording of a server whose attributes are old
 HIDDEN, ALARMS_AT_MOST = (0.02, 0.1, 0.4), 2
@@ -230,23 +228,15 @@ MAY_BE = {
 
 def frames_of(number: int, steps: Iterable[Step]) -> list[bytes]:
     """The frames of a connection with a server of its own."""
-    talk = Talk(hosts=('192.0.2.7', f'198.51.100.{number}'))
-    frames = talk.opened()
-    for xid, (name, arguments, results) in enumerate(steps, 1):
-        body = call(xid, NFS, 3, NFS_PROCEDURES.index(name), arguments)
-        frames += [talk.sent(0, fragment(body)), talk.sent(1, fragment(success(xid, results)))]
-    return [*frames, *talk.closed()]
-
-
-def in_seconds(frames: Iterable[bytes]) -> bytes:
-    """A recording with a frame each second."""
-    return pcap([]) + b''.join(struct.pack('<IIII', 1000 + number, 0, len(frame), len(frame))
-                               + frame for number, frame in enumerate(frames))
+    asked = [(call(xid, NFS, 3, NFS_PROCEDURES.index(name), arguments), success(xid, results))
+             for xid, (name, arguments, results) in enumerate(steps, 1)]
+    return in_turn([Talk(hosts=('192.0.2.7', f'198.51.100.{number}'))],
+                   [(0, side, body) for both in asked for side, body in enumerate(both)])
 
 
 def meaning(tools: Tools, *words: str) -> tuple[int, Any]:
     """The status of a run, and its JSON."""
-    status, out, _ = tools.tool('meaning', '--program', tools.program, '--json', *words)
+    status, out, _ = tools.tool('meaning', '--json', *words)
     return status, json.loads(out)
 
 
@@ -256,7 +246,7 @@ def a_fault_of_each_rule(tools: Tools) -> None:
     frames = [frame for number, case in enumerate(CASES)
               for frame in (*frames_of(2 * number, case.before + case.broken),
                             *frames_of(2 * number + 1, case.before + case.sound))]
-    tools.write('a.pcap', in_seconds(frames))
+    tools.write('a.pcap', timed(enumerate(frames), 1_000))
     status, whole = meaning(tools, 'a.pcap')
     tools.want('status', (status, whole['counts']['ok']), (1, 2 * len(CASES)))
     found = collections.defaultdict[int, set[str]](set)
@@ -273,8 +263,8 @@ def a_fault_of_each_rule(tools: Tools) -> None:
 
 def what_is_permitted(tools: Tools) -> None:
     """What servers and clients may do is no finding. A verifier is a note."""
-    tools.write('a.pcap', in_seconds(frame for number, steps in enumerate(MAY_BE.values())
-                                     for frame in frames_of(number, steps)))
+    tools.write('a.pcap', timed(enumerate(frame for number, steps in enumerate(MAY_BE.values())
+                                          for frame in frames_of(number, steps)), 1_000))
     status, whole = meaning(tools, 'a.pcap')
     tools.want('status', (status, whole['counts']['ok']), (0, len(MAY_BE)))
     for number, name in enumerate(MAY_BE, 1):
@@ -284,14 +274,13 @@ def what_is_permitted(tools: Tools) -> None:
 
 # --- Forms of output ---
 
-def write_faulty(tools: Tools) -> None:
-    tools.write('a.pcap', in_seconds(frames_of(1, [read(b'alpha'), read(b'alphb'), asked()])))
+FAULTY = timed(enumerate(frames_of(1, [read(b'alpha'), read(b'alphb'), asked()])), 1_000)
 
 
 def words_of_a_finding(tools: Tools) -> None:
     """A row names both frames, and all forms of output have the same counts and status."""
-    write_faulty(tools)
-    run = functools.partial(tools.tool, 'meaning', '--program', tools.program)
+    tools.write('a.pcap', FAULTY)
+    run = functools.partial(tools.tool, 'meaning')
     first = ('frame 7: READ ? 0+100: byte 4 is 62, in frame 5 it was 61, with the same mtime and '
              'size')
     status, out, _ = run('a.pcap')
@@ -316,8 +305,8 @@ def words_of_a_finding(tools: Tools) -> None:
 
 def findings_that_are_accepted(tools: Tools) -> None:
     """They change no status; what is no longer found is listed; other files are refused."""
-    write_faulty(tools)
-    run = functools.partial(tools.tool, 'meaning', '--program', tools.program, '--accept', 'a.json')
+    tools.write('a.pcap', FAULTY)
+    run = functools.partial(tools.tool, 'meaning', '--accept', 'a.json')
     known = [{'rule': 'read-data', 'server': '198.51.100.1:2049'},
              {'rule': 'nsec', 'server': '*'}]
     tools.write('a.json', json.dumps({'version': 1, 'accepted': known}).encode())
@@ -341,7 +330,7 @@ def a_capture(tools: Tools) -> None:
     replies = [success(xid, results) for xid, (_, _, results)
                in enumerate((read(b'alpha'), read(b'alphb', 3)), 1)]
     tools.write('a.nfs3cap', capture((calls, replies)))
-    status, out, _ = tools.tool('meaning', '--program', tools.program, 'a.nfs3cap')
+    status, out, _ = tools.tool('meaning', 'a.nfs3cap')
     tools.want('rows', (status, [line.split()[0] for line in out.splitlines()[1:-2]]),
                (1, ['read-count-asked']))
     tools.want('is said', 'a capture has no frames' in out.splitlines()[-2], True)
@@ -356,17 +345,6 @@ def the_manual_page(tools: Tools) -> None:
     tools.want('rules', [line for line in rows if line not in page.splitlines()], [])
     tools.want('number', page.partition('.SH RULES')[2].partition('.SH')[0].count('.TP'),
                len(BY_NAME))
-
-
-def real_recordings(tools: Tools) -> None:
-    """What is found in the recordings of the repository. The memory back end of nfs-ganesha keeps
-    no data beyond a size, and moves mtime without ctime. Linux's server counts no attributes."""
-    for name, wanted in (('ganesha_a', {'write-ctime': 6, 'read-data': 1}),
-                         ('concurrent_a', {'write-ctime': 4}),
-                         ('knfsd_readdir', {'entries-size': 1})):
-        status, whole = meaning(tools, str(TOP / f'examples/{name}.pcap'))
-        tools.want(name, (status, {row['rule']: row['found'] for row in whole['rules']}),
-                   (1, wanted))
 
 
 # --- One item changed, and exchanges hidden ---
@@ -417,8 +395,7 @@ def found_in(recorded: Recorded, is_whole: bool = True) -> set[tuple[str, int]]:
 
 
 class Plant(NamedTuple):
-    """A change of one item, valid to `check`: the procedures, whether the call is changed, the item
-    (the last of that name if there are several), and its new value."""
+    """A change of one item: procedures, side, the last item of a name, its new value."""
     procedures: str
     is_call: bool
     item: str
@@ -506,12 +483,13 @@ PLANTS = {
     'listing: eof': Plant(LISTINGS, False, 'eof', bit(1)),
     'FSINFO: rtmult': Plant('FSINFO', False, 'rtmult', lambda value, one: 0),
     'FSINFO: rtmax': Plant('FSINFO', False, 'rtmax', lambda value, one: 1)}
-EACH = 3  # of each kind, in a recording
+EACH = 1  # of each kind, in a recording
 # What is found in recordings as they are, which were looked at by `show`. Nothing else is.
 FOUND = {
     # The memory back end of nfs-ganesha moves mtime without ctime, and keeps no data beyond a size.
     'ganesha_a': {'write-ctime': 6, 'read-data': 1}, 'concurrent_a': {'write-ctime': 4},
     # Linux's server counts no attributes, and answers OK if no entry fits.
+    'knfsd_readdir': {'entries-size': 1},
     'libnfs-knfsd': {'entries-size': 32, 'entries-none': 2},
     # nfs-ganesha has attributes of a cache, while files are changed beside it.
     OLD_CACHE: {'read-data': 14, 'name-gone': 13, 'listing': 9}}
@@ -554,8 +532,7 @@ class Recordings(unittest.TestCase):
         self.assertGreaterEqual(sum(told.values()), SHARE_FOUND * sum(number.values()), told)
 
     def test_hidden(self) -> None:
-        """Nothing more is found if exchanges are hidden. (With an old cache other exchanges show
-        that it is old.)"""
+        """Nothing more is found without some exchanges."""
         alarms = list[str]()
         for path in (path for path in RECORDINGS if path.name != f'{OLD_CACHE}.pcap'):
             with recorded_in(path) as recorded:
@@ -576,7 +553,5 @@ def hidings(kept: Kept) -> Iterator[frozenset[int]]:
             yield frozenset(number for number in range(len(kept)) if chosen.random() < share)
 
 
-class MeaningTests(FolderTest, make=Tools, tests=(
-        a_fault_of_each_rule, what_is_permitted, words_of_a_finding, findings_that_are_accepted,
-        a_capture, the_manual_page, real_recordings)):
-    pass
+class MeaningTests(FolderTest, make=Tools):
+    """Each test has a folder of its own."""

@@ -1,24 +1,20 @@
-"""Tests of the page that tools/compare --html writes: each of its parts, and its use in
-Chromium."""
+"""Tests of the page that tools/compare --html writes, and of its use in Chromium."""
 import itertools
 import re
-import sys
 from collections.abc import Sequence
 
 from examples.messages import (
     ACCES, MOUNT, NFS, array, call, dirop, entries, entry, entryplus, failed, fattr, fh, fragment,
     guard, hyper, ok, opaque, post_op_attr, sattr, success, wcc, word)
 from examples.packets import Talk, pcap
-from tests.shared.running import ended
 
 from .browser import Browser
 from .cases import FolderTest
+from .comparisons import Comparisons, Conversation, Exchange, conversation_of
 from .pages import (
     HERE, HOSTILE, SHOWN, VISIBLE, WIDTHS, Node, Pages, asked_of_others, broken_links, find,
     in_chromium, light_of, table_of)
-from .scripts import WITH_TOOLS
-from .test_compare import (
-    CHANGED, EXAMPLES, FIRST, SECOND, Comparisons, Conversation, Exchange, conversation_of)
+from .scripts import CHANGED, EXAMPLES, FIRST, SECOND
 
 GETATTR, SETATTR, LOOKUP, READLINK, READ, WRITE, MKDIR, READDIR, READDIRPLUS = (
     1, 2, 3, 5, 6, 7, 9, 16, 17)
@@ -36,8 +32,7 @@ class Compared(Comparisons, Pages):
 
     def page_of(self, first: Conversation, second: Conversation, *words: str) -> Node:
         """The page of two runs of one connection."""
-        self.put('a', first)
-        self.put('b', second)
+        self.put_both(first, second)
         return self.page(*words)
 
     def opened(self, browser: Browser, *words: str) -> Node:
@@ -76,8 +71,7 @@ def link(path: bytes, status: int = 0) -> Conversation:
 
 
 def gets(modes: Sequence[int], made_before: Sequence[int] = ()) -> Conversation:
-    """GETATTR of one file, which has each mode in turn. Before some of them, by index, there is a
-    MKDIR of another name each time."""
+    """GETATTR of one file with each mode in turn; before some a MKDIR of another name."""
     steps = list[Exchange]()
     for index, mode in enumerate(modes):
         steps += [(MKDIR, dirop(b'top', b'new%d %d' % (index, at)) + sattr(), failed(ACCES, wcc()))
@@ -95,8 +89,7 @@ SENTENCE = b'This is the same in every run, and it is long enough that nobody re
 
 
 def worked(text: bytes, *made_at: int) -> Conversation:
-    """A file of `/hold` that is written and read twice among 40 GETATTRs, and SETATTRs of another
-    after some of these."""
+    """A file that is written and read among 40 GETATTRs, with SETATTRs of another."""
     steps = [looked_up(b'f1', b'f1', 7), looked_up(b'f2', b'f2', 8)]
     count, at_0 = word(len(text)), fh(b'f2') + hyper(0)
     for at in range(40):
@@ -121,8 +114,7 @@ def runs_of(page: Node) -> dict[str, list[str]]:
 
 
 def head_and_counts(place: Compared) -> None:
-    """The verdict in words and as it is printed, both runs, and what is masked. The frames are
-    those that tshark calls the first and the last with payload."""
+    """The verdict, both runs and what is masked, with the frames of tshark."""
     page = place.page(FIRST, CHANGED)
     place.want('words', page.texts('h1'), ['The runs differ'])
     about, = page.all('details', 'about')
@@ -175,8 +167,7 @@ def what_does_not_count(place: Compared) -> None:
 
 
 def verdicts_in_words(place: Compared) -> None:
-    """Pages of runs that are the same, in another order, and of empty connections. Of a run without
-    calls there is none."""
+    """Pages of runs that are the same, in another order, and without calls."""
     def wants(heading: str, remark: str, calls: str, *words: str) -> None:
         page = place.page(*words)
         place.want(heading, (page.texts('h1'), remark in page.text(),
@@ -193,55 +184,55 @@ def verdicts_in_words(place: Compared) -> None:
     place.put('b', ([], []))
     place.want('no calls', (place.compare('--html', 'none', 'a', 'b')[0], place.read('none')),
                (2, None))
-    # (ids are given in the order of time, and again: no renaming of them is one to one)
-    first, second = (conversation_of([looked_up(name, name, fileid)
-                               for name, fileid in zip(names, (7, 8, 7))])
-                     for names in ((b'1', b'2', b'3'), (b'2', b'1', b'3')))
-    page = place.page_of(first, second)
-    place.want('ids', (page.texts('h1'), 'fsids and ids follow their objects' in page.text()),
-               (['The runs are the same in another order'], True))
 
 
 def glance_of(page: Node) -> str:
     return ''.join(page.texts('p', 'glance'))
 
 
+def glances(place: Compared, what: str, first: Conversation, second: Conversation,
+            *words: str) -> Node:
+    """Wants these words under the title of two runs. Returns the page."""
+    options = ['--order=strict'] if 'reordered' in words[0] else []
+    page = place.page_of(first, second, *options)
+    place.want(what, glance_of(page).split(' · '), [*words])
+    return page
+
+
 def at_a_glance(place: Compared) -> None:
-    """Under the title is what differs, with its paths. Of values only those are shown that are the
-    same in all messages, known in both runs, and whole."""
-    def wants(what: str, first: Conversation, second: Conversation, *words: str) -> Node:
-        page = place.page_of(first, second,
-                             *(['--order=strict'] if 'reordered' in words[0] else []))
-        place.want(what, glance_of(page).split(' · '), [*words])
-        return page
+    """Under the title is what differs, with its paths."""
     place.want('a recording', glance_of(place.page(FIRST, CHANGED)),
                'rtmax, rtpref, wtmax, .. of /mem (1 FSINFO reply)')
     text, more = worked(SENTENCE), '1 SETATTR only in the second run: /hold/f1 mode 0640'
     calls = '(1 WRITE, 2 READs)'
-    page = wants('data', text, worked(SENTENCE.replace(b'same', b'sAme'), 30),
+    page = glances(place, 'data', text, worked(SENTENCE.replace(b'same', b'sAme'), 30),
                  f'1 byte of /hold/f2 {calls}', more)
     place.want('paths', page.all('p', 'glance')[0].texts('code'), ['/hold/f2', '/hold/f1'])
     order = [node.tag for node in page.nodes()
              if node.tag in ('h1', 'section') or {'glance', 'about'} & set(node.classes)]
     place.want('order', order, ['h1', 'p', 'details', 'section', 'section', 'section'])
-    wants('several', text, worked(SENTENCE[:20], 30, 31), f'bytes of /hold/f2 {calls}',
+    glances(place, 'several', text, worked(SENTENCE[:20], 30, 31), f'bytes of /hold/f2 {calls}',
           '2 SETATTRs only in the second run: /hold/f1', 'count of /hold/f2: 82 → 20 (1 WRITE)',
           'count of /hold/f2: 82 → 20 (3 replies to WRITE, READ)')
-    wants('fields', asked([0o640] * 3), asked([0o640, 0o600, 0o600]),
+
+
+def values_at_a_glance(place: Compared) -> None:
+    """Of values only those are shown that are the same in all messages, known, and whole."""
+    glances(place, 'fields', asked([0o640] * 3), asked([0o640, 0o600, 0o600]),
           'obj.mode of 2 paths, the first /m/f1: 0640 → 0600 (2 GETATTR replies)')
-    wants('other values', asked([0o640] * 3), asked([0o641, 0o600, 0o600]),
+    glances(place, 'other values', asked([0o640] * 3), asked([0o641, 0o600, 0o600]),
           'obj.mode of 3 paths, the first /m/f0 (3 GETATTR replies)')
-    wants('a status', link(b'x'), link(b'y', ACCES),
+    glances(place, 'a status', link(b'x'), link(b'y', ACCES),
           'status: NFS3_OK → NFS3ERR_ACCES (1 READLINK reply)')
-    wants('a path', link(b'x'), link(b'y'), 'path: "x" → "y" (1 READLINK reply)')
-    wants('a path that is cut', link(b'x' * 62), link(b'y'), 'path (1 READLINK reply)')
+    glances(place, 'a path', link(b'x'), link(b'y'), 'path: "x" → "y" (1 READLINK reply)')
+    glances(place, 'a path that is cut', link(b'x' * 62), link(b'y'), 'path (1 READLINK reply)')
     def listed(*names: bytes) -> Conversation:
         some = entries(None, bytes(8), [entry(1, name, 0) for name in names], is_end=True)
         return conversation_of([(READDIR, fh(b'top') + bytes(20), ok(some))])
-    wants('of one run', listed(b'a'), listed(b'a', b'b'), 'entry.name (1 READDIR reply)')
+    glances(place, 'of one run', listed(b'a'), listed(b'a', b'b'), 'entry.name (1 READDIR reply)')
     (calls_of, replies), turned = asked([1, 2, 3]), (1, 2, 5, 6, 3, 4)
-    wants('order', (calls_of, replies), ([calls_of[0], *(calls_of[at] for at in turned)], replies),
-          '2 calls reordered')
+    glances(place, 'order', (calls_of, replies),
+            ([calls_of[0], *(calls_of[at] for at in turned)], replies), '2 calls reordered')
     place.put('a', asked([0o640]), gets([0o640]))
     place.put('b', asked([0o600]), gets([0o600]))
     place.want('a path is not known', glance_of(place.page()),
@@ -277,8 +268,7 @@ def changes_of(node: Node) -> list[str]:
 
 
 def differences(place: Compared) -> None:
-    """A finding has its path, both positions with frames and filters of the part of a recording
-    that has them, and its values."""
+    """A finding has its path, both positions with frames and filters, and values."""
     with open(CHANGED, 'rb') as file:
         content = file.read()
     ends = [24]
@@ -328,8 +318,7 @@ def differences_that_say_the_same(place: Compared) -> None:
 
 
 def marked_bytes(place: Compared) -> None:
-    """Beside the hexadecimal digits of a text is the text. The bytes that differ are marked in
-    both."""
+    """The bytes that differ are marked, in digits and in text."""
     def lines(first: Conversation, second: Conversation) -> list[Node]:
         return place.page_of(first, second).all('article')[0].all('div', 'change')[0].all('div')[
             -2:]
@@ -361,8 +350,7 @@ def fields_of(node: Node) -> list[list[str]]:
 
 
 def fields_of_calls(place: Compared) -> None:
-    """A row has the fields of its call and its replies on a click, with both values if they
-    differ."""
+    """A row has the fields of its call and replies, both if they differ."""
     rows = place.page_of(gets(with_modes(5)), gets(with_modes(5, 2))).all('details', 'row')
     place.want('rows', [row.texts('summary')[0].split(' record')[0] for row in rows],
                [f'{mark} NFSPROC3_GETATTR' for mark in '==≠=='])
@@ -415,8 +403,7 @@ is_end=True)))]) for mode in (0o640, 0o600))
 
 
 def rows_and_gaps(page: Node) -> list[str]:
-    """What the page has of calls: a sign and the records for each row, and the words of each
-    gap."""
+    """A sign and the records of each row, and the words of each gap."""
     found = []
     for node in page.all('section')[-1].nodes():
         if 'row' in node.classes:
@@ -458,8 +445,7 @@ def calls_around(place: Compared) -> None:
 
 
 def calls_of_one_run(place: Compared) -> None:
-    """A connection that one run alone has shows its first call, and a call is where it was sent,
-    also if calls before it are reordered."""
+    """A connection of one run shows its first call, and a call its place."""
     place.put('a', gets([1] * 4))
     place.put('b', gets([1] * 4), gets([5] * 3, range(3)), NULLS)
     page = place.page()
@@ -480,30 +466,11 @@ def calls_of_one_run(place: Compared) -> None:
     place.want('turn', rows[at - 1:at + 2], ['= 40 39', '+ 41', '= 41 42'])
 
 
-# Compares, and prints the number of pieces of the page and the size of the largest.
-PIECES = """import sys
-from nfs3tools.commands import compare
-write = compare.write_file
-def measured(path, pieces, inputs):
-    pieces = list(pieces)
-    print(len(pieces), max(map(len, pieces)), file=sys.stderr)
-    write(path, pieces, inputs)
-compare.write_file = measured
-compare.main(sys.argv[1:])
-"""
-
-
 def how_much_is_shown(place: Compared) -> None:
-    """There are at most 2,000 findings, 20,000 positions of those that say the same, and 2,000
-    calls of the second run, then how many more. No piece is large, and equal calls cost nothing."""
-    place.put('a', gets([5_000] * 12 + list(range(2_490))))
-    place.put('b', gets([6_000] * 12 + list(range(3_000, 5_490))))
-    words = [sys.executable, '-c', PIECES, '--program', place.program, '--html', 'page.html', 'a',
-             'b']
-    number, largest = map(int, ended(words, place.folder, env=WITH_TOOLS).text()[2].split())
-    place.want(f'{number} pieces of {largest} characters', (number > 6_000, largest < 20_000),
-               (True, True))
-    page = place.written()
+    """There are at most so many findings, positions and calls, and then how many more."""
+    place.put_both(gets([5_000] * 12 + list(range(2_490))),
+                   gets([6_000] * 12 + list(range(3_000, 5_490))))
+    page = place.page()
     articles, calls = page.all('article'), rows_and_gaps(page)
     place.want('findings', (len(articles), articles[-1].text()[:5]), (2_000, '2000 '))
     place.want('positions', (len(articles[0].all('li')), articles[0].texts('p')[-1]),
@@ -517,12 +484,12 @@ def how_much_is_shown(place: Compared) -> None:
     place.want('of the second run', (calls[:5], calls[5:2_003], calls[2_003:]), (
         ['2 equal calls', *equal(3, 4, 5), '+ 6'], [f'+ {record}' for record in range(7, 2_005)],
         ['+ 2005', '4 equal calls', '100 calls more are only in the second run']))
-    page = place.page_of(gets(with_modes(20_000)),
-                         gets(with_modes(20_000, *range(500, 20_000, 2_000))))
+    page = place.page_of(gets(with_modes(6_000)),
+                         gets(with_modes(6_000, *range(500, 6_000, 2_000))))
     size = len(place.read('page.html') or b'')
-    place.want(f'{size} bytes', (size < 200_000, len(page.all('details', 'row'))), (True, 70))
+    place.want(f'{size} bytes', (size < 200_000, len(page.all('details', 'row'))), (True, 21))
     place.want('gaps', page.texts('p', 'gap'), [
-        '497 equal calls', *['1,993 equal calls'] * 9, '1,496 equal calls'])
+        '497 equal calls', *['1,993 equal calls'] * 2, '1,496 equal calls'])
 
 
 def names_are_escaped(place: Compared) -> None:
@@ -573,9 +540,7 @@ SIGN_IS_BESIDE = r"""(() => {
 
 @in_chromium
 def pages_in_chromium(place: Compared) -> None:
-    """Pages load without an error, and nothing is wider than the window. Text can be read, light
-    and dark, and without scripts. Signs are beside what they are of, however narrow the window
-    is."""
+    """Pages load, fit, and can be read, light and dark, without scripts."""
     place.put('long', asked([0o640] * 3, b'x' * 200 + b' ' + b'/'.join([b'folder'] * 40)))
     place.put('hostile<script>document.title=3<', asked([0o600] * 3, HOSTILE.encode()))
     place.put('a', gets([1]))
@@ -623,10 +588,9 @@ HEADS = SHOWN % 'h2, h3' + '.filter(one => !one.closest("article")).map(one => o
 
 @in_chromium
 def keys_and_buttons(place: Compared) -> None:
-    """n, p and the buttons go from finding to finding, and a link to its place also far down. In
-    the text field they are letters."""
-    place.put('a', gets(list(range(1_500))))
-    place.put('b', gets([2_000 + at if at % 9 == 5 else at for at in range(1_500)]))
+    """n, p, buttons and links go to findings; in the field n is a letter."""
+    place.put_both(gets(list(range(1_500))),
+                   gets([2_000 + at if at % 9 == 5 else at for at in range(1_500)]))
     with place.browser() as browser:
         page = place.opened(browser)
         rows = [row.attributes['id'] for row in page.all('details', 'row') if row.all('a')]
@@ -660,17 +624,14 @@ def keys_and_buttons(place: Compared) -> None:
         place.want('errors', browser.errors, [])
 
 
-def put_two_findings(place: Compared) -> None:
-    """Writes two runs with two findings, in 30 of 80 messages."""
-    place.put('a', asked([0o640] * 40))
-    place.put('b', asked([(0o640, 0o600, 0o600, 0o601)[at % 4] for at in range(40)]))
+# Two runs with two findings, in 30 of 80 messages.
+TWO_FINDINGS = asked([0o640] * 40), asked([0o640, 0o600, 0o600, 0o601] * 10)
 
 
 @in_chromium
 def searching(place: Compared) -> None:
-    """The text field hides what does not have its text, with its heading, and counts what has
-    it."""
-    put_two_findings(place)
+    """The field hides what does not have its text, and counts what has it."""
+    place.put_both(*TWO_FINDINGS)
     with place.browser() as browser:
         page = place.opened(browser)
         whole = [browser.value(VISIBLE % one) for one in ('article', '.row', '.gap')]
@@ -703,7 +664,7 @@ def searching(place: Compared) -> None:
 @in_chromium
 def what_opens_and_is_copied(place: Compared) -> None:
     """What is folded opens on a click, and a button copies its filter."""
-    put_two_findings(place)
+    place.put_both(*TWO_FINDINGS)
     with place.browser() as browser:
         place.opened(browser)
         for selector, inner in (('#f1 details', 'li'), ('.row', '.fields'),
@@ -726,9 +687,5 @@ def what_opens_and_is_copied(place: Compared) -> None:
         place.want('errors', browser.errors, [])
 
 
-class PageTest(FolderTest, make=Compared, tests=[
-        head_and_counts, what_does_not_count, verdicts_in_words, at_a_glance, kinds_of_differences,
-        differences, differences_that_say_the_same, marked_bytes, fields_of_calls, long_messages,
-        calls_around, calls_of_one_run, how_much_is_shown, names_are_escaped, pages_in_chromium,
-        keys_and_buttons, searching, what_opens_and_is_copied]):
+class PageTest(FolderTest, make=Compared):
     """Each test has a folder of its own."""

@@ -1,9 +1,4 @@
-"""Tests of `tools/compare --order any` with changes of one field in real recordings.
-
-Two runs of a client are taken apart and recorded anew, without most bytes of files. In the second
-one a field is changed in one message. It has to be found, and nothing else.
-"""
-import json
+"""Tests of `tools/compare --order any` with changes of one field in real recordings."""
 import random
 import struct
 from collections import defaultdict
@@ -19,13 +14,13 @@ from ..nfs3tools.recordings.selection import Options
 from ..nfs3tools.recordings.taken import take
 from ..nfs3tools.shared.layouts import BY_NAME, Item, Message as Body, procedures
 from .cases import FolderTest
+from .comparisons import Comparisons
 from .scripts import TOP
-from .test_compare import Comparisons
 
 RECORDED = TOP / 'tools/tests/recorded'
 NUMBERS = {key: one.name for key, one in procedures()}
 DATA = 8  # bytes of files that are kept of a message
-PLANTED = 48  # changes of a recording, each in a run of its own
+PLANTED = 16  # changes of a recording, each in a run of its own
 # Values that are masked by name, that say which layout follows, or that name an object of which
 # other messages depend.
 LEFT = frozenset(
@@ -49,8 +44,7 @@ OK_REPLY = bytes.fromhex('00000001000000000000000000000000 00000000'.replace(' '
 
 @dataclass(frozen=True)
 class Said:
-    """A message of a run: its connection and its side, 0 for a call; of a reply the call's xid
-    tells which it answers."""
+    """A message of a run: its connection, and its side, 0 for a call."""
     connection: int
     side: int
     service: int
@@ -71,8 +65,7 @@ Run = list[Said]
 
 
 def run_of(name: str) -> Run:
-    """The messages of NFS and MOUNT of a recording in the order of the frames that completed
-    them."""
+    """The messages of a recording in the order of the frames that completed them."""
     out = list[tuple[int, Said]]()
     with take(str(RECORDED / f'{name}.pcap.xz'), Options()) as taken:
         for number, one in enumerate(taken.connections):
@@ -120,10 +113,6 @@ class Plant(NamedTuple):
     body: bytes
 
 
-def with_value(said: Said, item: Item, value: bytes) -> bytes:
-    return said.body[:item.begin] + value + said.body[item.end:]
-
-
 def other_value(said: Said, item: Item, chance: random.Random) -> bytes:
     """Another value of a field: one more, another of few, or another byte of data."""
     value = said.body[item.begin:item.end]
@@ -157,7 +146,8 @@ def planted_fields(run: Run, chance: random.Random) -> Iterator[Plant]:
         for key, some in fields:
             at, item = chance.choice(some)
             yield Plant(' '.join(key), at,
-                        with_value(run[at], item, other_value(run[at], item, chance)))
+                        run[at].body[:item.begin] + other_value(run[at], item, chance)
+                        + run[at].body[item.end:])
 
 
 def planted_statuses(run: Run, chance: random.Random) -> Iterator[Plant]:
@@ -194,8 +184,7 @@ def positions(run: Run) -> dict[str, tuple[int, bytes]]:
 
 
 class Found(NamedTuple):
-    """What is found: the exchange of the second run of each finding, and the procedures of what the
-    first run has alone."""
+    """The exchanges of all findings, and the procedures of what the first run has alone."""
     status: int
     exchanges: list[tuple[int, bytes]]
     alone: list[str]
@@ -204,16 +193,14 @@ class Found(NamedTuple):
 def found_in(place: Comparisons, second: Run) -> Found:
     place.write('b.pcap', recorded(second))
     status, _, error = place.compare('--order', 'any', '--json', 'out.json', 'a.pcap', 'b.pcap')
-    where, findings = positions(second), json.loads(place.read('out.json') or b'')['findings']
+    where, findings = positions(second), place.json('out.json')['findings']
     place.want('error', error, '')
     return Found(status, [where[one['second']['position']] for one in findings if one['second']],
                  [one['procedure'] for one in findings if not one['second']])
 
 
 def plants_are_found(place: Comparisons, name: str) -> None:
-    """The runs are the same, and each change is found by itself: one finding, of its exchange. If a
-    call asks something else, no order explains its reply, which may be a second finding; or it may
-    be a call of the first run alone as well."""
+    """Each change is one finding, of its exchange; a call may explain its reply."""
     first, second = run_of(f'{name}-a'), run_of(f'{name}-b')
     place.write('a.pcap', recorded(first))
     place.want(f'{name}: nothing', found_in(place, second), (0, [], []))
@@ -228,8 +215,7 @@ def plants_are_found(place: Comparisons, name: str) -> None:
 
 
 def calls_are_found(place: Comparisons, name: str) -> None:
-    """A call that is dropped, that comes twice, and replies that change places are found. One that
-    was sent again is listed."""
+    """Calls that are dropped or come twice, and replies that change places."""
     first, second = run_of(f'{name}-a'), run_of(f'{name}-b')
     place.write('a.pcap', recorded(first))
     chance = random.Random(name)
@@ -245,7 +231,7 @@ def calls_are_found(place: Comparisons, name: str) -> None:
                (1, 1, True))
     found = found_in(place, [*second[:at + 1], one, *second[at + 1:]])
     place.want('sent again', found[:2], (0, []))
-    left_out = json.loads(place.read('out.json') or b'')['left_out']
+    left_out = place.json('out.json')['left_out']
     place.want('listed', [other['kind'] for other in left_out].count('sent again'), 1)
     replies = by_answers(second)
     if len(replies) > 1:

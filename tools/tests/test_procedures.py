@@ -1,10 +1,6 @@
-"""Tests of `tools/procedures`.
-
-What needs tshark is skipped, with a word, if tshark is not there.
-"""
+"""Tests of `tools/procedures`. Without tshark, what needs it is skipped, with a word."""
 import csv
 import io
-import json
 import re
 import shutil
 import unittest
@@ -19,7 +15,8 @@ from tests.shared.running import ended
 from .cases import FolderTest
 from .recordings import interface, section, simple
 from .scripts import (
-    TOP, Tools, in_fragments, measured, stream, sums as sum_line, whole, write_faulty)
+    TOP, TSHARK, Tools, in_fragments, measured, of_tshark, stream, sums as sum_line, whole,
+    write_faulty)
 
 GETATTR, LOOKUP, MNT = 1, 3, 1  # by their numbers
 HEADS = ['procedure', 'calls', 'again', 'replies', 'no reply', 'call bytes',
@@ -27,15 +24,11 @@ HEADS = ['procedure', 'calls', 'again', 'replies', 'no reply', 'call bytes',
 LONGEST = HEADS.index('longest')
 ENDS = 'client 192.0.2.7:700, server 192.0.2.1:2049'
 ATTRIBUTES = ok(fattr(1, 5))
-MANY, MOST_MEMORY = 100_000, 64 << 20
-# With segments in their order, and calls to ports that TLS might have.
-TSHARK = ['tshark', '-n', '-o', 'tcp.reassemble_out_of_order:TRUE', '--disable-protocol', 'tls',
-          '-r']
+MANY, MOST_MEMORY = 30_000, 48 << 20
 
 
 class Row(NamedTuple):
-    """What a procedure should have, with its latencies in microseconds: the ranks, the mean
-    (rounded) and the sum; and where the longest is."""
+    """What a procedure should have, latencies in microseconds: ranks, mean and sum."""
     procedure: str
     counts: tuple[int, int, int, int]
     bytes: tuple[int, int]
@@ -58,9 +51,8 @@ class Row(NamedTuple):
 
 def procedures(tools: Tools, *words: str,
                stdin: bytes | None = None) -> tuple[int, dict[str, list[list[str]]], str]:
-    """The status of a run, the rows of each table by its title, and what is told on standard
-    error."""
-    status, out, error = tools.tool('procedures', '--program', tools.program, *words, stdin=stdin)
+    """The status, the rows of each table by its title, and standard error."""
+    status, out, error = tools.tool('procedures', *words, stdin=stdin)
     blocks = [block.splitlines() for block in out.strip('\n').split('\n\n') if block]
     return status, {block[0]: [re.split('  +', line.strip()) for line in block[1:]]
                     for block in blocks}, error
@@ -68,8 +60,8 @@ def procedures(tools: Tools, *words: str,
 
 def tables_of(tools: Tools, *words: str) -> list[dict[str, Any]]:
     """The tables that a run writes as JSON."""
-    tools.tool('procedures', '--program', tools.program, '--json', 'x.json', *words)
-    found: list[dict[str, Any]] = json.loads(tools.read('x.json') or b'{}')['tables']
+    tools.tool('procedures', '--json', 'x.json', *words)
+    found: list[dict[str, Any]] = tools.json('x.json')['tables']
     return found
 
 
@@ -84,8 +76,7 @@ def size(*bodies: bytes) -> int:
 
 
 def one_of_each(talk: Talk) -> tuple[list[bytes], list[Row]]:
-    """A connection with one message a frame, from frame 4 on, a frame each microsecond; and what
-    its procedures should have."""
+    """A connection with a frame each microsecond, and what its procedures have."""
     calls = {1: call(1, NFS, 3, GETATTR, fh(b'a')),
              2: call(2, NFS, 3, LOOKUP, dirop(b'd', b'name')),
              3: call(3, NFS, 3, GETATTR, fh(b'b')),
@@ -158,8 +149,7 @@ def counts_by_hand(tools: Tools) -> None:
 
 
 def times_of_records(tools: Tools) -> None:
-    """A record is complete by the last frame that brought its bytes, be they in its middle. A
-    segment that comes again brings none."""
+    """A record is complete by the last frame that brought its bytes."""
     talk, asked, answer = Talk(), call(1, NFS, 3, GETATTR,
                                        fh(b'a')), fragment(success(1, ATTRIBUTES))
     # 4 and 5
@@ -196,8 +186,7 @@ def times_of_records(tools: Tools) -> None:
 
 
 def ranks_of_latencies(tools: Tools) -> None:
-    """The median is the lower of two in the middle; of 100 latencies the 99th is the last but one,
-    and of 99 it is the last."""
+    """The median is the lower of two; of 100 latencies the 99th is the last but one."""
     for number, median, p99 in ((1, 1, 1), (2, 1, 2), (3, 2, 3), (99, 50, 99), (100, 50, 99),
                                 (101, 51, 100)):
         # All calls in one frame, and then each reply in a frame of its own, a microsecond after
@@ -214,8 +203,7 @@ def ranks_of_latencies(tools: Tools) -> None:
 
 
 def xids_that_come_again(tools: Tools) -> None:
-    """A call with another handle is no retransmission, and one that comes after it as the first was
-    is one. Their replies belong to them in their order."""
+    """A call with another handle is no retransmission, and has its reply."""
     first, second = (call(9, NFS, 3, GETATTR, fh(name)) for name in (b'a', b'b'))
     reply = success(9, ATTRIBUTES)
     for bodies, wanted in (([(0, first), (1, reply), (0, second), (1, reply)], (2, 0, 2, 0, 1_000)),
@@ -235,14 +223,13 @@ def xids_that_come_again(tools: Tools) -> None:
 
 
 def judged_in_part(tools: Tools) -> None:
-    """What is missing or wrong is said above the table, as tools/verdicts says it, and the status
-    is the same."""
+    """Titles, words and status are those of tools/verdicts."""
     faulty = write_faulty(tools)
     tools.write('first.pcap', pcap(whole()[:3] + whole()[4:]))
     for name in (*faulty, 'first.pcap', 'absent'):
         for options in ((), ('--allow-losses',)):
             status, tables, error = procedures(tools, *options, name)
-            judged, out, told = tools.tool('verdicts', '--program', tools.program, *options, name)
+            judged, out, told = tools.tool('verdicts', *options, name)
             verdicts = [line.split('  ')[-1] for line in out.splitlines()[1:-1]]
             titles = list(tables)
             tools.want(f'{name}: what is told', (status, error), (judged, told))
@@ -263,8 +250,7 @@ def judged_in_part(tools: Tools) -> None:
 
 
 def captures_have_no_times(tools: Tools) -> None:
-    """The table of a capture is that of its recording without latencies, in both versions and with
-    records of fragments."""
+    """The table of a capture is that of its recording without latencies."""
     for name in ('ganesha_a', 'concurrent_a'):
         recording = str(TOP / f'examples/{name}.pcap')
         tools.want('from_pcap', tools.tool('from_pcap', recording, 'a.nfs3cap')[0], 0)
@@ -280,8 +266,7 @@ def captures_have_no_times(tools: Tools) -> None:
 
 
 def sorted_rows(tools: Tools) -> None:
-    """The largest number of a column is first, rows without one are last, and the sum stays at the
-    end. So in JSON and CSV."""
+    """The largest number is first, and the sum last, also in JSON and CSV."""
     tools.write('a.pcap', pcap(one_of_each(Talk())[0]))
     null, getattr_row, lookup, mnt = 'NULL', 'GETATTR', 'LOOKUP', 'MNT'
     dump, getport = 'DUMP', 'GETPORT'
@@ -304,15 +289,13 @@ def sorted_rows(tools: Tools) -> None:
     tools.want('another column', tools.tool('procedures', '--sort', 'colour', 'a.pcap')[0], 2)
     # Beside a recording with 39 calls of NULL these are first, and without them those of GETATTR.
     tools.write('b.pcap', pcap(whole()))
-    _, out, _ = tools.tool('procedures', '--program', tools.program, '--beside', '--sort',
-                           'calls', 'a.pcap', 'b.pcap')
+    _, out, _ = tools.tool('procedures', '--beside', '--sort', 'calls', 'a.pcap', 'b.pcap')
     tools.want('beside', [line.split()[0] for line in out.splitlines()[3:5]],
                ['NFSPROC3_NULL', 'NFSPROC3_GETATTR'])
 
 
 def clock_that_goes_back(tools: Tools) -> None:
-    """A reply with an earlier time has a negative latency, which is told in words: in the title,
-    and by number in JSON."""
+    """A reply with an earlier time has a negative latency, which is told."""
     talk = Talk()
     messages = [(0, call(1, NFS, 3, 0)), (1, success(1)), (0, call(2, NFS, 3, 0)), (1, success(2))]
     frames = talk.opened() + [talk.sent(side, fragment(body)) for side, body in messages]
@@ -330,14 +313,12 @@ def clock_that_goes_back(tools: Tools) -> None:
 
 
 def side_by_side(tools: Tools) -> None:
-    """A number that differs has both values; so has an error, and a procedure that one recording
-    alone has."""
+    """A number that differs has both values; so has what one recording has alone."""
     frames, rows = one_of_each(Talk())
     tools.write('a.pcap', pcap(frames))
     # without the last raw call, and with 39 NULL calls
     tools.write('b.pcap', pcap([*frames[:-2], *whole(port=701)]))
-    status, out, error = tools.tool('procedures', '--program', tools.program, '--beside', 'a.pcap',
-                                    'b.pcap')
+    status, out, error = tools.tool('procedures', '--beside', 'a.pcap', 'b.pcap')
     lines = out.splitlines()
     sums = ['A: a.pcap: ' + sum_line(1, raw='1 PORTMAP DUMP, 1 PORTMAP GETPORT', silent=1),
             'B: b.pcap: ' + sum_line(2, raw='1 PORTMAP GETPORT', silent=1)]
@@ -358,8 +339,7 @@ def side_by_side(tools: Tools) -> None:
     tools.want('what is gone', last, [gone.procedure, '1 -> 0', '0', '1 -> 0', '0', *fewer,
                                       *['0.001 -> -'] * 5, 'RPC_MISMATCH 1 -> 0'])
     tools.write('c.pcap', pcap(whole()[:4] + whole()[5:]))
-    status, out, _ = tools.tool('procedures', '--program', tools.program, '--beside', 'a.pcap',
-                                'c.pcap')
+    status, out, _ = tools.tool('procedures', '--beside', 'a.pcap', 'c.pcap')
     tools.want('in part', (status, out.splitlines()[1]),
                (1, 'c.pcap: connection 1: ok in part: 30 calls, 344 bytes missing'))
     for words in (('a.pcap',), ('a.pcap', 'b.pcap', 'c.pcap')):
@@ -367,12 +347,11 @@ def side_by_side(tools: Tools) -> None:
 
 
 def files_for_others(tools: Tools) -> None:
-    """CSV has the rows of the tables, JSON the verdicts, too. Neither replaces an input."""
+    """CSV has the rows of the tables, JSON the verdicts, too."""
     name = 'a,"b"\n.pcap'
     frames, rows = one_of_each(Talk())
     tools.write(name, pcap(frames))
-    status, _, error = tools.tool('procedures', '--program', tools.program, '--csv', 'x.csv',
-                                  '--json', 'x.json', name)
+    status, _, error = tools.tool('procedures', '--csv', 'x.csv', '--json', 'x.json', name)
     tools.want('status', (status, error), (0, ''))
     found = list(csv.DictReader(io.StringIO((tools.read('x.csv') or b'').decode())))
     tools.want('whose', [(row['recording'], row['connection'], row['client'], row['procedure'])
@@ -391,20 +370,15 @@ def files_for_others(tools: Tools) -> None:
                 'mean_ns': '1667', 'sum_ns': '5000',
                 'most_position': 'connection 1 client record 1', 'most_frame': '4',
                 'negative': '0'})
-    written = json.loads(tools.read('x.json') or b'{}')
+    written = tools.json('x.json')
     tools.want('JSON', [verdict['state'] for verdict in written['verdicts']], ['ok'])
     tools.want('its tables', [table['connection'] for table in written['tables']], [1, None])
     tools.want('its errors', written['tables'][0]['procedures'][1]['errors'],
                {'NFS3ERR_STALE': 2, 'AUTH_BADCRED': 1})
-    for option in ('--csv', '--json'):
-        tools.write('a.pcap', pcap(frames))
-        refused = (2, '', 'procedures: a.pcap is an input, and is not replaced\n')
-        tools.want(option, tools.tool('procedures', option, 'a.pcap', 'a.pcap'), refused)
 
 
-def of_tshark(tools: Tools, recording: str, program: int) -> dict[str, tuple[int, int]]:
-    """The calls of each procedure of version 3 of a program, as tshark counts them by replies, and
-    the longest time in microseconds."""
+def counts_of_tshark(tools: Tools, recording: str, program: int) -> dict[str, tuple[int, int]]:
+    """The calls of each procedure of a program, and the longest time, as tshark has them."""
     words = [*TSHARK, recording, '-q', '-z', f'rpc,srt,{program},3']
     rows = re.findall(r'^ +\d+ +(\w+) +(\d+) +[\d.]+ +([\d.]+) ',
                       ended(words, tools.folder).out.decode(), re.M)
@@ -413,18 +387,9 @@ def of_tshark(tools: Tools, recording: str, program: int) -> dict[str, tuple[int
             for name, calls, most in rows}
 
 
-def fields_of_tshark(tools: Tools, recording: str, *fields: str) -> list[list[str]]:
-    """These fields of each message of RPC."""
-    done = ended([*TSHARK, recording, '-Y', 'rpc', '-T', 'fields',
-                  *(word for field in fields for word in ('-e', field))], tools.folder)
-    return [line.split('\t') for line in done.out.decode().splitlines()]
-
-
 @unittest.skipUnless(shutil.which('tshark'), 'tshark is not there')
 def as_tshark_counts(tools: Tools) -> None:
-    """The numbers and the longest times of calls, the errors, the bytes, the calls that came again,
-    and the median of all latencies. Of a second reply tshark takes the time as well, so it has
-    others of the recording that is made."""
+    """Numbers, times, errors, bytes and the median are those of tshark."""
     talk = Talk()
     made = [*one_of_each(talk)[0], *talk.closed()]
     tools.write('made.pcap', pcap(made))
@@ -436,9 +401,9 @@ def as_tshark_counts(tools: Tools) -> None:
                  for name, row in rows.items()
                  if name[0] in 'NM' and row['latencies']}
         if recording != 'made.pcap':
-            tools.want(recording, timed, of_tshark(tools, recording, NFS)
-                       | of_tshark(tools, recording, MOUNT))
-        fields = fields_of_tshark(tools, recording, 'rpc.msgtyp', 'nfs.status3', 'rpc.fraglen',
+            tools.want(recording, timed, counts_of_tshark(tools, recording, NFS)
+                       | counts_of_tshark(tools, recording, MOUNT))
+        fields = of_tshark(tools, recording, 'rpc', 'rpc.msgtyp', 'nfs.status3', 'rpc.fraglen',
                                   'rpc.time', 'rpc.call.dup')
         kinds, states, sizes, times, repeated = (
             [value for row in fields for value in row[at].split(',') if value] for at in range(5))
@@ -456,8 +421,7 @@ def as_tshark_counts(tools: Tools) -> None:
 
 
 def many_calls(tools: Tools) -> None:
-    """100,000 calls take less than 64 MB, and at most 4 times the processor time that
-    tools/verdicts takes."""
+    """Memory, and processor time beside that of tools/verdicts."""
     talk = Talk()
     frames = talk.opened()
     for xid in range(MANY):
@@ -469,12 +433,9 @@ def many_calls(tools: Tools) -> None:
         status, lines, spent[name], memory = measured(tools, name, '--program', tools.program,
                                                       'a.pcap')
         tools.want(name, (status, memory <= MOST_MEMORY or memory), (0, True))
-    tools.want('what it printed', lines[-1].split()[2:6], ['100000', '0', '100000', '0'])
+    tools.want('what it printed', lines[-1].split()[2:6], [f'{MANY}', '0', f'{MANY}', '0'])
     tools.want('processor time', spent['procedures'] <= 4 * spent['verdicts'] or spent, True)
 
 
-class ProceduresTest(FolderTest, make=Tools, tests=[
-        counts_by_hand, times_of_records, ranks_of_latencies, xids_that_come_again, judged_in_part,
-        captures_have_no_times, sorted_rows, clock_that_goes_back, side_by_side, files_for_others,
-        as_tshark_counts, many_calls]):
+class ProceduresTest(FolderTest, make=Tools):
     """Each test has a folder of its own."""

@@ -1,9 +1,4 @@
-"""Tests that the tools run under each Python from 3.9 on, and that an older one is told so in a
-line.
-
-Those that are installed are tried. What the oldest lacks is refused by mypy, which reads the tools
-as for that version.
-"""
+"""Tests that the tools run under each Python from 3.9 on, and tell older ones so."""
 import re
 import shutil
 from pathlib import Path
@@ -41,8 +36,7 @@ def version_of(python: str) -> tuple[int, int] | None:
 
 
 def each_python(tools: Tools) -> None:
-    """From 3.9 on each Python that is installed imports all modules and compares the examples; each
-    tool has a line for older ones."""
+    """Each imports all modules and compares examples, or has a line that refuses it."""
     for version, python in pythons().items():
         (is_read if version >= OLDEST else is_told)(tools, python)
 
@@ -66,5 +60,5 @@ def is_told(tools: Tools, python: str) -> None:
                    (3, '', f'{name}: needs Python 3.9 or later; this is {full}'))
 
 
-class PythonsTest(FolderTest, make=Tools, tests=[each_python]):
+class PythonsTest(FolderTest, make=Tools):
     """Each test has a folder of its own."""

@@ -1,14 +1,8 @@
-"""Tests of `tools/explain` on each reason of a refusal, and of its layouts against the listing."""
-import random
+"""Tests of `tools/explain` on each reason of a refusal."""
 import re
-from collections.abc import Iterator, Sequence
-from typing import NamedTuple
 
-from examples import messages
 from tests.shared.rows import SMALL, capture_in, rows_of
-from tests.shared.traffic import Names, Traffic
 
-from ..nfs3tools.shared.layouts import Item, Message, procedure_of
 from .cases import FolderTest
 from .scripts import TOP, Tools
 
@@ -24,13 +18,6 @@ WORDS_OF_REASONS = {
     'Flavor': 'RPCSEC_GSS', 'AuthLength': 'of the parameters', 'WrongSide': 'replies the server',
     'NoCall': 'no call of the connection has',
     'XidConflict': 'another procedure'}
-
-
-class Listed(NamedTuple):
-    """A message as `show` lists it: the name of its procedure, and the names and values of its
-    items after the xid."""
-    procedure: str
-    items: list[tuple[str, str]]
 
 
 def explained(tools: Tools) -> None:
@@ -66,10 +53,6 @@ def explained_as_documented(tools: Tools) -> None:
                          'client, from byte 12'),
                         ('connection 2 server record 1 byte 4', 'byte 4: mtype = 1 (REPLY)')):
         tools.want(place, told in tools.tool('explain', 'a', place)[1].splitlines(), True)
-    tools.write('a', (TOP / 'examples/bad_status.nfs3cap').read_bytes())
-    for place, status in (('connection 1 server record 2 byte 0', 1), ('file 9999', 1),
-                          ('nothing', 2)):
-        tools.want(place, tools.tool('explain', 'a', place)[0], status)
     tools.want('a file that is absent', tools.tool('explain', 'absent', 'file 0'),
                (3, '', 'explain: absent: No such file or directory\n'))
     for name in ('ganesha_a.pcap', 'bad_bool.pcap'):
@@ -77,45 +60,5 @@ def explained_as_documented(tools: Tools) -> None:
         tools.want('a recording', (status, out, 'tools/from_pcap' in error), (2, '', True))
 
 
-def layouts_agree_with_the_listing(tools: Tools) -> None:
-    """The items that nfs3tools/shared/layouts.py reads are those that `show` lists, on random
-    captures."""
-    chance = random.Random(3)
-    for seed in range(60):
-        connections = Traffic(seed, Names.drawn(chance)).connections
-        tools.write('a', messages.capture(*connections))
-        wanted = [line for calls, replies in connections for line in items_of(calls, replies)]
-        listing = tools.run('show', 'a')[1].splitlines()
-        tools.want('seed %d' % seed, [listed_in(line) for line in listing], wanted)
-
-
-def listed_in(line: str) -> Listed:
-    """What a line of the listing says, without the quotes around strings."""
-    items = re.findall(r' (\w+)=("[^"]*"|\w*)', line.partition(' xid=')[2])
-    return Listed(line.split()[4], [(name, value.strip('"')) for name, value in items])
-
-
-def items_of(calls: Sequence[bytes], replies: Sequence[bytes]) -> Iterator[Listed]:
-    """Each message of a connection, as the listing should have it."""
-    procedures = {body[:4]: procedure_of(*(int.from_bytes(body[at:at + 4], 'big')
-                                           for at in (12, 16, 20))) for body in calls}
-    for body, is_call in [(body, True) for body in calls] + [(body, False) for body in replies]:
-        message = Message(body)
-        message.read(is_call, procedures[body[:4]])
-        items = [item for item in message.items[1:] if not item.name.endswith(')')]
-        yield Listed(procedures[body[:4]].name,
-                     [(item.name, listed(body[item.begin:item.end], item)) for item in items])
-
-
-def listed(piece: bytes, item: Item) -> str:
-    """The value of an item as the listing has it."""
-    if item.name in STRINGS:
-        return ''.join(chr(byte) if 32 <= byte < 127 and byte not in b'"\\' else '\\x%02x' % byte
-                       for byte in piece)
-    return item.value
-
-
-STRINGS = ('name', 'path', 'machinename', 'dirpath', 'hostname', 'directory')
-class ReasonsTest(FolderTest, make=Tools, tests=[
-        explained, explained_as_documented, layouts_agree_with_the_listing]):
+class ReasonsTest(FolderTest, make=Tools):
     """Each test has a folder of its own."""

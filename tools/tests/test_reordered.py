@@ -2,20 +2,17 @@
 import pathlib
 import random
 from collections import Counter
-from collections.abc import Iterator, Sequence
+from collections.abc import Sequence
 
 from examples import messages
-from examples.messages import NFS, call, fh, success, word
+from examples.messages import NFS, call, success, word
 from tests.shared.traffic import Names, Traffic
 
 from ..nfs3tools.comparison.exchanges.reordered import Numbered, Rewriting, write_in_order
 from ..nfs3tools.recordings.taken import take
-from ..nfs3tools.shared.places import Side
 from ..nfs3tools.shared.programs import Died
 from .cases import FolderTest
-from .test_compare import Comparisons, Conversation
-
-# --- Writing a run in another order ---
+from .comparisons import Comparisons, Conversation
 
 Said = tuple[bytes, tuple[bytes, ...]]  # a call and its replies, without their xids
 
@@ -26,8 +23,7 @@ def one_of(connection: int, record: int, replies: Sequence[int]) -> Numbered:
 
 
 def exchanges_of(connections: Sequence[Conversation]) -> list[tuple[Numbered, Said]]:
-    """The exchanges of a capture by a way of our own: replies belong to the call with their xid, by
-    turns if there are several."""
+    """The exchanges of a capture: replies belong to the call with their xid, by turns."""
     out = []
     for number, (calls, replies) in enumerate(connections, 1):
         answers: dict[bytes, list[tuple[int, bytes]]] = {}
@@ -44,13 +40,13 @@ def exchanges_of(connections: Sequence[Conversation]) -> list[tuple[Numbered, Sa
     return out
 
 
-def written(place: Comparisons, chosen: Sequence[Numbered], left_out: Sequence[Numbered],
-            writer: type[Rewriting] = Rewriting) -> list[Said]:
+def written(place: Comparisons, chosen: Sequence[Numbered],
+            left_out: Sequence[Numbered]) -> list[Said]:
     """Writes the capture `a` in an order, and returns what has been written. Its xids have to be
     the turns."""
     path = pathlib.Path(place.folder)
     with take(str(path / 'a')) as taken:
-        write_in_order(taken, chosen, left_out, str(path / 'ordered'), writer)
+        write_in_order(taken, chosen, left_out, str(path / 'ordered'), Rewriting)
     with take(str(path / 'ordered')) as taken:
         (connection,) = taken.connections
         calls, replies = ([record.body for record in stream.records()]
@@ -70,8 +66,7 @@ def shuffled(chance: random.Random, seed: int) -> tuple[list[Conversation],
 
 
 def runs_are_written_anew(place: Comparisons) -> None:
-    """What is written are the chosen exchanges in their order, and nothing else; with fragments of
-    any kind, too."""
+    """What is written are the chosen exchanges in their order."""
     for seed in range(60):
         chance = random.Random(seed)
         connections, known = shuffled(chance, seed)
@@ -100,8 +95,7 @@ def records_of_several_fragments(place: Comparisons) -> None:
 
 
 def orders_that_are_none(place: Comparisons) -> None:
-    """An exchange twice, one that is missing, records that are not there, and a reply to another
-    call."""
+    """Exchanges twice, missing or not there, and replies of others."""
     place.put('a', ([call(xid, NFS, 3, 0) for xid in (7, 8)], [success(7), success(8)]))
     first, second = one_of(1, 1, [1]), one_of(1, 2, [2])
     orders = {'twice': [first, second, first], 'missing': [first],
@@ -120,52 +114,5 @@ def orders_that_are_none(place: Comparisons) -> None:
                [(call(8, NFS, 3, 0)[4:], (success(8)[4:],))])
 
 
-class Changed(Rewriting):
-    """Changes a byte of each message."""
-
-    def messages(self, side: Side) -> Iterator[bytes]:
-        return (message[:-1] + bytes([message[-1] ^ 1]) for message in super().messages(side))
-
-
-class Turned(Rewriting):
-    """Gives each reply to another call."""
-
-    def messages(self, side: Side) -> Iterator[bytes]:
-        some = list(super().messages(side))
-        return iter(some if side == 'client'
-                    else [one[:8] + other[8:] for one, other in zip(some, some[1:] + some[:1])])
-
-
-class Repeated(Rewriting):
-    """Writes each reply twice."""
-
-    def messages(self, side: Side) -> Iterator[bytes]:
-        return (message for message in super().messages(side)
-                for _ in range(1 + (side == 'server')))
-
-
-class Forgotten(Rewriting):
-    """Forgets the first reply."""
-
-    def messages(self, side: Side) -> Iterator[bytes]:
-        return (message for number, message in enumerate(super().messages(side)) if number or side
-                == 'client')
-
-
-def wrong_writers_are_caught(place: Comparisons) -> None:
-    """What these tests look at finds a writer that changes a byte, gives a reply to another call,
-    or writes one twice or not at all."""
-    calls, replies = [call(xid, NFS, 3, 1, fh(b'a'))
-                      for xid in (7, 8)], [success(7, word(5)), success(8, word(13))]
-    place.put('a', (calls, replies))
-    known, order = [said for _, said in exchanges_of([(calls, replies)])], [
-        one_of(1, 1, [1]), one_of(1, 2, [2])]
-    place.want('right', written(place, order, []), known)
-    for wrong in (Changed, Turned, Repeated, Forgotten):
-        place.want(wrong.__name__, written(place, order, [], wrong) == known, False)
-
-
-class ReorderedTest(FolderTest, make=Comparisons, tests=[
-        runs_are_written_anew, records_of_several_fragments, orders_that_are_none,
-        wrong_writers_are_caught]):
+class ReorderedTest(FolderTest, make=Comparisons):
     """Each test has a folder of its own."""

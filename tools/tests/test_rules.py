@@ -1,5 +1,4 @@
-"""Tests of what `tools/compare` calls the same: each rule of any order, sent again, fields behind
-optional parts, and the words of the headline."""
+"""Tests of what `tools/compare` calls the same: any order, sent again, the headline."""
 import json
 from collections.abc import Iterable, Sequence
 from typing import Any, NamedTuple
@@ -11,7 +10,8 @@ from examples.messages import (
 from examples.packets import Talk, pcap
 
 from .cases import FolderTest
-from .test_compare import Comparisons
+from .comparisons import Comparisons
+from .scripts import in_turn
 
 (GETATTR, SETATTR, LOOKUP, ACCESS, WRITE, CREATE, MKDIR, REMOVE, RENAME, READDIR, READDIRPLUS,
  FSINFO) = 1, 2, 3, 4, 7, 8, 9, 12, 14, 16, 17, 19
@@ -32,16 +32,14 @@ class Step(NamedTuple):
 
 def recorded(steps: Iterable[Step]) -> bytes:
     """A recording of clients each with a connection, one call after the other."""
-    steps = list(steps)
-    talks = [Talk(700 + number) for number in range(1 + max(step.client for step in steps))]
-    frames = [frame for talk in talks for frame in talk.opened()]
+    steps, said = list(steps), list[tuple[int, int, bytes]]()
     for xid, step in enumerate(steps, 1):
-        talk, user = talks[step.client], auth_sys(1, b'box', step.user, 100, [])
+        user = auth_sys(1, b'box', step.user, 100, [])
         body = call(xid, NFS, 3, step.procedure, step.arguments, credential=user)
-        frames += [talk.sent(0, fragment(body)) for _ in range(step.sent)]
-        frames += [talk.sent(1, fragment(success(xid, step.results)))
-                   for _ in range(step.answered)]
-    return pcap([*frames, *(frame for talk in talks for frame in talk.closed())])
+        said += [(step.client, 0, body)] * step.sent
+        said += [(step.client, 1, success(xid, step.results))] * step.answered
+    talks = [Talk(700 + number) for number in range(1 + max(step.client for step in steps))]
+    return pcap(in_turn(talks, said))
 
 
 def looked(name: bytes, handle: bytes, fileid: int, folder: bytes = TOP) -> Step:
@@ -164,8 +162,7 @@ def entries_that_an_order_explains(place: Comparisons) -> None:
 # --- Calls of one run alone ---
 
 def calls_that_fail_alone(place: Comparisons) -> None:
-    """Calls that only ask count if they fail, and if they ask about what the other run does not
-    know."""
+    """Calls that only ask count if they fail, or ask about what is unknown."""
     for status in (SERVERFAULT, IO, STALE):
         more = [Step(GETATTR, fh(b'handle f'), failed(status))] * 3
         said = any_order(place, BOTH, [*BOTH, *more])
@@ -231,8 +228,6 @@ def ids_that_follow_their_objects(place: Comparisons) -> None:
     place.want('a wrong one', (said.status, said.found), (1, ['changed GETATTR']))
 
 
-# --- Sizes ---
-
 def written(at: int, size: int, client: int = 0) -> Step:
     arguments = fh(b'handle f') + hyper(at) + word(4) + word(0) + opaque(b'data')
     results = ok(wcc(None, fattr(1, 7, size)), word(4), word(0), b'verifier')
@@ -240,8 +235,7 @@ def written(at: int, size: int, client: int = 0) -> Step:
 
 
 def sizes_that_an_order_explains(place: Comparisons) -> None:
-    """Two WRITEs in another order tell other sizes. A size that nothing tells, or without a change
-    that comes in another place, is a difference."""
+    """WRITEs in another order tell other sizes, which fit the writes."""
     first = [*BOTH, written(0, 4), written(4, 8, client=1)]
     second = [*BOTH, written(4, 8, client=1), written(0, 8)]
     said = any_order(place, first, second)
@@ -252,11 +246,8 @@ def sizes_that_an_order_explains(place: Comparisons) -> None:
     place.want('in the same order', (said.status, said.found), (1, ['changed WRITE']))
 
 
-# --- Sent again ---
-
 def calls_that_were_sent_again(place: Comparisons) -> None:
-    """A call that was sent again is one exchange: a finding of its own kind, and left out in any
-    order unless its replies differ."""
+    """One that was sent again is one exchange, left out in any order."""
     again = [*BOTH, removed(b'f')._replace(sent=2, answered=2), F]
     once = [*BOTH, removed(b'f'), F]
     said = compared(place, once, again, '--order', 'strict')
@@ -315,8 +306,7 @@ def where_the_headline_is(place: Comparisons) -> None:
 
 
 def silly_names(place: Comparisons) -> None:
-    """Names that a client gives to removed files are one if their objects are, wherever they stand
-    among the entries."""
+    """Names of removed files are one if their objects are, wherever they stand."""
     def run(names: Sequence[bytes]) -> list[Step]:
         handles = {name: b'handle %d' % number for number, name in enumerate(sorted(names))}
         some = [messages.entryplus(9 + int(handle[-1:]), name, 1 + at, fattr(
@@ -349,11 +339,5 @@ def parts_by_the_same_rules(place: Comparisons) -> None:
         place.want(f'{what}: explained', '1 answer explained by order' in lines[1], True)
 
 
-class RulesTest(FolderTest, make=Comparisons, tests=[
-        parts_by_the_same_rules, a_lookup_that_fails, a_lookup_of_something_else,
-        what_an_order_explains, entries_that_an_order_explains, calls_that_fail_alone,
-        calls_that_are_many, calls_alone_that_tell_something_else, changed_users, changed_ids,
-        ids_that_follow_their_objects, sizes_that_an_order_explains, calls_that_were_sent_again,
-        other_replies_to_a_call_sent_again, fields_behind_an_optional_part, where_the_headline_is,
-        silly_names]):
+class RulesTest(FolderTest, make=Comparisons):
     """Each test has a folder of its own."""

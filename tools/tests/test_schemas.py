@@ -1,5 +1,4 @@
-"""Tests of docs/schemas against what the tools write and print, and of the validator that they
-use."""
+"""Tests of docs/schemas against what the tools write, and of the validator."""
 import json
 import pathlib
 from typing import Any
@@ -7,13 +6,12 @@ from typing import Any
 from examples.packets import pcap
 
 from .cases import FolderTest
+from .comparisons import Comparisons
 from .schemas import FOLDER, NOTES, KEYWORDS, Schema
-from .scripts import TOP, Tools, whole, write_faulty
+from .scripts import EXAMPLES, FIRST, SECOND, Tools, whole, write_faulty
 from .test_accepted import NLINK, accepts, run
-from .test_compare import Comparisons
 
-EXAMPLES = TOP / 'examples'
-RUNS = [str(EXAMPLES / 'ganesha_a.pcap'), str(EXAMPLES / 'ganesha_b.pcap')]
+RUNS = [FIRST, SECOND]
 # Pieces of schemas, with values that fit and values that do not.
 CASES: list[tuple[Any, list[Any], list[Any]]] = [
     ({'type': 'integer'}, [0, -3], [True, 1.5, '1', None, []]),
@@ -45,8 +43,7 @@ def validator_knows_its_keywords(tools: Tools) -> None:
 
 
 def schemas_use_what_is_known(tools: Tools) -> None:
-    """Each schema of the folder is named on its page, says its draft, and has known keywords
-    alone."""
+    """Each is named on its page, with its draft and known keywords."""
     page = (FOLDER / 'README.md').read_text()
     for path in sorted(FOLDER.glob('*.json')):
         schema = json.loads(path.read_text())
@@ -76,13 +73,12 @@ def fits(tools: Tools, name: str, text: str) -> Any:
 
 def written(tools: Tools, tool: str, *words: str) -> str:
     """What a tool writes as JSON to standard output."""
-    return tools.tool(tool, '--program', tools.program,
+    return tools.tool(tool,
                       *(['--json'] if tool in ('calls', 'meaning') else ['--json', '-']), *words)[1]
 
 
 def verdicts_fit(tools: Tools) -> None:
-    """What verdicts, procedures and calls write of good and bad recordings fits, and has the
-    version 2."""
+    """What verdicts, procedures, calls and meaning write fits, in version 2."""
     faulty = write_faulty(tools)
     names = [*faulty, *RUNS, str(EXAMPLES / 'two_connections.nfs3cap')]
     for tool in ('verdicts', 'procedures', 'calls'):
@@ -98,8 +94,7 @@ def lines_of_follow_fit(tools: Tools) -> None:
     """Each line of --follow fits: the rows, and then the counts and the status."""
     for recording in (pcap(whole()), pcap(whole()[:4] + whole()[5:]),
                       (EXAMPLES / 'bad_server_record.pcap').read_bytes()):
-        status, out, _ = tools.tool('verdicts', '--program', tools.program, '--follow', '--json',
-                                    '-', '-', stdin=recording)
+        status, out, _ = tools.tool('verdicts', '--follow', '--json', '-', '-', stdin=recording)
         values = [fits(tools, 'follow.json', line) for line in out.splitlines()]
         tools.want('the end', ['row' in value for value in values],
                    [True] * (len(values) - 1) + [False])
@@ -107,8 +102,7 @@ def lines_of_follow_fit(tools: Tools) -> None:
 
 
 def comparisons_fit(tools: Tools) -> None:
-    """What compare writes fits, of runs that are the same, that differ, in another order, in part,
-    and of parts."""
+    """What compare writes fits, of runs of all kinds and of parts."""
     place = Comparisons(tools.program, tools.folder)
     accepts(place, NLINK)
     place.put('a', run(1, 1, 1))
@@ -130,14 +124,11 @@ def comparisons_fit(tools: Tools) -> None:
 def accepted_files_fit(tools: Tools) -> None:
     """What --accept-new writes fits."""
     place = Comparisons(tools.program, tools.folder)
-    place.put('a', run(1, 1, 1))
-    place.put('b', run(1, 2, 3, more=1))
+    place.put_both(run(1, 1, 1), run(1, 2, 3, more=1))
     place.compare('--accept-new', 'new', 'a', 'b')
     tools.want('entries', len(fits(tools, 'accepted.json', place.read('new').decode())['accepted']),
                3)
 
 
-class TestSchemas(FolderTest, make=Tools, tests=[
-        validator_knows_its_keywords, schemas_use_what_is_known, verdicts_fit, lines_of_follow_fit,
-        comparisons_fit, accepted_files_fit]):
+class TestSchemas(FolderTest, make=Tools):
     """The schemas of JSON."""

@@ -1,7 +1,4 @@
-"""Tests of what the tools print on a terminal: colours, tables that fit it, and how far they are.
-
-The terminals are pseudo-terminals of a known width. What is expected is written by hand.
-"""
+"""Tests of what the tools print on pseudo-terminals of a known width."""
 import bz2
 import contextlib
 import fcntl
@@ -28,9 +25,9 @@ from ..nfs3tools.recordings.taken import share_of, size_of
 from ..nfs3tools.shared.progress import Progress
 from ..nfs3tools.shared.screens import Colour, Screen, Styled, lines_of, panels
 from .cases import FolderTest
+from .comparisons import Comparisons
 from .scripts import TOP, Tools, connection_of, sums, whole
 from .test_accepted import run
-from .test_compare import Comparisons
 
 RED, GREEN, YELLOW, END = '\x1b[31m', '\x1b[32m', '\x1b[33m', '\x1b[m'
 PLAIN = {name: value for name, value in os.environ.items()
@@ -46,8 +43,7 @@ def on_terminal(tools: Tools, width: int, *words: str, **variables: str) -> tupl
 def written_to(tools: Tools, width: int, stream: str, *words: str,
                given: typing.IO[bytes] | None = None,
                **variables: str) -> tuple[int, str]:
-    """The status of a tool of which one stream is a terminal, and what is written there. It may be
-    given its standard input."""
+    """The status of a tool one stream of which is a terminal, and what is there."""
     master, slave = pty.openpty()
     fcntl.ioctl(slave, termios.TIOCSWINSZ, struct.pack('4H', 24, width, 0, 0))
     command = [str(TOP / 'tools' / words[0]), '--program', tools.program, *words[1:]]
@@ -82,11 +78,8 @@ def recording(status: int = 0) -> bytes:
     return pcap(connection_of(calls, replies))
 
 
-# --- Layout ---
-
 def lines_that_fit_are_as_elsewhere(tools: Tools) -> None:
-    """A table that fits has its columns; one that does not has its last cells wrapped, or below if
-    there is little room."""
+    """Cells that do not fit are wrapped, or below if need be."""
     rows = [Styled(['name', 'n', 'what']),
             Styled(['abc', '12', 'one two three four five six seven']),
             Styled(['abcdefgh', '3', '-'], Colour.RED)]
@@ -137,11 +130,10 @@ def verdicts_have_colours(tools: Tools) -> None:
 
 
 def no_colours_elsewhere(tools: Tools) -> None:
-    """There is no escape in a pipe or a file, with NO_COLOR, on a dumb terminal or with --color
-    never; with --color always there is."""
+    """No escape without a terminal or if it is not wanted; always if it is."""
     tools.write('a.pcap', recording())
     for tool in ('verdicts', 'calls', 'procedures'):
-        plain = tools.tool(tool, '--program', tools.program, 'a.pcap')[1].splitlines()
+        plain = tools.tool(tool, 'a.pcap')[1].splitlines()
         tools.want(f'{tool} in a pipe', '\x1b' in ''.join(plain), False)
         tools.want(f'{tool} on a terminal',
                    '\x1b' in ''.join(on_terminal(tools, 300, tool, 'a.pcap')[1]), True)
@@ -152,10 +144,9 @@ def no_colours_elsewhere(tools: Tools) -> None:
                        bare(on_terminal(tools, 300, tool, 'a.pcap')[1]))
         tools.want(f'{tool} with an empty NO_COLOR',
                    '\x1b' in ''.join(on_terminal(tools, 300, tool, 'a.pcap', NO_COLOR='')[1]), True)
-        always = tools.tool(tool, '--program', tools.program, '--color', 'always',
-                            'a.pcap')[1].splitlines()
+        always = tools.tool(tool, '--color', 'always', 'a.pcap')[1].splitlines()
         tools.want(f'{tool} always', ('\x1b' in ''.join(always), bare(always)), (True, plain))
-    out = tools.tool('verdicts', '--program', tools.program, '--json', '-', 'a.pcap')[1]
+    out = tools.tool('verdicts', '--json', '-', 'a.pcap')[1]
     tools.want('JSON', '\x1b' in out, False)
 
 
@@ -168,11 +159,9 @@ def names_stay_escaped(tools: Tools) -> None:
 
 
 def comparisons_have_colours_as_diff(tools: Tools) -> None:
-    """Lines of the first run are red, those of the second green; the verdict is green only with the
-    status 0."""
+    """Lines have the colour of their run, verdicts of the status."""
     place = Comparisons(tools.program, tools.folder)
-    place.put('a', run(1, 1, 1))
-    place.put('b', run(1, 2, 1))
+    place.put_both(run(1, 1, 1), run(1, 2, 1))
     status, lines = on_terminal(tools, 300, 'compare', 'a', 'b')
     tools.want('values', [line for line in lines if 'nlink=' in line],
                [f'{RED}  - obj.nlink=1{END}', f'{GREEN}  + obj.nlink=2{END}'])
@@ -190,8 +179,7 @@ def comparisons_have_colours_as_diff(tools: Tools) -> None:
 # --- Tables that fit ---
 
 def verdicts_fit(tools: Tools) -> None:
-    """In 60 columns the recording is above its rows, and a long verdict below them; nothing is
-    lost."""
+    """In 60 columns nothing is lost, and a long verdict is below its row."""
     tools.write('a.pcap', pcap(whole()))
     lines = bare(on_terminal(tools, 60, 'verdicts', 'a.pcap')[1])
     tools.want('lines', lines, [
@@ -200,13 +188,11 @@ def verdicts_fit(tools: Tools) -> None:
         '1 judged (1 ok, 0 refused), 0 in part, 0 left out, 0 not', 'checked, 0 errors'])
     tools.want('quiet', bare(on_terminal(tools, 60, 'verdicts', '-q', 'a.pcap')[1]), lines[5:])
     wide = bare(on_terminal(tools, 200, 'verdicts', 'a.pcap')[1])
-    tools.want('wide', wide, tools.tool('verdicts', '--program', tools.program,
-                                        'a.pcap')[1].splitlines())
+    tools.want('wide', wide, tools.tool('verdicts', 'a.pcap')[1].splitlines())
 
 
 def lines_of_follow_fit(tools: Tools) -> None:
-    """With --follow the lines have columns on a wide terminal, and none on a narrow one; the
-    verdict is coloured."""
+    """Lines of --follow have columns on a wide terminal alone."""
     tools.write('a.pcap', pcap(whole()))
     row = ['-', '1', '192.0.2.7:700', '192.0.2.1:2049', '39', '39', f'{GREEN}ok{END}']
     for width, wanted in ((80, '  '.join(row)),
@@ -219,8 +205,7 @@ def lines_of_follow_fit(tools: Tools) -> None:
 
 
 def calls_fit(tools: Tools) -> None:
-    """In 70 columns a long call is wrapped below its beginning, and an answer that does not fit is
-    below the call."""
+    """In 70 columns a long call is wrapped, and its answer below it."""
     tools.write('a.pcap', recording())
     lines = bare(on_terminal(tools, 70, 'calls', 'a.pcap')[1])
     tools.want('wide', [line for line in lines if len(line) > 70 and 'judged' not in line], [])
@@ -234,8 +219,7 @@ def calls_fit(tools: Tools) -> None:
 
 
 def procedures_fit(tools: Tools) -> None:
-    """In 80 columns a table has panels, and --beside a block for each procedure; --width does the
-    same in a pipe."""
+    """In 80 columns there are panels or blocks, also in a pipe by --width."""
     tools.write('a.pcap', recording())
     lines = bare(on_terminal(tools, 80, 'procedures', '--total', 'a.pcap')[1])
     tools.want('wide', [line for line in lines if len(line) > 80], [])
@@ -249,25 +233,23 @@ def procedures_fit(tools: Tools) -> None:
     block = ['NFSPROC3_LOOKUP', '  calls        2', '  replies      2', '  call bytes   176',
              '  reply bytes  168']
     for found in (bare(on_terminal(tools, 80, 'procedures', '--beside', 'a.pcap', 'a.pcap')[1]),
-                  tools.tool('procedures', '--program', tools.program, '--beside', '--width', '80',
+                  tools.tool('procedures', '--beside', '--width', '80',
                              'a.pcap', 'a.pcap')[1].splitlines()):
         at = found.index('NFSPROC3_LOOKUP')
         tools.want('block', (found[at:at + 5], found[at + 10]),
                    (block, '  errors       NFS3ERR_NOENT 1'))
-    plain = tools.tool('procedures', '--program', tools.program, '--beside', 'a.pcap',
-                       'a.pcap')[1].splitlines()
+    plain = tools.tool('procedures', '--beside', 'a.pcap', 'a.pcap')[1].splitlines()
     tools.want('a pipe', (len(plain), len(plain[2]) > 120), (5, True))
 
 
 def help_fits(tools: Tools) -> None:
-    """No line of a help is wider than 80 columns, if that is all there is; and calls has --width. A
-    value that looks like an option is refused in one line."""
+    """No help is wider than 80 columns, and a value like an option is refused."""
     for tool in ('from_pcap', 'where', 'verdicts', 'calls', 'procedures', 'compare', 'explain',
                  'cut', 'install', 'release'):
         status, out, _ = tools.tool(tool, '--help')
         tools.want(tool, (status, [line for line in out.splitlines() if len(line) > 80]), (0, []))
     tools.write('a.pcap', recording())
-    out = tools.tool('calls', '--program', tools.program, '--width', '60', 'a.pcap')[1]
+    out = tools.tool('calls', '--width', '60', 'a.pcap')[1]
     tools.want('--width', [line for line in out.splitlines()[:-2] if len(line) > 60], [])
     tools.want('--mask', tools.tool('compare', '--mask', '-times', 'a', 'b'), (
         2, '', 'compare: error: argument --mask: expected one argument, and -times is none, since '
@@ -280,8 +262,7 @@ def numbers_have_separators_on_a_terminal_alone(tools: Tools) -> None:
                                              [success(xid) for xid in range(1_200)], 90)))
     row = ['192.0.2.7:700', '192.0.2.1:2049', '%s', '%s', 'ok']
     for lines, number in ((bare(on_terminal(tools, 100, 'verdicts', 'a.pcap')[1]), '1,200'),
-                          (tools.tool('verdicts', '--program', tools.program,
-                                      'a.pcap')[1].splitlines(), '1200')):
+                          (tools.tool('verdicts', 'a.pcap')[1].splitlines(), '1200')):
         tools.want(number, (re.split('  +', lines[1])[2:], lines[-1]),
                    ([one.replace('%s', number) for one in row], sums(1)))
 
@@ -296,8 +277,7 @@ class Terminal(io.StringIO):
 
 
 def shares_are_those_of_the_file(tools: Tools) -> None:
-    """The share of a recording that was read grows from frame to frame, and is 1 in the end: also
-    of parts, and of compressed files by their own bytes."""
+    """The share that was read grows to 1, also of compressed files."""
     chance = random.Random(1)
     content = pcap([chance.randbytes(60_000) for _ in range(100)])
     files = {'a': content, 'a.gz': gzip.compress(content), 'a.xz': lzma.compress(content),
@@ -323,8 +303,7 @@ def shares_are_those_of_the_file(tools: Tools) -> None:
 
 
 def progress_is_said_at_times(tools: Tools) -> None:
-    """What begins is said at once, how far it is at most five times a second and never over 100 %,
-    and in the end the line is empty."""
+    """At most five times a second, never over 100 %, and gone in the end."""
     with contextlib.redirect_stderr(Terminal()) as stream:
         progress = Progress()
         progress.begin('one')
@@ -348,19 +327,16 @@ def progress_is_said_at_times(tools: Tools) -> None:
 
 
 def comparisons_say_how_far_they_are(tools: Tools) -> None:
-    """On a terminal each step of a comparison is said, and the line is gone in the end, also after
-    an error; a pipe gets nothing."""
+    """Each step is said on a terminal, and nothing in a pipe."""
     place = Comparisons(tools.program, tools.folder)
-    place.put('a', run(1, 1, 1))
-    place.put('b', run(1, 1, 2, names=(2, 1, 0)))
+    place.put_both(run(1, 1, 1), run(1, 1, 2, names=(2, 1, 0)))
     said = written_to(tools, 80, 'stderr', 'compare', '--order', 'any', 'a',
                       'b')[1].split('\r\x1b[K')
     steps = ['checking both runs', 'masking values', 'comparing both runs',
              'bringing 12 calls together', 'writing both runs in one order']
     tools.want('steps', ([step for step in steps if step not in said], said[-1]), ([], ''))
     tools.want('a pipe', place.compare('--order', 'any', 'a', 'b')[2], '')
-    place.put('a', run(*[1] * 3_000))
-    place.put('b', run(*[1] * 2_999, 2))
+    place.put_both(run(*[1] * 3_000), run(*[1] * 2_999, 2))
     said = written_to(tools, 80, 'stderr', 'compare', 'a', 'b')[1].split('\r\x1b[K')
     tools.want('many calls', 'reading the calls' in said, True)
     place.put('b', ([], []))
@@ -369,10 +345,5 @@ def comparisons_say_how_far_they_are(tools: Tools) -> None:
                'compare: nothing to compare: no call of b is taken\r\n')
 
 
-class TestScreens(FolderTest, make=Tools, tests=[
-        lines_that_fit_are_as_elsewhere, panels_repeat_the_first_column, a_long_word_is_broken,
-        verdicts_have_colours, no_colours_elsewhere, names_stay_escaped,
-        comparisons_have_colours_as_diff, verdicts_fit, lines_of_follow_fit, calls_fit,
-        procedures_fit, help_fits, numbers_have_separators_on_a_terminal_alone,
-        shares_are_those_of_the_file, progress_is_said_at_times, comparisons_say_how_far_they_are]):
+class TestScreens(FolderTest, make=Tools):
     """What is printed on a terminal."""

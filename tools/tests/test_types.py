@@ -16,5 +16,5 @@ def types_are_right(tools: Tools) -> None:
     tools.want('mypy', (status, out if status else '', error), (0, '', ''))
 
 
-class TypesTest(FolderTest, make=Tools, tests=[types_are_right]):
+class TypesTest(FolderTest, make=Tools):
     """Each test has a folder of its own."""

@@ -1,6 +1,4 @@
-"""Tests of the pages that tools/verdicts --html and tools/procedures --html write: how much was
-judged, the tables, faults, and the time line of latencies; and their use in Chromium.
-"""
+"""Tests of the pages of tools/verdicts and tools/procedures, and of their use."""
 import csv
 import io
 import math
@@ -17,15 +15,14 @@ from .pages import (
     HERE, HOSTILE, SHOWN, VISIBLE, WIDTHS, Node, Pages, asked_of_others, broken_links, find,
     in_chromium, light_of, table_of, tree_of)
 from .scripts import (
-    CALLS, REPLIES, TOP, Tools, connection_of, exchange, measured, whole, write_faulty)
+    CALLS, EXAMPLES, FIRST, REPLIES, Tools, connection_of, exchange, measured, whole, write_faulty)
 
 GETATTR, LOOKUP = 1, 3
-EXAMPLES = TOP / 'examples'
-FIRST, CONCURRENT = str(EXAMPLES / 'ganesha_a.pcap'), str(EXAMPLES / 'concurrent_a.pcap')
+CONCURRENT = str(EXAMPLES / 'concurrent_a.pcap')
 BAD = tuple(str(EXAMPLES / f'bad_{name}.pcap')
             for name in ('bool', 'client_record', 'server_record', 'status'))
 BOTH = ('verdicts', 'procedures')
-MANY, ERRORS_AT_MOST, MOST_MEMORY = 44_000, 10_000, 56 << 20
+MANY, ERRORS_AT_MOST, MOST_MEMORY = 22_000, 10_000, 48 << 20
 COUNTS = ('judged', 'in part', 'left out', 'not checked', 'errors')
 DOT = re.compile(r'(.*); connection (\d+) client record (\d+), frame (\d+), '
                  r'(no latency|(\d+\.\d{3}) ms)')
@@ -36,7 +33,7 @@ class Written(Tools, Pages):
 
     def page(self, tool: str, *words: str) -> tuple[int, str, Node]:
         """The status, what was printed, and the page."""
-        status, out, _ = self.tool(tool, '--program', self.program, '--html', 'page.html', *words)
+        status, out, _ = self.tool(tool, '--html', 'page.html', *words)
         return status, out, self.written()
 
 
@@ -50,15 +47,14 @@ HEADINGS = {
     'other.pcap': 'part Not all'}
 
 
-def write_kinds(tools: Tools) -> None:
-    """Writes recordings of all kinds."""
+def write_kinds(tools: Written, version: int) -> None:
+    """Writes recordings of all kinds, one of another version of NFS."""
     write_faulty(tools)
-    version_4 = connection_of([call(at, NFS, 4, 1) for at in range(3)],
+    other = connection_of([call(at, NFS, version, 1) for at in range(3)],
                           [success(at) for at in range(3)])
     for name, frames in (('bare.pcap', [*whole(), *Talk(800, 4000).opened()]),
-                         ('other.pcap', version_4), ('ok.pcap', whole()),
-                         ('raw.pcap', connection_of([call(1, 100000, 2, 3)], [success(1)],
-                                                    service=111))):
+                         ('other.pcap', other), ('ok.pcap', whole()), ('raw.pcap', connection_of(
+                                 [call(1, 100000, 2, 3)], [success(1)], service=111))):
         tools.write(name, pcap(frames))
 
 
@@ -75,9 +71,8 @@ def greens_of(page: Node) -> list[str]:
 
 
 def head_and_counts(tools: Written) -> None:
-    """The heading, the counts and the status are those of the tool. Nothing is green but what was
-    judged. A connection that shows no call and an allowed loss change the status at most."""
-    write_kinds(tools)
+    """The heading, the counts and the status are those of the tool."""
+    write_kinds(tools, 4)
     for name, wanted in HEADINGS.items():
         status, out, page = tools.page('procedures' if name == 'lost.pcap' else 'verdicts', name)
         heading, = page.all('h1')
@@ -87,6 +82,11 @@ def head_and_counts(tools: Written) -> None:
         numbers = [int(found[1]) for word in COUNTS if (found := re.search(rf'(\d+) {word}', sums))]
         tools.want(f'{name}: counts', [counts_of(page).get(word) for word in COUNTS], numbers)
         tools.want(f'{name}: status', f'The status is {status}' in page.text(), True)
+
+
+def what_is_green(tools: Written) -> None:
+    """Nothing is green but what was judged; without a call, or allowed, it is said."""
+    write_kinds(tools, 4)
     judged = '1 judged (1 valid, 0 refused)'
     _, _, page = tools.page('verdicts', 'lost.pcap', 'ok.pcap', 'other.pcap', 'bad.pcap')
     tools.want('green verdicts', greens_of(page), ['ok', 'ok', judged])
@@ -116,8 +116,6 @@ def head_and_counts(tools: Written) -> None:
                    (0, [heading_text], greens))
         tools.want(f'{words}: said', f'The status is 0{under}.' in page.text(), True)
 
-
-# --- Tables and faults ---
 
 def rows_printed(out: str) -> list[list[str]]:
     return [re.split(r'  +', line.strip()) for line in out.splitlines() if line]
@@ -152,8 +150,7 @@ def tables_as_printed(tools: Written) -> None:
 
 
 def faults_with_their_fields(tools: Written) -> None:
-    """A fault has its position, its frames, what tools/explain says of it, and all fields of its
-    message. Its row leads to it."""
+    """A fault has its frames, and what tools/explain says of it."""
     _, _, page = tools.page('verdicts', *BAD)
     articles = page.all('article')
     tools.want('how many', (len(articles), page.texts('h2')[1]), (len(BAD), f'{len(BAD)} faults'))
@@ -183,8 +180,7 @@ def faults_with_their_fields(tools: Written) -> None:
 # --- The time line ---
 
 def dots_of(page: Node) -> list[tuple[str, float, float, list[str]]]:
-    """The form of each dot, where it is from left to right in per cent and from the top in pixels,
-    and what its title says."""
+    """The form and place of each dot, and what its title says."""
     found = []
     for use in page.all('use'):
         for title in use.texts('title'):
@@ -196,13 +192,11 @@ def dots_of(page: Node) -> list[tuple[str, float, float, list[str]]]:
 
 
 def dots_of_calls(tools: Written) -> None:
-    """Each call has a dot, whose title has the call, its path, its position, its frame and its
-    latency, as tools/calls prints them. Those without a reply are above the scale: errors if none
-    came, and open if one may be missing. A capture has no times."""
+    """Each call has a dot, as tools/calls prints it; without a reply it is above."""
     for name, tool in ((FIRST, 'procedures'), (CONCURRENT, 'verdicts')):
         dots = dots_of(tools.page(tool, name)[2])
         found = {(dot[3][1], dot[3][2]): dot for dot in dots}
-        _, out, _ = tools.tool('calls', '--program', tools.program, '--csv', name)
+        _, out, _ = tools.tool('calls', '--csv', name)
         rows = list(csv.DictReader(io.StringIO(out)))
         tools.want(f'{name}: calls', sorted(found),
                    sorted((row['connection'], row['record']) for row in rows))
@@ -234,8 +228,7 @@ def dots_of_calls(tools: Written) -> None:
 
 
 def forms_of_a_line(tools: Written) -> None:
-    """A time line of one call, of latencies that are not positive, and of any times has round
-    labels, a few of them."""
+    """A time line of any times and latencies has a few round labels."""
     for end in (0, 1, 999, 1_000, 7_300_000, 10 ** 9, 59 * 10 ** 9, 3_600 * 10 ** 9,
                 604_800 * 10 ** 9):
         dots = [Dot(end * at // 3, latency, False, 'x')
@@ -255,14 +248,13 @@ def forms_of_a_line(tools: Written) -> None:
 
 
 def many_calls(tools: Written) -> None:
-    """Of 44,000 calls 10,000 errors and the slowest of each column of pixels are drawn, and how
-    many are left out is said. The page and the memory of the tool stay small."""
+    """Errors and the slowest calls are drawn, and how many are left out is said."""
     talk = Talk()
     frames = talk.opened()
     for xid in range(MANY):
         frames.append(talk.sent(0,
                                 fragment(call(xid, NFS, 3, GETATTR, fh(b'%032d' % (xid % 5_000))))))
-        result = failed(STALE) if xid % 4 == 3 else ok(fattr(1, 5))
+        result = failed(STALE) if xid % 2 else ok(fattr(1, 5))
         frames.append(talk.sent(1, fragment(success(xid, result))))
     tools.write('a.pcap', pcap(frames))
     status, _, _, memory = measured(tools, 'verdicts', '--program', tools.program, '--html',
@@ -272,19 +264,16 @@ def many_calls(tools: Written) -> None:
     tools.want(f'{size} bytes', size <= 3_000_000, True)
     dots = dots_of(page)
     errors = [int(dot[3][2]) for dot in dots if dot[0] == 'bad']
-    tools.want('errors', errors[:ERRORS_AT_MOST], [*range(4, 4 * ERRORS_AT_MOST + 1, 4)])
+    tools.want('errors', errors[:ERRORS_AT_MOST], [*range(2, 2 * ERRORS_AT_MOST + 1, 2)])
     tools.want(f'{len(dots)} dots', len(dots) - len(errors) <= COLUMNS < len(dots), True)
-    said = re.search(r'([\d,]+) of 44,000 calls are drawn: .* ([\d,]+) are left out, ([\d,]+) of '
+    said = re.search(r'([\d,]+) of 22,000 calls are drawn: .* ([\d,]+) are left out, ([\d,]+) of '
                      r'them errors', page.text())
     tools.want('said', said and [int(word.replace(',', '')) for word in said.groups()],
-               [len(dots), MANY - len(dots), MANY // 4 - len(errors)])
+               [len(dots), MANY - len(dots), MANY // 2 - len(errors)])
 
-
-# --- Names, files ---
 
 def names_and_outputs(tools: Written) -> None:
-    """Names of files and paths are text, and a page asks for nothing else. It is refused as other
-    outputs are, goes to standard output if its name is `-`, and is not for --follow."""
+    """Names are text, nothing else is asked for, and outputs are refused alike."""
     name = 'a<script>document.title=3<.pcap'
     calls = [call(1, MOUNT, 3, 1, opaque(b'/m')),
              call(2, NFS, 3, LOOKUP, dirop(b'top', HOSTILE.encode()))]
@@ -299,9 +288,9 @@ def names_and_outputs(tools: Written) -> None:
                    f'Every call of NFS and MOUNT version 3 is valid: {name}')
         tools.want(f'{tool}: path', HOSTILE.replace('"', '\\x22') in dots_of(page)[-1][3][0], True)
         for words in (['a.pcap'], ['x', '--json', 'x'], ['absent/x']):
-            status, _, _ = tools.tool(tool, '--program', tools.program, '--html', *words, 'a.pcap')
+            status, _, _ = tools.tool(tool, '--html', *words, 'a.pcap')
             tools.want(f'{tool} {words}', (status in (2, 3), tools.exists('x')), (True, False))
-        status, out, error = tools.tool(tool, '--program', tools.program, '--html', '-', 'a.pcap')
+        status, out, error = tools.tool(tool, '--html', '-', 'a.pcap')
         tools.want(f'{tool} -', (status, out[:15], ' judged (' in error),
                    (0, '<!DOCTYPE html>', True))
     tools.want('follow', tools.tool('verdicts', '--html', 'x', '--follow', 'a.pcap')[0], 2)
@@ -309,8 +298,6 @@ def names_and_outputs(tools: Written) -> None:
     tools.want('several', (status, len(page.all('svg', 'line')), page.texts('h1')),
                (1, 2, ['Not all could be read']))
 
-
-# --- In Chromium ---
 
 DOTS = """["good", "bad"].map(name => {
   const box = document.querySelector(`svg.line > use[href="#${name}"]`).getBoundingClientRect();
@@ -329,9 +316,7 @@ ERRORS = """(one => [one.textContent, one.getBoundingClientRect().right < innerW
 
 @in_chromium
 def pages_in_chromium(tools: Written) -> None:
-    """Pages load without an error, and nothing is wider than the window. Errors have another form
-    and colour than answers, light and dark. Verdicts are in sight in a narrow window, and all can
-    be read without scripts."""
+    """Pages load and fit, and errors have another form and colour."""
     with tools.browser() as browser:
         for words in (('verdicts', CONCURRENT), ('procedures', '--beside', FIRST, CONCURRENT),
                       ('verdicts', FIRST, *BAD)):
@@ -357,8 +342,7 @@ def pages_in_chromium(tools: Written) -> None:
 
 @in_chromium
 def keys_and_buttons(tools: Written) -> None:
-    """A click on the head of a column has its largest numbers first, and another the smallest; sums
-    stay last. The text field hides what does not have its text. n goes from fault to fault."""
+    """Columns sort both ways, the field hides, n goes from fault to fault."""
     with tools.browser() as browser:
         tools.page('procedures', '--total', FIRST)
         browser.open(tools.path('page.html'))
@@ -390,7 +374,5 @@ def keys_and_buttons(tools: Written) -> None:
         tools.want('errors', browser.errors, [])
 
 
-class VerdictPagesTest(FolderTest, make=Written, tests=[
-        head_and_counts, tables_as_printed, faults_with_their_fields, dots_of_calls,
-        forms_of_a_line, many_calls, names_and_outputs, pages_in_chromium, keys_and_buttons]):
+class VerdictPagesTest(FolderTest, make=Written):
     """Each test has a folder of its own."""

@@ -1,7 +1,4 @@
-"""Tests of `tools/where` and `tools/verdicts`.
-
-What needs tshark is skipped, with a word, if tshark is not there.
-"""
+"""Tests of `tools/where` and `tools/verdicts`. Without tshark, what needs it is skipped."""
 import itertools
 import json
 import lzma
@@ -12,7 +9,6 @@ import shutil
 import signal
 import time
 import unittest
-import xml.etree.ElementTree
 
 from examples.messages import NFS, call, fh, hyper, opaque, success, word
 from examples.packets import ACK, Talk, ethernet, pcap
@@ -22,8 +18,8 @@ from ..nfs3tools.shared.places import SIDES, Place
 from .cases import FolderTest
 from .recordings import NANOSECONDS, fragments, interface, section, simple
 from .scripts import (
-    ALL, CALLS, REPLIES, TOP, Tools, connection_of, exchange, in_fragments, stream, sums, taken_of,
-    whole)
+    ALL, CALLS, FAULTS, FIRST, REPLIES, TOP, Tools, connection_of, exchange, in_fragments,
+    of_tshark, stream, sums, taken_of, whole)
 
 VERDICTS = str(TOP / 'tools/verdicts')
 CALL, REPLY = len(stream(CALLS[:1])), len(stream(REPLIES[:1]))
@@ -31,25 +27,18 @@ FIFTH_OF_REPLIES = -(-len(ALL[1]) // 5)
 # words, and the status of what is in part
 ALLOWING: list[tuple[list[str], int]] = [([], 1), (['--allow-losses'], 0)]
 HEAD = 'connection 1 %s: client 192.0.2.7:700, server 192.0.2.1:2049, tcp.stream == 0'
-FAULTS = {'bad_client_record': ('client record 1 byte 4: BadEnum', 4),
-          'bad_server_record': ('server record 2 byte 0: NoCall', 13),
-          'bad_status': ('server record 1 byte 24: BadEnum', 5),
-          'bad_bool': ('server record 1 byte 28: BadBool', 5),
-          'bad_length': ('client record 1 byte 40: TooLong', 4)}
 
 
 # --- where ---
 
 def where(tools: Tools, place: str, *options: str) -> tuple[int, list[str], str]:
-    """The status of `tools/where` on the recording `a.pcap`, its lines, and what is told on
-    standard error."""
+    """The status of `tools/where` on `a.pcap`, its lines, and standard error."""
     status, out, error = tools.tool('where', *options, 'a.pcap', place)
     return status, out.splitlines(), error
 
 
 def places(tools: Tools) -> None:
-    """A place in each form in which the program prints it, in a recording with a retransmission and
-    records of fragments."""
+    """A place in each form in which the program prints it."""
     talk = Talk()
     frames = talk.opened()
     content = stream(CALLS[:2]) + in_fragments(CALLS[2], 10) + stream(CALLS[3:])
@@ -80,25 +69,7 @@ def places(tools: Tools) -> None:
     for byte, frame in ((16, 4), (19, 4), (65, 4), (66, 5)):
         lines = [f'file {byte}', times[frame], f'frame.number == {frame}']
         tools.want(f'file {byte}', where(tools, f'file {byte}: TooManyBytes'), (0, lines, ''))
-    places_that_are_not_there(tools)
     places_by_standard_input(tools, frames)
-
-
-def places_that_are_not_there(tools: Tools) -> None:
-    """Of the recording of `places`."""
-    for place, status, message in (
-            ('connection 1 client record 1 byte 41', 1,
-             'there is no connection 1 client record 1 byte 41: the body is shorter'),
-            ('connection 1 client record 40', 1, 'there is no connection 1 client record 40'),
-            ('connection 1 client record 0', 1, 'there is no connection 1 client record 0'),
-            ('connection 2 client record 1 byte 0', 1, 'there is no connection 2'),
-            ('file 8', 1, 'byte 8 of the capture is not of a stream, so no frame carries it'),
-            ('file 15', 1, 'byte 15 of the capture is not of a stream, so no frame carries it'),
-            ('file 999999', 1,
-             'byte 999999 of the capture is not of a stream, so no frame carries it'),
-            ('somewhere', 2,
-             "no position: somewhere (as in 'connection 1 server record 7 byte 24')")):
-        tools.want(place, where(tools, place), (status, [], f'where: {message}\n'))
 
 
 def places_by_standard_input(tools: Tools, frames: list[bytes]) -> None:
@@ -120,8 +91,7 @@ def places_by_standard_input(tools: Tools, frames: list[bytes]) -> None:
 
 
 def places_of_other_recordings(tools: Tools) -> None:
-    """Fragments, frames without times, cut connections, gaps, and the number of the connection as
-    Wireshark counts."""
+    """Fragments, frames without times, cuts and gaps."""
     frames = whole()
     pieces = [ethernet(piece) for number, frame in enumerate(frames)
               for piece in fragments(frame[14:], 64, number)]
@@ -156,8 +126,7 @@ def places_of_other_recordings(tools: Tools) -> None:
 
 @unittest.skipUnless(shutil.which('tshark'), 'tshark is not there')
 def places_at_the_frames_of_tshark(tools: Tools) -> None:
-    """Random places of the real recordings, and of shuffled segments, are at the frame that tshark
-    says carries the byte first."""
+    """Random places are at the frame that tshark says is first."""
     chance, talk = random.Random(4), Talk(first=((1 << 32) - 900, 77))
     opened, frames = talk.opened(), exchange(talk, 30)
     frames += chance.choices(frames, k=20)
@@ -166,13 +135,9 @@ def places_at_the_frames_of_tshark(tools: Tools) -> None:
                   pcap(whole() + whole(first=(9_000, 9_000)))]
     for recording in recordings:
         tools.write('a.pcap', recording)
-        words = ['tshark', '-n', '-r', 'a.pcap', '-Y', 'tcp.len > 0', '-T', 'fields', '-o',
-                 'tcp.desegment_tcp_streams:FALSE']
-        words += [word for field in ('frame.number', 'tcp.stream', 'tcp.srcport', 'tcp.seq',
-                                     'tcp.len') for word in ('-e', field)]
-        done = ended(words, tools.folder)
-        tools.want('the status of tshark', done.status, 0)
-        segments = [tuple(map(int, line.split())) for line in done.out.splitlines()]
+        segments = [tuple(map(int, row)) for row in of_tshark(
+            tools, 'a.pcap', 'tcp.len > 0', 'frame.number', 'tcp.stream', 'tcp.srcport', 'tcp.seq',
+            'tcp.len')]
         taken = taken_of(recording)
         for _ in range(40):
             connection, side = chance.choice(taken.connections), chance.choice(SIDES)
@@ -191,25 +156,26 @@ def places_at_the_frames_of_tshark(tools: Tools) -> None:
                        [wanted])
 
 
-def parts_of_a_recording(tools: Tools) -> None:
-    """A pattern that is the name of no file stands for the parts of one recording, in the order of
-    the times of their first frames, for each tool. A frame has its number in the whole, and `where`
-    has that in the part, too."""
-    frames, head = whole() + whole(port=701), pcap([])
+def write_parts(tools: Tools, frames: list[bytes]) -> None:
+    """Writes a recording, and its parts as `tcpdump -W 3` names them after it began anew."""
     records = pcap(frames)[24:]
     ends = list(itertools.accumulate((16 + len(frame) for frame in frames), initial=0))
-    # As `tcpdump -W 3` names them after it began anew: the first frames are in the second file.
     for name, low, high in (('run.pcap1', 0, 6), ('run.pcap2', 6, 20), ('run.pcap10', 20, 21),
                             ('run.pcap0', 21, 30)):
-        tools.write(name, head + records[ends[low]:ends[high]])
+        tools.write(name, pcap([]) + records[ends[low]:ends[high]])
     tools.write('whole.pcap', pcap(frames))
+
+
+def parts_of_a_recording(tools: Tools) -> None:
+    """A pattern stands for the parts of one recording, by their times."""
+    write_parts(tools, whole() + whole(port=701))
     status, rows, last, error = verdicts(tools, 'run.pcap*')
     tools.want('verdicts', (status, [row[-3:] for row in rows], last, error),
                (0, [['39', '39', 'ok']] * 2, sums(2), ''))
     for name, recording in (('of_parts', 'run.pcap*'), ('of_whole', 'whole.pcap')):
         tools.want('from_pcap', tools.tool('from_pcap', recording, name)[:2], (0, ''))
     tools.want('one capture', tools.read('of_parts'), tools.read('of_whole'))
-    answer = tools.tool('compare', '--program', tools.program, 'run.pcap*', 'whole.pcap')
+    answer = tools.tool('compare', 'run.pcap*', 'whole.pcap')
     tools.want('compare', (answer[0], answer[1].splitlines()[1], answer[2]),
                (0, 'same: 78 calls in 2 connections', ''))
     place, time = 'connection 1 client record 8', '1970-01-01 00:00:01.0000%02d000 UTC'
@@ -224,13 +190,11 @@ def parts_of_a_recording(tools: Tools) -> None:
                (2, '', 'from_pcap: run.pcap10 is an input, and is not replaced\n'))
     tools.write('run.pcap*', pcap(whole()))
     tools.want('the name of a file', len(verdicts(tools, 'run.pcap*')[1]), 1)
-    os.remove(tools.path('run.pcap*'))
-    parts_that_are_none(tools)
 
 
 def parts_that_are_none(tools: Tools) -> None:
-    """After the parts of `parts_of_a_recording`: a part alone, times that are equal, and files that
-    are no parts."""
+    """A part alone, times that are equal, and files that are no parts."""
+    write_parts(tools, whole() + whole(port=701))
     tools.write('half.pcap1', pcap(whole()[:8]))
     tools.write('half.pcap2', pcap(whole()[8:]))  # replies alone
     status, _, _, error = verdicts(tools, 'half.pcap2')
@@ -293,15 +257,15 @@ def rows_of(tools: Tools, name: str) -> list[dict[str, object]]:
 def verdicts(tools: Tools, *words: str,
              stdin: bytes | None = None) -> tuple[int, list[list[str]], str, str]:
     """The status, the cells of the rows, the last line, and what is told on standard error."""
-    status, out, error = tools.tool('verdicts', '--program', tools.program, *words, stdin=stdin)
+    status, out, error = tools.tool('verdicts', *words, stdin=stdin)
     lines = out.splitlines() or ['', '']
     return status, [re.split('  +', line) for line in lines[1:-1]], lines[-1], error
 
 
 def faults_with_their_frames(tools: Tools) -> None:
-    """The wrong recordings of the examples are named with their frame, and so are the captures,
-    without one."""
-    for name, (fault, frame) in FAULTS.items():
+    """Wrong recordings are named with their frame, captures without one."""
+    for name, (place, frame) in FAULTS.items():
+        fault = place.partition(' ')[2].partition(' ')[2]
         status, rows, last, error = verdicts(tools, str(TOP / 'examples' / (name + '.pcap')))
         tools.want(name, (status, rows[-1][-1], error), (1, f'{fault}, frame {frame}', ''))
         tools.want(name + ', the others', all(row[-1] == 'ok' for row in rows[:-1]), True)
@@ -313,8 +277,7 @@ def faults_with_their_frames(tools: Tools) -> None:
 
 
 def rows_of_all_kinds(tools: Tools) -> None:
-    """Each connection by itself, counts of those that are refused, captures that are not whole, and
-    files that are none."""
+    """Each connection has its row, and each fault its frame."""
     wrong = ([call(1, NFS, 3, 0), call(2, NFS, 3, 0)], [success(1), success(9), success(2)])
     frames = whole()
     for number, (calls, replies) in enumerate((wrong, (CALLS[:1], REPLIES[:1]), wrong), 701):
@@ -339,20 +302,18 @@ def rows_of_all_kinds(tools: Tools) -> None:
                     ['d.nfs3cap', '7', '7', 'ok'],
                     ['d.nfs3cap', '51', '51', 'ok'], ['d.nfs3cap', '2', '2', 'ok']],
                 sums(6, raw='1 NFSACL GETACL'), ''))
-    rows_of_files_that_are_not_whole(tools)
     tools.want('no program', tools.tool('verdicts', '--program', './absent', 'b.pcap'),
                (2, '', 'verdicts: ./absent is missing\n'))
     tools.want('no processes', tools.tool('verdicts', '-j', '0', 'b.pcap')[0], 2)
 
 
 def rows_of_faults_alone(tools: Tools) -> None:
-    """With -q, rows of ok and the heads are left out, also with --follow; the counts and the status
-    stay."""
+    """With -q rows of ok are left out, also with --follow."""
     good, bad = pcap(whole()), (TOP / 'examples/bad_server_record.pcap').read_bytes()
     for words, content, faults in ((['-'], good, 0), (['-'], bad, 1), (['--follow', '-'], good, 0),
                                    (['--follow', '-'], bad, 1)):
         status, rows, last, error = verdicts(tools, *words, stdin=content)
-        quiet = tools.tool('verdicts', '--program', tools.program, '-q', *words, stdin=content)
+        quiet = tools.tool('verdicts', '-q', *words, stdin=content)
         *lines, counts = [re.split('  +', line) for line in quiet[1].splitlines()]
         tools.want(f'{words}, faults: {faults}', (quiet[0], lines, counts, quiet[2]),
                    (status, [row for row in rows if row[-1] != 'ok'], re.split('  +', last), error))
@@ -361,6 +322,7 @@ def rows_of_faults_alone(tools: Tools) -> None:
 
 def rows_of_files_that_are_not_whole(tools: Tools) -> None:
     """Each beside a good one."""
+    tools.write('b.pcap', pcap(whole()))
     two = (TOP / 'examples/two_connections.nfs3cap').read_bytes()
     first, second, as_a_whole = ['1', '-', '-', '1', '1',
                                  'ok'], ['2', '-', '-', '1', '1', 'ok'], ['-', '-', '-', '-', '-']
@@ -392,26 +354,8 @@ def rows_of_files_that_are_not_whole(tools: Tools) -> None:
         tools.want(name + ', the other', found[-1][-1], 'ok')
 
 
-def what_is_told(tools: Tools) -> None:
-    """Losses are told, and what is left out is skipped."""
-    frames = whole()
-    tools.write('a.pcap', pcap(frames[:4] + frames[5:] + Talk(800).opened()))
-    status, rows, last, error = verdicts(tools, 'a.pcap')
-    # The bytes 344 to 687 have a part of each call from the 8th to the 16th.
-    tools.want('a loss', (status, [row[-3:] for row in rows], last),
-               (1, [['30', '30', 'ok in part: 30 calls, 344 bytes missing']],
-                sums(0, 1, left_out=1, bare=1)))
-    tools.want('told', error.splitlines()[0],
-               'a.pcap: connection 1: client: 344 bytes are missing from the recording after the '
-               'first '
-               f'344, before frame 5; {9 * CALL - 344} bytes of torn records are left out')
-    tools.want('left out', error.splitlines()[-1],
-               'a.pcap: left out: 192.0.2.7:800 and 192.0.2.1:2049: no payload')
-
-
 def ok_in_part(tools: Tools) -> None:
-    """A connection of which bytes are missing is counted apart, with the calls that were judged,
-    and --allow-losses takes it as 0."""
+    """Missing bytes are counted apart, and are 0 with --allow-losses."""
     good, one, last = whole(port=701), whole(), Talk(first=((1 << 32) - 9, 5))
     large = stream([call(1, NFS, 3, 0)]) + stream(
         [call(2, NFS, 3, 7, fh(b'abcd') + hyper(0) + word(27_000) + word(0)
@@ -447,38 +391,8 @@ def ok_in_part(tools: Tools) -> None:
                (1, sums(0, 1, 1)))
 
 
-def ok_in_part_in_files(tools: Tools) -> None:
-    """JUnit has a failure of a type of its own, or a case that passed and says it, and the number;
-    JSON has a state and the number of bytes."""
-    tools.write('a.pcap', pcap(whole(port=701) + whole()[:4] + whole()[5:]))
-    line = 'ok in part: 30 calls, 344 bytes missing'
-    for words, failures in ALLOWING:
-        verdicts(tools, '--junit', 'x.xml', '--json', 'x.json', *words, 'a.pcap')
-        suite = xml.etree.ElementTree.fromstring((tools.read('x.xml') or b'').decode())[0]
-        tools.want('the suite',
-                   [suite.get(key) for key in ('tests', 'failures', 'errors', 'skipped')],
-                   ['2', str(failures), '0', '0'])
-        tools.want('properties',
-                   [(item.get('name'), item.get('value')) for item in suite.iter('property')], [
-                       ('judged', '1'), ('ok', '1'), ('refused', '0'), ('in part', '1'),
-                       ('left out', '0'), ('without calls', '0'),
-                       ('not checked', '0'), ('errors', '0'), ('without reply', '0'), ('raw', '')])
-        first, second = suite.iter('testcase')
-        tools.want('the cases', ([item.tag for item in first], [item.tag for item in second]),
-                   ([], ['failure'] * failures + ['system-out']))
-        tools.want('the type', [(item.get('type'), item.get('message')) for item in second
-                                if item.tag == 'failure'],
-                   [('in part', line)] if not words else [])
-        tools.want('what the case says', (second.findtext('system-out') or '').partition('\n')[0],
-                   line)
-        rows = rows_of(tools, 'x.json')
-        tools.want('JSON', [(row['state'], row['message'], row['missing']) for row in rows],
-                   [('ok', 'ok', 0), ('in part', line, 344)])
-
-
 def notes_on_a_recording(tools: Tools) -> None:
-    """A note on a whole recording is none of its first connection: a line, a row of JSON, and
-    output of the suite."""
+    """A note on a whole recording is none of its first connection."""
     frames, other = whole(port=701) + whole(), whole(service=900)[0]
     lying = other[:16] + b'\xff\xff' + other[18:]
     tools.write('a.pcap', pcap(frames + [lying]))
@@ -490,7 +404,7 @@ def notes_on_a_recording(tools: Tools) -> None:
     found = [(row['connection'], row['state'], row['message'], row['notes'])
              for row in rows_of(tools, 'x.json')]
     tools.want('JSON', found, [(None, 'note', told, []), (1, 'ok', 'ok', []), (2, 'ok', 'ok', [])])
-    suite = xml.etree.ElementTree.fromstring((tools.read('x.xml') or b'').decode())[0]
+    suite = tools.xml('x.xml')[0]
     tools.want('JUnit', (suite.get('tests'), suite.findtext('system-out'),
                          [len(case) for case in suite.iter('testcase')]),
                ('2', f'a.pcap: {told}', [0, 0]))
@@ -500,16 +414,20 @@ def notes_on_a_recording(tools: Tools) -> None:
                [f'a.pcap: {told}', f'b.pcap: {told}'])
 
 
-def files_for_others(tools: Tools) -> None:
-    """JUnit XML and JSON, which hold whatever a file's name has."""
+def write_files(tools: Tools, *inputs: str) -> None:
+    """Writes JUnit XML and JSON of a fault, a loss, what is left out, and a file that is none."""
     name = 'a\1\n<&"]]>\udcff.pcap'
     tools.write(name, (TOP / 'examples/bad_server_record.pcap').read_bytes())
     tools.write('b.pcap', pcap(whole()[:4] + whole()[5:] + Talk(800).opened()))
-    words = ['--junit', 'x.xml', '--json', 'x.json', '--program', tools.program, name, 'b.pcap',
-             'c']
+    words = ['--junit', 'x.xml', '--json', 'x.json', '--program', tools.program, name, *inputs]
     done = ended([VERDICTS, *words], tools.folder)
     tools.want('status', (done.status, b'Traceback' in done.error), (1, False))
-    suites = xml.etree.ElementTree.fromstring((tools.read('x.xml') or b'').decode())
+
+
+def files_for_others(tools: Tools) -> None:
+    """JUnit XML holds whatever the name of a file has."""
+    write_files(tools, 'b.pcap', 'c')
+    suites = tools.xml('x.xml')
     suite = suites[0]
     tools.want('the suite',
                [suite.get(key) for key in ('name', 'tests', 'failures', 'errors', 'skipped')],
@@ -534,17 +452,18 @@ def files_for_others(tools: Tools) -> None:
                [[in_part, 'client: 344 bytes are missing from the recording after the first 344, '
                  'before frame 5; '
                  f'{9 * CALL - 344} bytes of torn records are left out']])
+
+
+def rows_for_others(tools: Tools) -> None:
+    """JSON has states, positions, frames and what is missing."""
+    write_files(tools, 'b.pcap', 'c')
     rows = rows_of(tools, 'x.json')
-    tools.want('JSON', [(row['state'], row['connection'], row['tcp_stream'], row['position'],
-                         row['reason'], row['frames']) for row in rows], [
-                             ('ok', 1, 0, None, None, []),
-                             ('refused', 2, 1, 'server record 2 byte 0', 'NoCall',
-                              [{'number': 13, 'time': 1_000_012_000}]),
-                             ('in part', 1, 0, None, None, []),
-                             ('left out', None, None, None, None, []),
-                             ('error', None, None, None, None, [])])
-    status, _, _ = tools.tool('verdicts', '--program', tools.program, '--junit', 'absent/x',
-                              'b.pcap')
+    tools.want('JSON', [(row['state'], row['connection'], row['tcp_stream'], row[
+        'position'], row['reason'], row['frames'], row['missing']) for row in rows], [
+            ('ok', 1, 0, None, None, [], 0), ('refused', 2, 1, 'server record 2 byte 0', 'NoCall', [
+                {'number': 13, 'time': 1_000_012_000}], 0), ('in part', 1, 0, None, None, [], 344),
+            ('left out', None, None, None, None, [], 0), ('error', None, None, None, None, [], 0)])
+    status, _, _ = tools.tool('verdicts', '--junit', 'absent/x', 'b.pcap')
     tools.want('a file that cannot be written', status, 3)
 
 
@@ -560,8 +479,7 @@ def interrupted(tools: Tools) -> None:
         process.send_signal(signal.SIGINT)
         out, error = process.communicate(timeout=20)
     tools.want('interrupted', (process.returncode, out, error), (130, b'', b''))
-    listed = begin([VERDICTS, '--program', tools.program, str(TOP / 'examples/ganesha_a.pcap')],
-                   tools.folder)
+    listed = begin([VERDICTS, '--program', tools.program, FIRST], tools.folder)
     pipe_of(listed.stdout).close()
     tools.want('a reader that is gone', (pipe_of(listed.stderr).read(), listed.wait()), (b'', 3))
 
@@ -572,9 +490,7 @@ def take_interrupts() -> None:
 
 
 def parts_without_quotes(tools: Tools) -> None:
-    """Several recordings of which one goes on with a connection of another are told to be parts, by
-    each tool that takes several; as a pattern in quotes they are one. Recordings of other
-    connections are not told of."""
+    """Parts that are named one by one are told to be parts."""
     frames = talk_in_turns(Talk())
     tools.write('run1.pcap', pcap(frames[:13]))
     tools.write('run2.pcap', pcap(frames[13:]))
@@ -585,7 +501,7 @@ def parts_without_quotes(tools: Tools) -> None:
                                (['run2.pcap', 'run1.pcap'], True), (['run?.pcap'], False),
                                (['run1.pcap', 'other.pcap'], False),
                                (['run1.pcap', 'run1.pcap'], False), (['run2.pcap'], False)):
-            _, _, error = tools.tool(tool, '--program', tools.program, *names)
+            _, _, error = tools.tool(tool, *names)
             tools.want(f'{tool} {names}', [one for one in error.splitlines() if 'look like' in one],
                        [line % 'run2.pcap'] * is_told)
 
@@ -598,9 +514,5 @@ def talk_in_turns(talk: Talk) -> list[bytes]:
     return [*frames, *talk.closed()]
 
 
-class VerdictsTest(FolderTest, make=Tools, tests=[
-        places, places_of_other_recordings, parts_of_a_recording, recordings_that_are_compressed,
-        places_at_the_frames_of_tshark, faults_with_their_frames, rows_of_all_kinds,
-        rows_of_faults_alone, what_is_told, ok_in_part, ok_in_part_in_files, notes_on_a_recording,
-        files_for_others, interrupted, parts_without_quotes]):
+class VerdictsTest(FolderTest, make=Tools):
     """Each test has a folder of its own."""

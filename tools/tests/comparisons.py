@@ -1,0 +1,53 @@
+"""Runs of tools/compare, and made runs of one connection."""
+import re
+from collections.abc import Iterable
+
+from examples import messages
+from examples.messages import MOUNT, NFS, call, success
+
+from .scripts import Tools
+
+COUNTS = re.compile(r'(both runs|first run|second run): [\d,]+ judged')
+Conversation = tuple[list[bytes], list[bytes]]
+Exchange = tuple[int, bytes, bytes]  # a procedure of NFS, its arguments and its results
+
+
+def conversation_of(steps: Iterable[Exchange], xid: int = 1) -> Conversation:
+    """Calls and their replies, with xids that count."""
+    numbered = [*enumerate(steps, xid)]
+    return ([call(at, NFS, 3, procedure, asked) for at, (procedure, asked, _) in numbered],
+            [success(at, results) for at, (_, _, results) in numbered])
+
+
+def is_unchecked(body: bytes) -> bool:
+    """Whether a call is of NFS or MOUNT, and none of version 3, by RFC 5531, section 9."""
+    program, version, procedure = (int.from_bytes(body[at:at + 4], 'big') for at in (12, 16, 20))
+    return program in (NFS, MOUNT) and (version != 3 or procedure > (21 if program == NFS else 5))
+
+
+class Comparisons(Tools):
+    """A folder, and runs of tools/compare there."""
+
+    def compare(self, *words: str) -> tuple[int, list[str], str]:
+        """The status, the lines without those that count connections, and standard error."""
+        status, out, error = self.tool('compare', *words)
+        return status, [line for line in out.splitlines() if not COUNTS.match(line)], error
+
+    def put(self, name: str, *connections: Conversation) -> None:
+        self.write(name, messages.capture(*connections))
+
+    def put_both(self, first: Conversation, second: Conversation) -> None:
+        """Writes two runs of one connection each, `a` and `b`."""
+        self.put('a', first)
+        self.put('b', second)
+
+    def says(self, what: str, status: int, begin: str, *words: str) -> list[str]:
+        """`a` and `b` are compared with this status and a verdict that begins so. Returns all."""
+        found, out, error = self.compare(*words, 'a', 'b')
+        self.want(what, (found, out[1][:len(begin)], error), (status, begin, ''))
+        return out
+
+    def wants(self, what: str, status: int, lines: list[str], *words: str) -> None:
+        """`a` and `b` are compared with this status, and these lines come after the first two."""
+        found, out, error = self.compare(*words, 'a', 'b')
+        self.want(what, (found, out[2:], error), (status, lines, ''))
