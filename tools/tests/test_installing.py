@@ -176,7 +176,7 @@ def own_group() -> None:
         signal.signal(number, signal.SIG_DFL)
 
 
-def waited(holds: Callable[[], bool], seconds: float = 20) -> bool:
+def waited(holds: Callable[[], bool], seconds: float = 60) -> bool:
     """Waits until something holds. Returns whether it does in time."""
     end = time.monotonic() + seconds
     while not holds() and time.monotonic() < end:
