@@ -162,11 +162,6 @@ def following(text: str | None) -> frozenset[str]:
     return frozenset() if named is None else FOLLOWING - named
 
 
-def besides(mask: Mask, before: Mask) -> Mask:
-    """Returns the classes that one mask masks in another way than the one before."""
-    return {name: way for name, way in mask.items() if before.get(name) is not way}
-
-
 def with_class_of(mask: Mask, other: Mask, name: str) -> Mask:
     """Returns a mask in which a class is masked as in another, or not at all."""
     if name in other:
