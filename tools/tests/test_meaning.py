@@ -18,7 +18,7 @@ from examples.packets import Talk
 from tools.nfs3tools.exchanges.kept import Kept
 from tools.nfs3tools.exchanges.stored import Values
 from tools.nfs3tools.judgement.verdict import Verdict, kept_in
-from tools.nfs3tools.meaning.found import findings_in
+from tools.nfs3tools.meaning.across import findings_in
 from tools.nfs3tools.meaning.recorded import Exchange, Recorded
 from tools.nfs3tools.meaning.rules import BY_NAME, Looked
 from tools.nfs3tools.recordings.selection import Options

@@ -90,7 +90,6 @@ from ..comparison.verdict.report import Report
 from ..comparison.verdict.trial import Trial
 from ..pages import compared as pages
 from ..pages.compared import Content, Recorded
-from ..pages.markup import encoded
 from ..recordings.coverage import Allowed
 from ..recordings.parts import files_in, files_of
 from ..recordings.selection import Options
@@ -296,7 +295,7 @@ def explain(words: argparse.Namespace, whole: Whole, line: str, report: Report, 
     if words.html:
         recorded = [recorded_of(*one) for one in zip(whole.taken, whole.names)]
         content = Content(line, report, compared, words.ignore, left_out, whole.runs, recorded)
-        write_file(words.html, encoded(pages.page(content)), whole.inputs)
+        write_file(words.html, pages.page(content), whole.inputs)
     if words.json:
         write_file(words.json, json_of(report, compared, left_out, whole.framings()), whole.inputs)
     print_found(words, whole, report, compared, left_out)

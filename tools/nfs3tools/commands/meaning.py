@@ -4,10 +4,8 @@
                   [--accept FILE] RECORDING|CAPTURE ..
     tools/meaning --explain RULE
 
-Printed is a row for each rule that is broken and each server, with the first finding: its frame and
-its call, and the frame of another exchange if both cannot be right. --all lists each finding. A
-note is permitted, and worth knowing. The work of clients that are not recorded is no finding; the
-manual page says what counts. --accept FILE has rules and servers whose findings somebody accepted.
+Printed is a row for each rule that is broken and each server, with the first finding. --all lists
+each. A note is permitted. The work of clients that are not recorded is no finding.
 
 The line before the last says how much was looked at, the last has the counts of tools/verdicts: a
 finding makes no message invalid. The recordings are taken as there. The status is 0 if that of
@@ -21,20 +19,24 @@ import argparse
 import contextlib
 import json
 import sys
-from collections.abc import Iterator, Sequence
+from collections import Counter
+from collections.abc import Iterable, Iterator, Sequence
+from dataclasses import dataclass
 from functools import partial
-from typing import NamedTuple
 
 from ..comparison.verdict.accepted import refusal
+from ..exchanges.kept import Kept, call_of
+from ..exchanges.stored import Values
 from ..exchanges.whose import ANY
-from ..judgement.verdict import Verdict, counts_after, members_of, status_of, sums_of
-from ..meaning.found import COLUMNS, Entry, Found, Row, fitting
-from ..meaning.rules import BY_NAME, NOTE, Looked
-from ..pages.judged import Content, as_printed, page, table_of
-from ..pages.markup import encoded
-from ..pages.seen import Seen, verdicts_in
+from ..judgement.verdict import (
+    Verdict, count_unanswered, counts_after, kept_in, members_of, status_of, sums_of)
+from ..meaning.across import findings_in
+from ..meaning.recorded import Recorded
+from ..meaning.rules import BY_NAME, NOTE, Finding, Looked
+from ..pages.judged import Seen, as_printed, page, table_of
 from ..recordings.parts import files_in
 from ..recordings.selection import count
+from ..recordings.taken import Taken
 from ..reporting.junit import Suite
 from ..reporting.messages import add_recordings, allowed_of, parser_of, run
 from ..reporting.rows import add_forms, form_of
@@ -45,72 +47,146 @@ from .calls import tell_verdicts, time_of
 from .verdicts import judge_of
 
 VERSION = 1
+COLUMNS = ('recording', 'rule', 'section', 'by', 'connection', 'record', 'reply_record', 'frame',
+           'time_ns', 'procedure', 'path', 'text', 'against_record', 'against_frame', 'accepted')
+ACCEPTED, FINDING = 'accepted', 'finding'
+Entry = tuple[str, str]  # a rule and a server, either of which may be any
 HEADS = ('rule', 'section', 'by', 'server', 'found', 'first')
 NUMBERS = range(4, 5)  # columns that are set to the right
 
 
-class Told(NamedTuple):
-    """What is said of all recordings: the command line, the rows, the table of each recording, what
-    a page shows of it besides, and how much was looked at."""
-    chosen: argparse.Namespace
-    rows: list[Row]
-    tables: list[list[Styled]]
-    seen: list[Seen]
-    looked: Looked
+@dataclass
+class Row:
+    """How often exchanges with a server break a rule in a recording, whether that is accepted, and
+    the first of them in words."""
+    recording: str
+    rule: str
+    section: str
+    by: str
+    server: str
+    found: int
+    accepted: bool
+    first: str
 
     @property
-    def verdicts(self) -> list[Verdict]:
-        return verdicts_in(self.seen)
+    def kind(self) -> str:
+        """What these are: a finding alone changes the status."""
+        return NOTE if self.by == NOTE else ACCEPTED if self.accepted else FINDING
 
-    @property
-    def status(self) -> int:
-        """That of the verdicts, and else whether something is found that counts."""
-        return (status_of(self.verdicts, allowed_of(self.chosen))
-                or int(not all(row.is_good for row in self.rows)))
+    def fits(self, entry: Entry) -> bool:
+        """Whether an entry accepts them."""
+        return entry[0] in (ANY, self.rule) and entry[1] in (ANY, self.server)
+
+
+class Found:
+    """The findings of a recording, whose exchanges are in a temporary file. Of a rule that is not
+    wanted nothing is found."""
+
+    def __init__(self, recording: str, chosen: argparse.Namespace, looked: Looked) -> None:
+        self.recording, self.chosen, self.looked = escaped(recording), chosen, looked
+        self.kept, self.begun = Kept(), 0
+        self.rows, self.all = dict[Entry, Row](), list[tuple[Finding, Row]]()
+
+    def close(self) -> None:
+        self.kept.close()
+
+    def take(self, program: str, taken: Taken, verdicts: list[Verdict]) -> None:
+        """Takes the exchanges of the connections that were judged, and puts the rules to them."""
+        self.kept, self.begun = kept_in(program, taken, verdicts, Values()), taken.begun
+        is_whole = {verdict.state for verdict in verdicts} <= {'ok', 'note'}
+        for finding in findings_in(Recorded(self.kept), self.looked, is_whole):
+            if finding.rule in self.chosen.rule:
+                row = self.row_of(finding)
+                row.found += 1
+                self.all.append((finding, row))
+        self.all.sort(key=lambda one: self.kept.times[one[0].number])
+        count_unanswered(self.kept, verdicts)
+
+    def row_of(self, finding: Finding) -> Row:
+        rule, server = BY_NAME[finding.rule], self.kept.exchange(finding.number).part.server
+        if (rule.name, server) not in self.rows:
+            row = Row(self.recording, rule.name, rule.section, rule.by, server, 0, False,
+                      self.words(finding))
+            row.accepted = any(map(row.fits, self.chosen.accept))
+            self.rows[rule.name, server] = row
+        return self.rows[rule.name, server]
+
+    def frame(self, finding: Finding) -> int:
+        """Returns the frame that breaks a rule: that of the call if it is the client's."""
+        one = self.kept.exchange(finding.number)
+        is_call = BY_NAME[finding.rule].by == 'client' or not one.answered
+        return one.frame if is_call else one.answered[0].frame
+
+    def words(self, finding: Finding) -> str:
+        """Returns the frame of an exchange, its call, and how it breaks a rule."""
+        one = self.kept.exchange(finding.number)
+        frame = f'frame {self.frame(finding)}' if one.frame else f'{one.part.number}:{one.record}'
+        return printable(f'{frame}: {" ".join(call_of(one).split())}: {finding.text}')
+
+    def values(self) -> Iterator[Sequence[object]]:
+        """Iterates over the values of COLUMNS of all findings, in the order of time."""
+        for finding, row in self.all:
+            one, source = self.kept.exchange(finding.number), finding.source
+            yield (self.recording, row.rule, row.section, row.by, one.part.number, one.record,
+                   one.answered[0].record if one.answered else None, self.frame(finding) or None,
+                   one.time or None, one.procedure, one.path, finding.text,
+                   self.kept.position(source.number) if source else None,
+                   source.frame or None if source else None, row.accepted)
+
+
+    def print(self, screen: Screen) -> None:
+        """Prints a table for a reader, or all findings. Those of several recordings come after
+        their names."""
+        rows = [row for row in self.rows.values() if self.chosen.notes or row.kind != NOTE]
+        if len(self.chosen.recordings) > 1:
+            print(f'{self.recording}:')
+        if rows and not self.chosen.all:
+            print(*lines_of(table_of_rows(rows), screen), sep='\n')
+        for one, row in self.all if self.chosen.all else ():
+            if row in rows:
+                time = time_of(self.kept.times[one.number], self.begun)
+                print(f'{time}  {one.rule}  {self.words(one)}')
+
+
+class Told:
+    """What is told of all recordings: the table of each, and all rows and verdicts."""
+
+    def __init__(self, chosen: argparse.Namespace) -> None:
+        self.chosen, self.looked = chosen, Looked()
+        self.tables, self.rows = list[list[Styled]](), list[Row]()
+        self.seen, self.verdicts = list[Seen](), list[Verdict]()
+
+    def verdict_status(self) -> int:
+        return status_of(self.verdicts, allowed_of(self.chosen))
 
     def words(self) -> str:
         """Returns how many findings there are, and how much was looked at."""
-        left = [row for row in self.rows if not row.is_good]
-        notes = sum(row.found for row in self.rows if row.is_note)
-        taken = sum(row.found for row in self.rows if row.accepted and not row.is_note)
-        return (f'{count(sum(row.found for row in left), "finding")} by '
-                f'{count(len({row.rule for row in left}), "rule")}, {count(notes, "note")}'
-                f'{f", {taken:,} accepted" if self.chosen.accept else ""}; {self.looked.words()}')
+        numbers = Counter[str]()
+        for row in self.rows:
+            numbers[row.kind] += row.found
+        rules = len({row.rule for row in self.rows if row.kind == FINDING})
+        taken = f', {numbers[ACCEPTED]:,} accepted' if self.chosen.accept else ''
+        return (f'{count(numbers[FINDING], FINDING)} by {count(rules, "rule")}, '
+                f'{count(numbers[NOTE], NOTE)}{taken}; {self.looked.words()}')
 
     def members(self) -> dict[str, object]:
         """What is below the findings in JSON."""
-        rows = [{name: value for name, value in vars(row).items()
-                 if name not in ('recording', 'first')} for row in self.rows]
+        names = (*HEADS[:-1], 'accepted')
+        rows = [{name: getattr(row, name) for name in names} for row in self.rows]
         return {'rules': rows, 'looked_at': vars(self.looked), **members_of(self.verdicts)}
 
     def lines(self) -> Iterator[str]:
         """What is no longer found, and the counts."""
-        used = {entry for row in self.rows for entry in fitting(row.rule, row.server)}
-        yield from (printable(f'no longer found: {" ".join(entry)}')
-                    for entry in self.chosen.accept if entry not in used)
+        yield from (printable(f'no longer found: {" ".join(entry)}') for entry in self.chosen.accept
+                    if not any(row.fits(entry) for row in self.rows))
         yield from (self.words(), sums_of(self.verdicts))
 
 
-def table_of_rows(rows: Sequence[Row]) -> list[Styled]:
+def table_of_rows(rows: Iterable[Row]) -> list[Styled]:
     """Returns a table: red is what is wrong, yellow a note, and what is accepted."""
     return [Styled(HEADS), *(
         Styled((row.rule, row.section, row.by, row.server or '-', f'{row.found:,}', row.first),
-               Colour.YELLOW if row.is_good else Colour.RED) for row in rows)]
-
-
-def print_found(found: Found, chosen: argparse.Namespace, screen: Screen) -> None:
-    """Prints a table for a reader, or all findings. Those of several recordings come after their
-    names."""
-    rows = [row for row in found.rows.values() if chosen.notes or not row.is_note]
-    shown = {row.rule for row in rows}
-    if len(chosen.recordings) > 1:
-        print(f'{found.recording}:')
-    if chosen.all:
-        for one in (finding for finding in found.all if finding.rule in shown):
-            time = time_of(found.kept.times[one.number], found.begun)
-            print(f'{time}  {one.rule}  {found.words(one)}')
-    elif rows:
-        print(*lines_of(table_of_rows(rows), screen), sep='\n')
+               Colour.RED if row.kind == FINDING else Colour.YELLOW) for row in rows)]
 
 
 def print_all(told: Told) -> None:
@@ -118,16 +194,17 @@ def print_all(told: Told) -> None:
     chosen, judge, screen = told.chosen, judge_of(told.chosen), screen_of(told.chosen.color)
     form = form_of(chosen, VERSION, 'findings', COLUMNS)
     for recording in chosen.recordings:
-        found = Found(escaped(recording), chosen.rule, chosen.accept, told.looked)
+        found = Found(recording, chosen, told.looked)
         with contextlib.closing(found):
             verdicts = judge.verdicts(recording, partial(found.take, judge.program))
+            told.verdicts += verdicts
             told.seen.append(Seen(recording, verdicts))
-            told.rows.extend(found.rows.values())
-            told.tables.append(table_of_rows([*found.rows.values()]))
+            told.rows += found.rows.values()
+            told.tables.append(table_of_rows(found.rows.values()))
             if form:
                 form.add(found.values())
             else:
-                print_found(found, chosen, screen)
+                found.print(screen)
     tell_verdicts(told.verdicts)
     if form:
         form.end(told.members())
@@ -139,23 +216,22 @@ def print_all(told: Told) -> None:
 
 def junit_of(told: Told) -> Iterator[bytes]:
     """A case for each rule and server, and one for the verdicts, with the counts as properties."""
-    counts, sums = counts_after(told.verdicts).numbers(), sums_of(told.verdicts)
+    counts, tag = counts_after(told.verdicts).numbers(), 'failure'
     suite = Suite('nfs3canon meaning', [*counts.items(), *vars(told.looked).items()])
     for row in told.rows:
-        suite.add(row.recording, f'{row.rule}: {row.server or "-"}',
-                  None if row.is_good else 'failure', f'{row.found:,} found, first {row.first}',
-                  row.first if row.is_good else '')
-    suite.add('nfs3canon', 'all calls are judged',
-              'failure' if status_of(told.verdicts, allowed_of(told.chosen)) else None, sums)
+        is_wrong = row.kind == FINDING
+        suite.add(row.recording, f'{row.rule}: {row.server or "-"}', tag if is_wrong else None,
+                  f'{row.found:,} found, first {row.first}', '' if is_wrong else row.first)
+    suite.add('nfs3canon', 'all calls are judged', tag if told.verdict_status() else None,
+              sums_of(told.verdicts))
     yield suite.written(('tests', 'failures'))
 
 
 def page_of(told: Told) -> Iterator[bytes]:
     """A page like that of tools/verdicts, with a table of findings for each recording."""
-    title = told.words() if len(told.tables) == 1 else 'Findings'
+    title = told.words() if len(told.seen) == 1 else 'Findings'
     tables = [[as_printed(title, rows, NUMBERS)] for rows in told.tables]
-    return encoded(page(Content(told.seen, allowed_of(told.chosen), [table_of(told.seen)], tables,
-                                False)))
+    return page(told.seen, allowed_of(told.chosen), [table_of(told.seen)], tables)
 
 
 # --- The command ---
@@ -173,12 +249,12 @@ def accepted_of(path: str) -> list[Entry]:
     try:
         with open(path, 'rb') as file:
             whole = json.loads(file.read())
-        assert whole['version'] == VERSION and whole.keys() == {'version', 'accepted'}
-        assert all(entry.keys() == {'rule', 'server'} for entry in whole['accepted'])
         entries = [(entry['rule'], entry['server']) for entry in whole['accepted']]
+        several = [{'rule': rule, 'server': server} for rule, server in entries]
+        assert whole == {'version': VERSION, 'accepted': several}
         assert all(rule in (ANY, *BY_NAME) and isinstance(server, str) for rule, server in entries)
         return entries
-    except (ValueError, KeyError, TypeError, AttributeError, AssertionError, RecursionError):
+    except (ValueError, KeyError, TypeError, AssertionError, RecursionError):
         raise refusal(path, f'it needs an object with "version": {VERSION} and a list "accepted" '
                             'of objects with a rule and a server') from None
 
@@ -215,11 +291,11 @@ def main(words: list[str]) -> int:
     if chosen.explain:
         print(explained(chosen.explain))
         return 0
-    told = Told(chosen, [], [], [], Looked())
+    told = Told(chosen)
     with writing(files_in(chosen.recordings), (chosen.junit, lambda: junit_of(told)),
                  (chosen.html, lambda: page_of(told))):
         print_all(told)
-    return told.status
+    return told.verdict_status() or int(any(row.kind == FINDING for row in told.rows))
 
 
 command = partial(run, 'meaning', main)

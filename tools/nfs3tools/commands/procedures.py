@@ -53,9 +53,8 @@ from ..judgement.verdict import (
     VERSION, Verdict, colour_of, count_unanswered, is_row, kept_in, members_of, named, status_of,
     sums_of, tell_notes)
 from ..judgement.window import add_window, window_of
-from ..pages.judged import Content, Table as ShownTable, as_printed, page, said_of
-from ..pages.markup import encoded
-from ..pages.seen import Seen, seen_in, verdicts_in
+from ..pages.judged import Seen, Table as ShownTable, as_printed, page, said_of, verdicts_in
+from ..pages.time_line import TimeLine, line_of
 from ..recordings.parts import files_in
 from ..recordings.selection import plural
 from ..recordings.taken import Taken
@@ -133,7 +132,7 @@ def total_of(tallies: Tallies) -> Tally:
 def counted(judge: Judge, recording: str, chosen: argparse.Namespace) -> Counted:
     """Judges a recording or capture, and counts the calls that are chosen of each connection that
     was judged. What a page shows is looked for if there is to be one."""
-    tables, seen = list[Table](), list[Seen]()
+    tables, lines = list[Table](), list[TimeLine]()
 
     def look(taken: Taken, verdicts: list[Verdict]) -> None:
         judged = {verdict.connection: verdict for verdict in verdicts}
@@ -145,11 +144,10 @@ def counted(judge: Judge, recording: str, chosen: argparse.Namespace) -> Counted
                                 tallies_of(kept, recording, number, window))
                           for number, part in enumerate(kept.parts))
             if chosen.html:
-                seen.append(seen_in(kept, taken, recording, verdicts, window))
+                lines.append(line_of(kept, taken.begun, window))
     verdicts = judge.verdicts(recording, look)
     in_all = Table(recording, None, sum_of(table.tallies for table in tables))
-    shown = (seen or [Seen(recording, verdicts)])[0]._replace(verdicts=verdicts)
-    return Counted(shown, tables, in_all)
+    return Counted(Seen(recording, verdicts, line=lines[0] if lines else None), tables, in_all)
 
 
 # --- What is printed ---
@@ -313,7 +311,7 @@ def change_of(first: int | None, second: int | None) -> str:
 
 # --- The page ---
 
-def page_of(found: Sequence[Counted], chosen: argparse.Namespace) -> Iterator[str]:
+def page_of(found: Sequence[Counted], chosen: argparse.Namespace) -> Iterator[bytes]:
     """The page: the tables that are printed, and a time line for each recording."""
     whole, of_each = list[ShownTable](), list[list[ShownTable]]()
     if chosen.beside:
@@ -327,7 +325,7 @@ def page_of(found: Sequence[Counted], chosen: argparse.Namespace) -> Iterator[st
                                      Screen()), table, chosen.sort)
                       for table in ([] if chosen.total else one.tables) if table.verdict)]
                    for one in found]
-    return page(Content([one.seen for one in found], allowed_of(chosen), whole, of_each, False))
+    return page([one.seen for one in found], allowed_of(chosen), whole, of_each)
 
 
 def shown(title: str, table: Table, column: str) -> ShownTable:
@@ -416,7 +414,7 @@ def main(words: list[str]) -> int:
     chosen = words_of(words)
     with writing(files_in(chosen.recordings), (chosen.json, lambda: [json_of(found, chosen.sort)]),
                  (chosen.csv, lambda: [csv_of(found, chosen.sort)]),
-                 (chosen.html, lambda: encoded(page_of(found, chosen)))):
+                 (chosen.html, lambda: page_of(found, chosen))):
         judge = judge_of(chosen)
         found = [counted(judge, recording, chosen) for recording in chosen.recordings]
         verdicts = verdicts_in(one.seen for one in found)

@@ -68,9 +68,7 @@ from ..judgement.unanswered import Unanswered, open_calls
 from ..judgement.verdict import (
     COVERED, HEADS, VERSION, Verdict, colour_of, counts_after, error_of, is_row, kept_in,
     object_of, of_covered, row_of, status_of, sums_of, tell_notes, told, verdict_of)
-from ..pages.judged import Content, page, table_of
-from ..pages.markup import encoded
-from ..pages.seen import Seen, seen_in, verdicts_in
+from ..pages.judged import Seen, page, seen_in, table_of, verdicts_in
 from ..recordings.coverage import Allowed, named as named_calls
 from ..recordings.parts import files_in, files_of
 from ..recordings.selection import Options
@@ -224,7 +222,7 @@ def judged_all(chosen: argparse.Namespace) -> int:
     allowed, inputs = allowed_of(chosen), files_in(chosen.recordings)
     with writing(inputs, (chosen.junit, lambda: [junit_of(verdicts, allowed)]),
                  (chosen.json, lambda: [json_of(verdicts)]),
-                 (chosen.html, lambda: page_of(seen, allowed))):
+                 (chosen.html, lambda: page(seen, allowed, [table_of(seen)]))):
         judge = Judge(program_path(chosen.program), options_of(chosen), at_once,
                       len(chosen.recordings) == 1)
         try:
@@ -236,10 +234,6 @@ def judged_all(chosen: argparse.Namespace) -> int:
         verdicts = verdicts_in(seen)
         print_table(verdicts, chosen.quiet, screen_of(chosen.color))
     return status_of(verdicts, allowed)
-
-
-def page_of(seen: list[Seen], allowed: Allowed) -> typing.Iterator[bytes]:
-    return encoded(page(Content(seen, allowed, [table_of(seen)], (), True)))
 
 
 def judged(judge: typing.Callable[[str], Seen], recordings: list[str],

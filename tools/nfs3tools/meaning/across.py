@@ -1,55 +1,63 @@
 """The rules about several exchanges, in the order in which these ended. An exchange that overlaps a
-change of its object says nothing of the order of both, and is not asked."""
+change of its object says nothing of the order of both, and is not asked.
+
+A name is asked about only if its directory has been seen at rest as well. Hidden names, as
+`.snapshot`, are in no listing.
+"""
 from __future__ import annotations
 
-from ..exchanges.values import attributes, seconds
-from .alone import broken, unlike_made
-from .names import Names
-from .objects import END, Content, Object, Objects, Part
-from .recorded import NEVER, OF_CONTENT, REMOVES, UNCHECKED, Exchange, Recorded
-from .rules import Findings, Source
+from ..exchanges.values import seconds
+from .alone import BESIDE, broken, broken_by, of_made
+from .objects import HIDDEN, Content, Name, Named, Object, Objects, Part
+from .recorded import (
+    END, LISTINGS, NEVER, OF_CONTENT, OF_NAMES, REMOVES, UNCHECKED, Exchange, Recorded)
+from .rules import Finding, Looked, Source
 
-UNSTABLE = 0
+UNSTABLE, DOTS = 0, ('.', '..')
 Verifier = tuple[str, str, str]  # its server, what it is, and its digits
 
 
-class Across:
+class Across(Objects):
     """Takes exchanges, and finds which of them cannot both be right. Rules about clients are asked
-    if all connections were judged whole."""
+    if all connections were judged whole. `moved` and `stood` are the servers at which a change of a
+    directory moved its ctime, and did not."""
 
-    def __init__(self, recorded: Recorded, findings: Findings, is_whole: bool) -> None:
-        self.recorded, self.findings, self.is_whole = recorded, findings, is_whole
-        self.objects = Objects(findings)
-        self.names = Names(self.objects)
+    def __init__(self, recorded: Recorded, looked: Looked, is_whole: bool) -> None:
+        super().__init__(looked)
+        self.recorded, self.is_whole = recorded, is_whole
         self.verifiers = dict[str, tuple[Verifier, Source]]()
+        self.moved, self.stood = set[str](), set[str]()
         self.ways = {'WRITE': self.write, 'READ': self.read, 'SETATTR': self.set_size,
                      'CREATE': self.create, 'COMMIT': self.commit}
 
     def take(self, one: Exchange) -> None:
         """Takes an exchange whose call was accepted. None before it has a later end."""
-        self.objects.shown, several = set(), [told for told in one.told if told.handle]
+        self.shown, several = set(), [told for told in one.told if told.handle]
         for told in several:
-            self.objects.observe(one, told)
+            self.observe(one, told)
         if one.source.end < NEVER:
             if one.procedure in self.ways and (one.is_ok or one.procedure in OF_CONTENT):
-                self.ways[one.procedure](one, self.objects.at(one, one.call['fh']))
+                self.ways[one.procedure](one, self.at(one, one.call['fh']))
             if one.server not in self.recorded.insensitive:
-                self.names.take(one)
+                self.take_names(one)
         if one.procedure in REMOVES and one.is_done:
-            self.objects.relinked[one.server] = one.source.end
+            self.relinked[one.server] = one.source.end
         for told in several:
-            self.objects.settle(one, told)
+            self.settle(one, told)
 
     def end(self) -> None:
         """Finds what counts only once all exchanges are taken. UNSTABLE data are committed before
-        their connection ends, if no file is removed."""
-        self.names.end()
-        kept, several = self.recorded.kept, self.objects.known.values() if self.is_whole else ()
+        their connection ends, if no file is removed. What was found of names at servers whose times
+        do not show changes does not count: those of others are not seen."""
+        self.denied |= self.stood - self.moved
+        self.looked.still += sorted(self.stood - self.moved)
+        kept, several = self.recorded.kept, self.known.values() if self.is_whole else ()
         for known, left in ((known, left) for known in several for left in known.unstable):
-            if left.source and self.objects.relinked[known.key[0]] < left.source.begin \
+            if left.source and self.relinked[known.key[0]] < left.source.begin \
                     and kept.parts[kept.part_of[left.source.number]].has_all_replies:
-                self.findings.add('not-committed', left.source,
-                                  f'bytes {left.begin:,} to {left.end:,}')
+                self.add('not-committed', left.source, f'bytes {left.begin:,} to {left.end:,}')
+
+    # --- Data ---
 
     def write(self, one: Exchange, known: Object) -> None:
         """Takes what was written, and that it is not committed."""
@@ -58,7 +66,8 @@ class Across:
             return
         self.write_time(one, known)
         verifier = self.verifier_of(one)
-        is_alone = not any(change.meets(one.first, one.last) for change in one.beside())
+        is_alone = not any(change.written[0] < one.last and one.first < change.written[1]
+                           for change in one.beside())
         data, last = one.call['data'], one.first + min(len(one.call['data']), one.reply['count'])
         is_unstable = one.reply['committed'] == UNSTABLE and one.first < last
         # (the frame of the call has the data)
@@ -77,12 +86,12 @@ class Across:
                 and one.is_quiet():
             text = (f'mtime is {seconds(after.mtime)}, {source or "before"} it was '
                     f'{seconds(was.mtime)}, and ctime is {seconds(after.ctime)}')
-            self.findings.add('write-ctime', one.source, text, source)
+            self.add('write-ctime', one.source, text, source)
 
     def read(self, one: Exchange, known: Object) -> None:
         """READ returns what was written or read before."""
-        looked, data = self.findings.looked, one.reply['data'][:]
-        if one.call['fh'] not in self.objects.shown or known.is_blind:
+        looked, data = self.looked, one.reply['data'][:]
+        if one.call['fh'] not in self.shown or known.is_blind:
             looked.beside += 1
             return
         at, part, compared = known.content.unlike(one.first, data)
@@ -91,7 +100,7 @@ class Across:
             was = part.data[at - part.at:at - part.at + 1][0]
             text = (f'byte {at:,} is {data[at - one.first]:02x}, {part.source} it was {was:02x}, '
                     'with the same mtime and size')
-            self.objects.find(one, known, 'read-data', text, part.source, part.verifier)
+            self.find(one, known, 'read-data', text, part.source, part.verifier)
         known.content.put(Part(one.first, one.first + len(data), one.source, one.reply['data'],
                                one.first))
 
@@ -102,15 +111,16 @@ class Across:
             known.unstable = [left for left in known.unstable if left.begin < size]
             known.content.put(Part(size if one.is_ok and one.is_quiet() else 0, END))
 
-    def create(self, one: Exchange, _: Object) -> None:
-        """UNCHECKED CREATE makes a file, or cuts one."""
+    def create(self, one: Exchange, folder: Object) -> None:
+        """UNCHECKED CREATE makes a file if its name is known to have been free, or cuts one."""
         if one.call['how'] != UNCHECKED:
             return
-        made = attributes(one.reply, 'obj.')
-        for rule, text in broken(unlike_made(one, made)) if made and self.names.is_new(one) else ():
-            self.findings.add(rule, one.source, text)
+        was = folder.known_of(one.call['name'])
+        is_new = was is not None and not was.leads_to and self.is_shown(one, folder)
+        for rule, text in broken(of_made(one, is_new)):
+            self.add(rule, one.source, text)
         if one.call.get('set.size') == 0 and 'fh' in one.reply:
-            known = self.objects.at(one, one.reply['fh'])
+            known = self.at(one, one.reply['fh'])
             known.content, known.unstable = Content(), []
 
     def commit(self, one: Exchange, known: Object) -> None:
@@ -129,7 +139,137 @@ class Across:
         known, source = self.verifiers.setdefault(one.server, (verifier, one.source))
         if known != verifier:
             text = f'verf is {verifier[2]}, {source} it was {known[2]}'
-            self.findings.add('verifier', one.source, text, source)
-            self.findings.denied.add(known)
+            self.add('verifier', one.source, text, source)
+            self.denied.add(known)
             self.verifiers[one.server] = verifier, one.source
         return verifier
+
+    # --- Names ---
+
+    def take_names(self, one: Exchange) -> None:
+        """Takes what a reply says of names against what is known, and then what the call did."""
+        if one.procedure in LISTINGS and one.is_ok:
+            self.take_listing(one, self.at(one, one.call['fh']))
+        if one.procedure in OF_NAMES and one.is_ok:
+            # (whether a change of a directory is seen in its ctime)
+            times = [told.now.ctime != told.before.ctime for told in one.told
+                     if told.now and told.before]
+            self.moved.update([one.server] * any(times))
+            self.stood.update([one.server] * (not all(times)))
+        for number, (handle, name) in enumerate(one.names):
+            # (a name with a slash is a path of WebNFS)
+            if name not in DOTS and '/' not in name:
+                self.take_name(one, number, self.at(one, handle), name)
+
+    def is_shown(self, one: Exchange, folder: Object) -> bool:
+        """Whether a reply shows a folder that has been at rest."""
+        return one.sent == 1 and folder.seen is not None and folder.key[1] in self.shown
+
+    def find_name(self, one: Exchange, folder: Object, rule: str, name: str, known: Name,
+                  *words: str) -> None:
+        """Adds that a name is not what it was."""
+        text = f'{name} is {words[0]}, {known.source} it was {words[1]}'
+        self.find(one, folder, rule, text, known.source, one.server)
+
+    def take_name(self, one: Exchange, number: int, folder: Object, name: str) -> None:
+        handle = str(one.call.get('file.fh') or one.reply.get('fh', ''))
+        made = self.known.get((one.server, handle))
+        says = one.says_of(number)
+        found = made.ids.leads_to if made and made.ids and one.is_ok else True
+        is_known = says is not None and self.is_shown(one, folder)
+        if is_known:
+            self.compare(one, folder, name, found if says else False)
+        if one.procedure != 'LOOKUP' and one.is_unsure(folder.key[1], name):
+            folder.forget_name(name)
+        elif one.is_ok and one.procedure == 'RENAME':
+            self.rename(one, number)
+        elif one.is_ok and one.procedure != 'LOOKUP':
+            folder.names[name] = Name(one.procedure not in REMOVES and found, one.source)
+        elif is_known:
+            folder.names[name] = Name(found if says else False, one.source)
+
+    def compare(self, one: Exchange, folder: Object, name: str, now: Named) -> None:
+        """Compares what a reply says of a name with what is known."""
+        known = folder.known_of(name)
+        if known is None:
+            return
+        self.looked.names += 1
+        was = known.leads_to
+        if bool(now) != bool(was):
+            words = ('there', 'gone') if now else ('gone', 'there')
+            self.find_name(one, folder, 'name-gone' if now else 'name-there', name, known, *words)
+        elif one.procedure == 'LOOKUP' and is_other(now, was):
+            self.find_name(one, folder, 'name-object', name, known, *map(fileid_of, (now, was)))
+
+    def rename(self, one: Exchange, number: int) -> None:
+        """Moves a name. If both may be links to one object, nothing may have been done."""
+        if not number:
+            return
+        (old, name), (new, other) = one.names
+        before, after = self.at(one, old), self.at(one, new)
+        moved, replaced = before.names.get(name), after.names.get(other)
+        if replaced and (not replaced.leads_to
+                         or moved and is_other(moved.leads_to, replaced.leads_to)):
+            after.names[other] = Name(moved and moved.leads_to or True, one.source)
+            before.names[name] = Name(False, one.source)
+        else:
+            before.forget_name(name)
+            after.forget_name(other)
+
+    def take_listing(self, one: Exchange, folder: Object) -> None:
+        """Takes a part of a listing. The parts of one go on at the last cookie of each other, and
+        have one mtime."""
+        cookie, (before, folder.listing) = one.call['cookie'], (folder.listing, None)
+        now, entries = one.told[0].now, one.reply['entries']
+        if now is None or one.call['fh'] not in self.shown:
+            return
+        names = [entry['name'] for entry in entries]
+        last = entries[-1]['cookie'] if entries else cookie
+        seen = folder.seen if folder.seen and folder.seen.now.mtime == now.mtime else None
+        if not cookie:
+            folder.listing = now.mtime, last, names
+        elif before and before[:2] == (now.mtime, cookie):
+            folder.listing = now.mtime, last, before[2] + names
+            twice = sorted(set(names) & set(before[2]))
+            if twice and seen:
+                self.find(one, folder, 'listing', f'{twice[0]} is listed twice', seen.source,
+                          one.server)
+        if one.reply['eof'] and folder.listing and seen and not folder.is_blind:
+            self.take_whole(one, folder, set(folder.listing[2]))
+
+    def take_whole(self, one: Exchange, folder: Object, there: set[str]) -> None:
+        """Compares a whole listing with the names that are known, and takes it."""
+        self.looked.listings += 1
+        for name, known in sorted(folder.names.items()):
+            is_listed, was = name in there, bool(known.leads_to)
+            # (a server may have another spelling of names that are not of ASCII)
+            if is_listed != was and '\\x' not in name and (is_listed or name[0] != HIDDEN):
+                words = ('listed', 'gone') if is_listed else ('not listed', 'there')
+                self.find_name(one, folder, 'listing', name, known, *words)
+        before, folder.whole = folder.names, one.source
+        folder.names = {
+            name: Name(name in before and before[name].leads_to or True, one.source)
+            for name in there - {*DOTS}}
+
+
+def findings_in(recorded: Recorded, looked: Looked, is_whole: bool) -> list[Finding]:
+    """Puts the rules to the exchanges of a recording, which was judged whole or not."""
+    across = Across(recorded, looked, is_whole)
+    looked.is_across &= recorded.has_frames
+    for one in recorded.answered():
+        looked.exchanges += 1
+        for rule, text in broken_by(one):
+            across.add(rule, one.source, text, None, *[one.source.number] * (rule in BESIDE))
+        if recorded.has_frames:
+            across.take(one)
+    across.end()
+    return across.counted()
+
+
+def is_other(one: Named, other: Named) -> bool:
+    """Whether two objects are known by their ids, and are not the same."""
+    return isinstance(one, tuple) and isinstance(other, tuple) and one != other
+
+
+def fileid_of(known: Named) -> str:
+    return f'of fileid {known[2]}' if isinstance(known, tuple) else 'of an object'

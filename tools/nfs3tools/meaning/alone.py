@@ -7,7 +7,8 @@ from itertools import chain
 
 from ..exchanges.values import Attributes, Values, attributes, seconds, size_of_entry
 from .recorded import (
-    DIRECTORY, EXCLUSIVE, GUARDED, LINK, LISTINGS, MAKES, OF_NAMES, REGULAR, UNCHECKED, Exchange)
+    DIRECTORY, EVERYWHERE, EXCLUSIVE, LINK, LISTINGS, MAKES, OF_NAMES, REGULAR, UNCHECKED,
+    Exchange)
 
 Asked = Iterator[tuple[object, str, str]]
 TYPES = {'CREATE': REGULAR, 'MKDIR': DIRECTORY, 'SYMLINK': LINK}
@@ -33,17 +34,14 @@ def broken(asked: Asked) -> Iterator[tuple[str, str]]:
 
 # --- Data ---
 
-def of_data(one: Exchange) -> Asked:
-    """Asks how much a WRITE has, or the reply to a READ."""
-    values = one.call if one.procedure == 'WRITE' else one.reply
-    count, size = values['count'], len(values['data'])
-    yield (count != size, f'{one.procedure.lower()}-count-data',
-           f'count {count}, data of {size} bytes')
-
-
-def of_count(one: Exchange) -> Asked:
-    count, most = one.reply['count'], one.call['count']
-    yield count > most, f'{one.procedure.lower()}-count-asked', f'count {count} of {most}'
+def of_byte_counts(one: Exchange) -> Asked:
+    """Asks how much a WRITE has, or the reply to a READ, and how much was done."""
+    name, values = one.procedure.lower(), one.call if one.procedure == 'WRITE' else one.reply
+    count, size, most = values['count'], len(values['data']), one.call['count']
+    yield count != size, f'{name}-count-data', f'count {count}, data of {size} bytes'
+    if one.is_ok:
+        done = one.reply['count']
+        yield done > most, f'{name}-count-asked', f'count {done} of {most}'
 
 
 def of_read(one: Exchange) -> Asked:
@@ -60,7 +58,7 @@ def of_write(one: Exchange) -> Asked:
     yield (one.first < end and committed < stable, 'write-committed',
            f'committed {committed}, asked for {stable}')
     if size is not None and one.first < end > size and one.recorded.has_frames:
-        yield (all(change.written for change in one.beside()), 'write-size',
+        yield (all(change.written != EVERYWHERE for change in one.beside()), 'write-size',
                f'size {size} after bytes to {end}')
 
 
@@ -89,17 +87,13 @@ def of_directory(one: Exchange) -> Asked:
         yield kind not in (None, DIRECTORY), 'dir-type', f'type {kind}'
 
 
-def of_made(one: Exchange) -> Asked:
-    """Asks what was made. An UNCHECKED CREATE may have found a file of its name."""
-    made = attributes(one.reply, 'obj.')
-    if made and one.call.get('how', GUARDED) != UNCHECKED:
-        yield from unlike_made(one, made)
-
-
-def unlike_made(one: Exchange, made: Attributes) -> Asked:
-    """Asks whether all is as it was asked for. An ACL of the folder may take permissions from
-    groups and others, and who owns a new object is up to the server."""
-    kind, asked = TYPES.get(one.procedure, one.call.get('type')), one.call
+def of_made(one: Exchange, is_new: bool = False) -> Asked:
+    """Asks whether all is as it was asked for. An UNCHECKED CREATE may have found a file. An ACL of
+    the folder may take permissions from groups and others, and the server chooses the owner."""
+    made, asked = attributes(one.reply, 'obj.'), one.call
+    if made is None or asked.get('how') == UNCHECKED and not is_new:
+        return
+    kind = TYPES.get(one.procedure, asked.get('type'))
     yield made.type != kind, 'made-type', f'type {made.type}, asked for {kind}'
     mode = asked.get('set.mode', made.mode) & (made.mode | ~OF_OTHERS)
     if kind != LINK:
@@ -183,10 +177,10 @@ def of_limits(one: Exchange) -> Asked:
 
 
 Checks = dict[str, tuple[Callable[[Exchange], Asked], ...]]
-OF_ANY_STATUS: Checks = {'WRITE': (of_data,), 'SETATTR': (of_guard,)}
+OF_ANY_STATUS: Checks = {'WRITE': (of_byte_counts,), 'SETATTR': (of_guard,)}
 CHECKS: Checks = {
     **dict.fromkeys(('LOOKUP', *OF_NAMES), (of_directory,)),
     **dict.fromkeys(MAKES, (of_directory, of_made)),
     **dict.fromkeys(LISTINGS, (of_directory, of_entry_names, of_entries, of_file_ids)),
-    'READ': (of_count, of_data, of_read), 'WRITE': (of_count, of_write),
+    'READ': (of_byte_counts, of_read), 'WRITE': (of_write,),
     'SETATTR': (of_setting,), 'ACCESS': (of_access,), 'FSINFO': (of_limits,)}

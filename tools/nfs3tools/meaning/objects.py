@@ -1,8 +1,5 @@
-"""What is known of an object, and the rules about attributes that other replies show as well.
-
-A change by somebody who is not recorded is no fault of a server. So an object has to be seen at
-rest: with the size and mtime that the last recorded change left, and that each reply which has
-attributes of before has there.
+"""What is known of an object, and the rules about attributes that other replies show as well. A
+change by somebody who is not recorded is no fault of a server, so objects are seen at rest first.
 """
 from __future__ import annotations
 
@@ -13,14 +10,14 @@ from dataclasses import dataclass, field
 from typing import NamedTuple, Union
 
 from ..exchanges.values import Attributes, Data, Time, seconds
-from .recorded import DIRECTORY, Exchange, Key, Told
-from .rules import Findings, Source
+from .recorded import DIRECTORY, END, Exchange, Key, Told
+from .rules import Findings, Looked, Source
 
-END = 1 << 64  # no file is larger
 # Nanoseconds in which the clock of a server may stand: of one with parts of seconds, and without.
 TICK, COARSE_TICK = 20_000_000, 2_100_000_000
+HIDDEN = '.'  # begins names that may be in no listing
 LASTING = Attributes._fields[:-1]  # all but atime
-State = tuple[int, Time]  # size and mtime
+State = tuple[int, Time]  # the first attributes: size and mtime
 Ids = tuple[int, int, int]  # type, fsid and fileid
 Named = Union[Ids, bool]  # what a name leads to: True for an unknown object, False for none
 Listing = tuple[Time, int, list[str]]  # up to a cookie: its folder's mtime, the cookie, the names
@@ -80,7 +77,7 @@ class Sight(NamedTuple):
 
 
 class Name(NamedTuple):
-    """What is known of a name, and what shows it."""
+    """To which object a name leads, or a handle, and what shows it."""
     leads_to: Named
     source: Source
 
@@ -89,8 +86,7 @@ class Name(NamedTuple):
 class Object:
     """What is known of an object by one handle."""
     key: Key
-    ids: Ids = (0, 0, 0)  # its type, fsid and fileid as the first reply has them ..
-    shown_by: Source | None = None  # .. which is this
+    ids: Name | None = None  # its type, fsid and fileid as the first reply has them
     seen: Sight | None = None  # when it was last at rest
     since: int = 0  # the time when the ctime of that was seen first
     earlier: Sight | None = None  # when it was at rest before, if no recorded change came between
@@ -114,9 +110,11 @@ class Object:
         self.names.pop(name, None)
         self.whole = None
 
-
-def state_of(part: Attributes) -> State:
-    return part.size, part.mtime
+    def known_of(self, name: str) -> Name | None:
+        """Returns what is known of a name. One that is not in a whole listing is gone."""
+        if name not in self.names and self.whole and not name.startswith(HIDDEN):
+            return Name(False, self.whole)
+        return self.names.get(name)
 
 
 def apart(names: Iterable[str], now: Iterable[object], was: Iterable[object], where: object) -> str:
@@ -133,7 +131,7 @@ def lasting(now: Attributes, has_links: bool) -> list[object]:
     return [seconds(value) if isinstance(value, tuple) else value for value in own[:len(LASTING)]]
 
 
-class Objects:
+class Objects(Findings):
     """The objects of a recording by their servers and handles.
 
     relinked: the end of each server's last call that removed or moved a name
@@ -141,16 +139,16 @@ class Objects:
         meanwhile
     """
 
-    def __init__(self, findings: Findings) -> None:
-        self.findings, self.shown = findings, set[str]()
-        self.known, self.relinked = dict[Key, Object](), defaultdict[str, int](int)
+    def __init__(self, looked: Looked) -> None:
+        super().__init__(looked)
+        self.known, self.shown = dict[Key, Object](), set[str]()
+        self.relinked = defaultdict[str, int](int)
 
     def at(self, one: Exchange, handle: str) -> Object:
         key = one.server, handle
-        known = self.known.get(key)
-        if known is None:
-            known = self.known[key] = Object(key)
-        return known
+        if key not in self.known:
+            self.known[key] = Object(key)
+        return self.known[key]
 
     def find(self, one: Exchange, known: Object, rule: str, text: str, source: Source,
              *unless: Hashable) -> None:
@@ -160,7 +158,7 @@ class Objects:
         if known.seen and (known.seen.now.ctime[1] > 0
                            or source.begun - known.since >= COARSE_TICK):
             changed = known.key if known.loose >= source.frame else None
-            self.findings.add(rule, one.source, text, source, (changed, *unless))
+            self.add(rule, one.source, text, source, changed, *unless)
 
     def observe(self, one: Exchange, told: Told) -> None:
         """Takes what a reply says of an object before it is known what the call did."""
@@ -170,7 +168,7 @@ class Objects:
         if one.is_change and one.is_done:
             known.earlier = None
             if told.before:
-                known.befores.append(state_of(told.before))
+                known.befores.append(told.before[:2])
             else:
                 known.loose = one.source.end
         is_made = one.is_change and told.handle == one.reply.get('fh')
@@ -189,45 +187,41 @@ class Objects:
     def same_object(self, one: Exchange, known: Object, told: Attributes) -> None:
         """A handle is of one object."""
         now = told.type, told.fsid, told.fileid
-        if known.shown_by is None:
-            known.ids, known.shown_by = now, one.source
-        elif now != known.ids:
-            text = apart(('type', 'fsid', 'fileid'), now, known.ids, known.shown_by)
-            self.findings.add('handle-object', one.source, f'{known.key[1]}: {text}',
-                              known.shown_by)
+        known.ids = known.ids or Name(now, one.source)
+        was, source = known.ids
+        if now != was and isinstance(was, tuple):
+            text = apart(('type', 'fsid', 'fileid'), now, was, source)
+            self.add('handle-object', one.source, f'{known.key[1]}: {text}', source)
 
     def at_rest(self, one: Exchange, known: Object, seen: Sight, found: Attributes) -> None:
         """Looks at an object that nothing else changed during an exchange."""
-        states, is_moved = known.states | {state_of(seen.now)}, known.states or known.is_blind
+        states, is_moved = known.states | {seen.now[:2]}, known.states or known.is_blind
         if not states.issuperset(known.befores) or found.mtime not in {it[1] for it in states} \
-                or not is_moved and state_of(found) not in states:
+                or not is_moved and found[:2] not in states:
             known.forget()
             if not known.is_blind:
-                self.findings.denied.add(known.key)
+                self.denied.add(known.key)
         if not is_moved and not one.is_change and found[:-1] != seen.now[:-1]:
             self.other(known, seen, Sight(found, one.source))
 
     def other(self, known: Object, seen: Sight, now: Sight) -> None:
-        """Looks at attributes that are others, though no recorded change came between.
-
-        They do not change without the ctime. A change within the tick of a clock cannot be seen, so
-        they have to be confirmed after it. And nothing comes back with its old ctime once it was
-        another: no change can do that, so what was between was never there.
-        """
+        """Looks at attributes that are others, though no recorded change came between. They do not
+        change without the ctime, and do not come back with their old one: no change can do that, so
+        what was between was never there."""
         has_links = self.relinked[known.key[0]] < seen.source.end
         values, was = lasting(now.now, has_links), lasting(seen.now, has_links)
         tick = TICK if now.now.ctime[1] else COARSE_TICK
         if now.now.ctime != seen.now.ctime:
-            self.findings.denied.add(now.source.number)
+            self.denied.add(now.source.number)
         elif values != was and seen.source.begun - known.since >= tick:
-            self.findings.add('same-ctime', now.source, apart(LASTING, values, was, seen.source),
-                              seen.source)
+            text = apart(LASTING, values, was, seen.source)
+            self.add('same-ctime', now.source, text, seen.source)
         earlier, known.earlier = known.earlier, seen
         if earlier and values == lasting(earlier.now, has_links) != was \
                 and earlier.source.end < seen.source.begin \
                 and seen.source.end < now.source.begin:
             text = apart(LASTING, was, values, f'before and {now.source}')
-            self.findings.add('returns', seen.source, text, now.source)
+            self.add('returns', seen.source, text, now.source)
             known.earlier = None
 
     def settle(self, one: Exchange, told: Told) -> None:
@@ -241,6 +235,6 @@ class Objects:
             if now.size == 0:
                 known.content = Content()
         elif is_change and now:
-            known.states.add(state_of(now))
+            known.states.add(now[:2])
         elif is_change:
             known.is_blind = True

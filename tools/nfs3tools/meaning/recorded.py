@@ -6,7 +6,6 @@ import itertools
 import sys
 from collections import defaultdict
 from collections.abc import Iterator
-from dataclasses import dataclass
 from functools import cached_property
 from typing import NamedTuple
 
@@ -17,27 +16,26 @@ from .rules import Source
 
 NFS = 'NFSPROC3_'
 NEVER = sys.maxsize  # the end of a call that may still be carried out
+END = 1 << 64  # no file is larger
+EVERYWHERE = 0, END
+NO_VALUES: Values = {}
 OF_CONTENT, MAKES = ('WRITE', 'SETATTR'), ('CREATE', 'MKDIR', 'SYMLINK', 'MKNOD')
 REMOVES, LISTINGS = ('REMOVE', 'RMDIR', 'RENAME'), ('READDIR', 'READDIRPLUS')
 OF_NAMES = (*MAKES, *REMOVES, 'LINK')
 CHANGES = {*OF_CONTENT, *OF_NAMES}
 # Errors after which a part may have been done: IO, NOSPC, DQUOT, SERVERFAULT and JUKEBOX.
 UNSURE = (5, 28, 69, 10006, 10008)
+NOENT, EXIST = 2, 17
 REGULAR, DIRECTORY, LINK = 1, 2, 5
 UNCHECKED, GUARDED, EXCLUSIVE = 0, 1, 2
 Key = tuple[str, str]  # of an object: its server and its handle
-# What replies say of objects: whether the reply has the handle, its name, and whose attributes are
-# those of now and of before.
-OF_CHANGED = ((False, 'fh', 'obj.after.', 'obj.before.'),)
-OF_MADE = ((True, 'fh', 'obj.', '-'), (False, 'fh', 'dir.after.', 'dir.before.'))
-OWNERS: dict[str, tuple[tuple[bool, str, str, str], ...]] = {
-    **dict.fromkeys((*OF_CONTENT, 'COMMIT'), OF_CHANGED), **dict.fromkeys(OF_NAMES, OF_MADE),
-    **dict.fromkeys(LISTINGS, ((False, 'fh', 'dir.', '-'),)),
-    'LOOKUP': ((True, 'fh', 'obj.', '-'), (False, 'fh', 'dir.', '-')),
-    'RENAME': ((False, 'from.fh', 'from-dir.after.', 'from-dir.before.'),
-               (False, 'to.fh', 'to-dir.after.', 'to-dir.before.')),
-    'LINK': ((False, 'file.fh', 'file.', '-'), (False, 'link.fh', 'dir.after.', 'dir.before.'))}
-OF_OTHERS = ((False, 'fh', 'obj.', '-'),)
+# The objects of which replies have attributes: where the call has the handle, or the reply if there
+# is no place, and the owner of the attributes.
+OWNERS: dict[str, tuple[tuple[str, str], ...]] = {
+    **dict.fromkeys(('LOOKUP', *MAKES), (('', 'obj'), ('fh', 'dir'))),
+    **dict.fromkeys(('REMOVE', 'RMDIR', *LISTINGS), (('fh', 'dir'),)),
+    'RENAME': (('from.fh', 'from-dir'), ('to.fh', 'to-dir')),
+    'LINK': (('file.fh', 'file'), ('link.fh', 'dir'))}
 
 
 class Told(NamedTuple):
@@ -48,22 +46,30 @@ class Told(NamedTuple):
     before: Attributes | None
 
 
-@dataclass
 class Exchange:
-    """A call and its first reply."""
-    recorded: 'Recorded'
-    source: Source  # its number, its frames, and the time of the call
-    server: str
-    procedure: str
-    call: Values
-    sent: int  # how often the call was sent, on this connection and before on another one
-    status: int | None  # None if the call was not accepted, or got no reply
-    reply: Values
-    ended: int  # the time of the first reply
+    """A call and its first reply.
 
-    def __post_init__(self) -> None:
-        # Whether the call may change the objects of which the reply says something, whether it was
-        # carried out, and whether it may have been, if only a part of it.
+    source: its number, its frames, and the time of the call
+    sent: how often the call was sent, on this connection and before on another one
+    status, reply: the status is None if the call was not accepted, or got no reply
+    ended: the time of the first reply
+    is_change: whether the call may change the objects of which the reply says something
+    is_ok, is_done: whether it was carried out, and whether it may have been, if only a part of it
+    """
+
+    def __init__(self, recorded: 'Recorded', number: int) -> None:
+        kept, name = recorded.kept, recorded.kept.listed_name(number)
+        self.recorded, self.server = recorded, host_of(kept.parts[kept.part_of[number]].server)
+        self.procedure = name.removeprefix(NFS)
+        self.call, self.reply = read_call(name, kept.asking[number], recorded.values), NO_VALUES
+        self.status: int | None = None
+        frame = self.ended = 0
+        for reply in kept.replies_of(number)[:1]:
+            self.status, self.reply = read_reply(name, kept.answering[reply], recorded.values)
+            frame, self.ended = kept.reply_frames[reply], kept.reply_times[reply]
+        self.source = Source(number, kept.frames[number] or NEVER, recorded.end_of(number), frame,
+                             kept.times[number])
+        self.sent = 1 + len(kept.again.get(number, ())) + (number in kept.earlier)
         self.is_change, self.is_ok = self.procedure in CHANGES, self.status == 0
         self.is_done = self.is_ok or self.status in UNSURE
 
@@ -79,9 +85,11 @@ class Exchange:
     @cached_property
     def told(self) -> list[Told]:
         """What the reply says of objects."""
-        told = [Told((self.reply if is_reply else self.call).get(handle, ''),
-                     attributes(self.reply, now), attributes(self.reply, before))
-                for is_reply, handle, now, before in OWNERS.get(self.procedure, OF_OTHERS)]
+        told = [Told(self.call.get(handle, '') if handle else self.reply.get('fh', ''),
+                     attributes(self.reply, owner + '.after.')
+                     or attributes(self.reply, owner + '.'),
+                     attributes(self.reply, owner + '.before.'))
+                for handle, owner in OWNERS.get(self.procedure, (('fh', 'obj'),))]
         return told + [Told(entry.get('fh', ''), attributes(entry), None)
                        for entry in self.reply.get('entries', ())]
 
@@ -90,6 +98,21 @@ class Exchange:
         """The folders of the call, each with the name in it: two of RENAME."""
         return tuple((self.call[owner + 'fh'], self.call[owner + 'name'])
                      for owner in ('', 'from.', 'to.', 'link.') if owner + 'name' in self.call)
+
+    def says_of(self, number: int) -> bool | None:
+        """Returns whether the reply says that a name is, or was, there; None if it says nothing."""
+        if self.procedure == 'RENAME':
+            return True if self.is_ok and not number else None
+        if self.procedure == 'LOOKUP' or self.procedure in REMOVES:
+            return True if self.is_ok else False if self.status == NOENT else None
+        if self.procedure == 'CREATE' and self.call['how'] != GUARDED:
+            return None
+        return False if self.is_ok else True if self.status == EXIST else None
+
+    def is_unsure(self, handle: str, name: str) -> bool:
+        """Whether it cannot be known what the call did to a name."""
+        return self.status in UNSURE or self.sent > 1 or any(
+            change.end == NEVER or (handle, name) in change.names for change in self.beside(handle))
 
     def beside(self, handle: str | None = None) -> Iterator['Change']:
         """Iterates over the other changes of an object that overlap the exchange in time: of that
@@ -117,20 +140,15 @@ class Change(NamedTuple):
     begin: int
     end: int = NEVER
     number: int = NEVER
-    written: tuple[int, int] | None = None
+    written: tuple[int, int] = EVERYWHERE
     names: tuple[Key, ...] = ()
     latest: int = 0
-
-    def meets(self, first: int, last: int) -> bool:
-        """Whether it may change some of these bytes."""
-        return self.written is None or self.written[0] < last and first < self.written[1]
 
 
 class Recorded:
     """The exchanges of a recording.
 
     has_frames: whether all of them have frames
-    servers: the address of each connection's server
     insensitive: servers for which names in upper and lower case are one (PATHCONF)
     changes: of each object, in the order of their begins
     """
@@ -138,14 +156,13 @@ class Recorded:
     def __init__(self, kept: Kept) -> None:
         self.kept, self.has_frames = kept, 0 not in kept.frames
         self.values = kept.values or LongValues()
-        self.servers = [host_of(part.server) for part in kept.parts]
         self.insensitive, self.changes = set[str](), defaultdict[Key, list[Change]](list)
         for number in range(len(kept)):
             procedure = kept.listed_name(number).removeprefix(NFS)
             if procedure in CHANGES:
                 self.note_change(self.exchange(number))
             elif procedure == 'PATHCONF' and self.exchange(number).reply.get('case_insensitive'):
-                self.insensitive.add(self.servers[kept.part_of[number]])
+                self.insensitive.add(self.exchange(number).server)
         for changes in self.changes.values():
             changes.sort()
             ends: Iterator[int] = itertools.accumulate((one.end for one in changes), max)
@@ -153,7 +170,7 @@ class Recorded:
 
     def note_change(self, one: Exchange) -> None:
         number, begin, end, *_ = one.source
-        written = (one.first, one.last) if one.procedure == 'WRITE' else None
+        written = (one.first, one.last) if one.procedure == 'WRITE' else EVERYWHERE
         change = Change(begin, end, number, written, one.names)
         for handle in {told.handle for told in one.told if told.handle}:
             self.changes[one.server, handle].append(change)
@@ -166,19 +183,8 @@ class Recorded:
         return self.kept.reply_frames[replies[-1]] or NEVER
 
     def exchange(self, number: int) -> Exchange:
-        """Returns an exchange of NFS by its number, with its first reply if it has one."""
-        kept, name = self.kept, self.kept.listed_name(number)
-        replies, status, frame, ended = kept.replies_of(number), None, 0, 0
-        reply: Values = {}
-        if replies:
-            status, reply = read_reply(name, kept.answering[replies[0]], self.values)
-            frame, ended = kept.reply_frames[replies[0]], kept.reply_times[replies[0]]
-        source = Source(number, kept.frames[number] or NEVER, self.end_of(number), frame,
-                        kept.times[number])
-        sent = 1 + len(kept.again.get(number, ())) + (number in kept.earlier)
-        call = read_call(name, kept.asking[number], self.values)
-        return Exchange(self, source, self.servers[kept.part_of[number]], name.removeprefix(NFS),
-                        call, sent, status, reply, ended)
+        """Returns an exchange of NFS by its number."""
+        return Exchange(self, number)
 
     def answered(self) -> Iterator[Exchange]:
         """Iterates over exchanges of NFS whose call was accepted, in the order of their ends."""

@@ -126,7 +126,6 @@ class Looked:
                 + (still if self.still else ''))
 
 
-@dataclass
 class Findings:
     """The findings of a recording, and how much was looked at.
 
@@ -134,12 +133,12 @@ class Findings:
         beside such a change, servers whose times do not show changes, and verifiers of servers
         that were started anew
     """
-    looked: Looked
-    all: list[Finding] = field(default_factory=list)
-    denied: set[Hashable] = field(default_factory=set)
+
+    def __init__(self, looked: Looked) -> None:
+        self.looked, self.all, self.denied = looked, list[Finding](), set[Hashable]()
 
     def add(self, rule: str, one: Source, text: str, source: Source | None = None,
-            unless: tuple[Hashable, ...] = ()) -> None:
+            *unless: Hashable) -> None:
         self.all.append(Finding(rule, one.number, text, source, unless))
 
     def counted(self) -> list[Finding]:

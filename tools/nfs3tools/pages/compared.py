@@ -14,9 +14,9 @@ from html import escape
 from itertools import chain, starmap, zip_longest
 from typing import NamedTuple, Optional
 
-from ..comparison.values.classes import besides, told
+from ..comparison.values.classes import told
 from ..comparison.verdict import summary
-from ..comparison.verdict.cover import Cover, Row as NotJudged, losses_of
+from ..comparison.verdict.cover import Row as NotJudged, losses_of
 from ..comparison.verdict.excerpt import Connection, Gap, Row
 from ..comparison.verdict.findings import RUNS, Compared, Finding, Run
 from ..comparison.verdict.ignored import Ignored
@@ -39,7 +39,8 @@ OTHERS_AT_MOST, OTHERS_OF_ALL = 300, 20_000
 NOT_JUDGED_AT_MOST = 20  # connections of a run that are named
 PHRASES_AT_MOST = 6  # of what differs, under the title
 MANY = 2_000  # messages whose calls are shown
-BOTH = (0, 1)
+BOTH, NO_VALUE = (0, 1), 'nothing'
+NOTHING_BUT = ('the order', 'what is masked')  # differs
 Places = tuple[Optional[str], Optional[str]]
 
 
@@ -52,21 +53,13 @@ class Recorded(NamedTuple):
     parts: Sequence[Part]
 
 
-@dataclass(frozen=True)
-class Content:
-    """What a page is made of: what is printed of the verdict, the report, the comparison, the
-    fields that are left out of it and how often each differs, and both runs."""
-    line: str
-    report: Report
-    compared: Compared
-    ignored: Sequence[Ignored]
-    left_out: Counter[tuple[str, str]]
-    runs: Sequence[Run]
-    recorded: Sequence[Recorded]
-
-
 def places_of(first: Message | None, second: Message | None) -> Places:
     return first.place if first else None, second.place if second else None
+
+
+def message_of_both(both: Sequence[Message | None]) -> Message:
+    """Returns the message of the first run, or else that of the second."""
+    return next(filter(None, both))
 
 
 def together(row: Row) -> Iterator[tuple[Message | None, Message | None]]:
@@ -78,31 +71,29 @@ def together(row: Row) -> Iterator[tuple[Message | None, Message | None]]:
 
 # --- The whole ---
 
-def page(content: Content) -> Iterator[str]:
+def page(content: Content) -> Iterator[bytes]:
     """The page, in pieces."""
     word, names = content.report.word(), ' and '.join(run.name for run in content.runs)
-    yield markup.opening(f'{word}: {names}')
-    body = Body(content)
-    yield from head(content, word)
-    yield from markup.folded('about', 'About these runs', facts(content))
-    if body.groups:
-        yield markup.bar('difference', 'call')
-    yield from body.all()
-    yield markup.closing()
+    is_same = word.startswith('same')
+    look = 'differ' if not is_same else 'part' if content.report.is_in_part else 'same'
+    bar = [markup.bar('difference', 'call')] if content.groups else []
+    about = markup.folded('about', 'About these runs', facts(content))
+    return markup.whole_page(
+        f'{word}: {names}', look, f'The runs {"are the " if is_same else ""}{word}',
+        chain(head(content, is_same), about, bar, content.fields(), content.findings(),
+              content.silent(), content.accepted_ones(), content.calls()))
 
 
-def head(content: Content, word: str) -> Iterator[str]:
-    """The verdict in words, what differs, and what is not compared."""
-    report, is_same, said = content.report, word.startswith('same'), ''
-    look = 'differ' if not is_same else 'part' if report.is_in_part else 'same'
-    yield markup.heading(look, f'The runs {"are the " if is_same else ""}{word}')
+def head(content: Content, is_same: bool) -> Iterator[str]:
+    """The verdict in words, or what differs, and what is not compared."""
+    covers, said = content.report.covers, ''
     if is_same:
         # (how the order differs is said below)
         said = content.line.partition(';')[0]
         yield f'<p>{code(said)}</p>'
     else:
         yield from glance(content)
-    losses = losses_of(report.covers, RUNS) if report.covers else ''
+    losses = losses_of(covers, RUNS) if covers else ''
     if losses not in said:
         yield f'<p class=part>Compared in part: {escape(losses)}.</p>'
 
@@ -110,8 +101,8 @@ def head(content: Content, word: str) -> Iterator[str]:
 def glance(content: Content) -> Iterator[str]:
     """What differs, in a few phrases with paths."""
     found = phrases(content.compared)
-    said = [f'{escape(one.before)}{code(one.path) if one.path else ""}{escape(one.after)}'
-            for one in found[:PHRASES_AT_MOST]]
+    said = [f'{escape(before)}{code(path) if path else ""}{escape(after)}'
+            for before, path, after in found[:PHRASES_AT_MOST]]
     more = len(found) - PHRASES_AT_MOST
     if more > 0:
         said.append(f'<a href=#findings>{count(more, "more difference")}</a>')
@@ -123,50 +114,41 @@ def facts(content: Content) -> Iterator[str]:
     """Both runs, how their calls are matched, what is masked, and what else does not count."""
     yield ''.join(f'<p>{code(line)}</p>' for line in content.line.splitlines())
     yield f'<p>{escape(summary.of_compared(content.compared))}.</p>'
-    yield ('<table class=runs><thead><tr><th></th><th>- first run</th><th>+ second run</th></tr>'
-           '</thead>')
-    for what, values in rows_of_runs(content):
-        yield f'<tr><th>{what}</th>{"".join(f"<td>{escape(value)}</td>" for value in values)}</tr>'
-    yield '</table><dl>'
-    for what, words in words_of_masks(content):
-        yield f'<dt>{what}</dt><dd>{words}</dd>'
+    yield from markup.table(('', '- first run', '+ second run'), (
+        f'<tr><th>{what}</th>{"".join(f"<td>{escape(value)}</td>" for value in values)}</tr>'
+        for what, values in rows_of_runs(content)), 'runs')
+    yield '<dl>'
+    yield from (f'<dt>{what}</dt><dd>{words}</dd>' for what, words in words_of_masks(content))
     yield '</dl>'
 
 
 def rows_of_runs(content: Content) -> Iterator[tuple[str, Sequence[str]]]:
     """What both runs are, each with a name. What neither of them has is not there."""
-    report, compared = content.report, content.compared
-    yield 'name', [run.name for run in content.runs]
-    yield 'file', ['size not known' if one.size is None else count(one.size, 'byte')
-                   for one in content.recorded]
-    if any(one.ends for one in content.recorded):
-        for at, what in enumerate(('first frame', 'last frame')):
-            yield what, [f'{time_of(one.ends[at])}, frame {one.ends[at].number}' if one.ends
-                         else 'no frames' for one in content.recorded]
-    yield 'calls', [f'{size.calls:,}' for size in report.sizes]
-    yield 'connections', [f'{size.connections:,}' for size in report.sizes]
-    if report.covers:
-        yield from rows_of_counts(report.covers)
-    if any(compared.lonely):
-        yield 'only in this run', [count(number, 'call') for number in compared.lonely]
-    if any(compared.left_out):
-        yield 'calls left out', [', '.join(f'{number:,} {summary.short(name)}'
-                                           for name, number in sorted(some.items())) or 'nothing'
-                           for some in compared.left_out]
+    for both in zip(*(facts_of(content, at) for at in BOTH)):
+        if any(value != nothing for _, value, nothing in both):
+            yield both[0][0], [value for _, value, _ in both]
 
 
-def rows_of_counts(covers: Sequence[Cover]) -> Iterator[tuple[str, Sequence[str]]]:
-    """How much of both runs is compared: the four counts, the calls of other programs, and what is
-    not judged as a whole."""
-    if any(cover.missing for cover in covers):
-        yield 'missing', [count(cover.missing, 'byte') for cover in covers]
-    for name in covers[0].counts().numbers():
-        yield name, [f'{cover.counts().numbers()[name]:,}' for cover in covers]
-    if any(cover.counts().raw for cover in covers):
-        yield 'raw', [named(cover.counts().raw) or 'nothing' for cover in covers]
-    rows = [[said_of(row) for row in cover.rows()] for cover in covers]
-    if any(rows):
-        yield 'not judged as a whole', [more_of(some) for some in rows]
+def facts_of(content: Content, at: int) -> Iterator[tuple[str, str, str]]:
+    """Iterates over what a run is: a name, what it has, and what that is if it has nothing."""
+    compared, one, size = content.compared, content.recorded[at], content.report.sizes[at]
+    yield 'name', content.runs[at].name, ''
+    yield 'file', 'size not known' if one.size is None else count(one.size, 'byte'), ''
+    yield from ((what, f'{time_of(frame)}, frame {frame.number}' if frame else 'no frames',
+                 'no frames') for what, frame in zip(('first frame', 'last frame'),
+                                                     one.ends or (None, None)))
+    yield from ((what, f'{number:,}', '') for what, number in (
+        ('calls', size.calls), ('connections', size.connections)))
+    if content.report.covers:
+        cover, counts = content.report.covers[at], content.report.covers[at].counts()
+        yield 'missing', count(cover.missing, 'byte'), count(0, 'byte')
+        yield from ((what, f'{number:,}', '') for what, number in counts.numbers().items())
+        yield 'raw', named(counts.raw) or NO_VALUE, NO_VALUE
+        yield 'not judged as a whole', more_of([*map(said_of, cover.rows())]), NO_VALUE
+    yield 'only in this run', count(compared.lonely[at], 'call'), count(0, 'call')
+    left_out = (f'{number:,} {summary.short(name)}'
+                for name, number in sorted(compared.left_out[at].items()))
+    yield 'calls left out', ', '.join(left_out) or NO_VALUE, NO_VALUE
 
 
 def said_of(row: NotJudged) -> str:
@@ -177,20 +159,13 @@ def said_of(row: NotJudged) -> str:
 def more_of(some: Sequence[str]) -> str:
     more = (f'; .. and {len(some) - NOT_JUDGED_AT_MOST:,} more'
             if len(some) > NOT_JUDGED_AT_MOST else '')
-    return '; '.join(some[:NOT_JUDGED_AT_MOST]) + more if some else 'nothing'
+    return '; '.join(some[:NOT_JUDGED_AT_MOST]) + more if some else NO_VALUE
 
 
 def words_of_masks(content: Content) -> Iterator[tuple[str, str]]:
     """What does not count, as HTML."""
-    report = content.report
-    yield 'masked', (f'{code(told(report.mask).replace(",", ", "))}. '
+    yield 'masked', (f'{code(told(content.report.mask).replace(",", ", "))}. '
                      'Xids, file handles and write verifiers are renamed one to one.')
-    is_turned = report.same_under is not None
-    more = besides(report.same_under or content.compared.mask, report.mask)
-    if more:
-        yield 'also masked', (f'{code(told(more).replace(",", ", "))}, ' + (
-            'in another order.' if is_turned
-            else 'since any order was tried. What differs in these alone is not shown.'))
     if content.compared.silent:
         yield 'left out', ('Calls that only ask, which one run alone has, answers that an order '
                            'explains, and calls that were sent again.')
@@ -209,52 +184,44 @@ def is_of_fields(finding: Finding) -> bool:
     return bool(finding.differences) or finding.kind == 'only'
 
 
-def kind_of(finding: Finding) -> tuple[str, str]:
-    """Returns of which messages a finding is that has no fields, and what is said of them."""
-    only = f'only in the {finding.run} run'
-    said = {'only': only, 'connection': only, 'moved': finding.remark,
-            'replies': 'another number of replies', 'order': 'replies in another order'}
-    return ('connections' if is_told_of_connections(finding) else finding.message.procedure,
-            said.get(finding.kind, finding.kind))
-
-
 def keys_of(finding: Finding) -> list[tuple[str, str]]:
     """Returns the fields of a finding with their procedure, or what is said of it if it has
     none."""
-    fields_of = [(finding.message.procedure, one.field) for one in finding.differences]
-    return fields_of or [kind_of(finding)]
+    name, only = finding.message.procedure, f'only in the {finding.run} run'
+    said = {'only': only, 'connection': only, 'moved': finding.remark,
+            'replies': 'another number of replies', 'order': 'replies in another order'}
+    return [(name, one.field) for one in finding.differences] or [
+        ('connections' if is_told_of_connections(finding) else name,
+         said.get(finding.kind, finding.kind))]
 
 
-class Body:
-    """What differs, and the calls around it. Findings that say the same are one, and have a number
-    from 1 on."""
+@dataclass
+class Content:
+    """What a page is made of: what is printed of the verdict, the report, the comparison, the
+    fields that are left out of it and how often each differs, and both runs. Findings that say the
+    same are one, and have a number from 1 on."""
+    line: str
+    report: Report
+    compared: Compared
+    ignored: Sequence[Ignored]
+    left_out: Counter[tuple[str, str]]
+    runs: Sequence[Run]
+    recorded: Sequence[Recorded]
 
-    def __init__(self, content: Content) -> None:
-        self.content, self.compared = content, content.compared
-        self.framings = [run.frames for run in content.runs]
-        self.beside = self.compared.beside
+    def __post_init__(self) -> None:
+        self.framings, self.beside = [run.frames for run in self.runs], self.compared.beside
         self.groups = telling.folded(self.compared.findings)
         self.shown = self.groups[:SHOWN_AT_MOST]
         self.others_at_most = min(OTHERS_AT_MOST, OTHERS_OF_ALL // max(1, len(self.shown)))
 
-    def all(self) -> Iterator[str]:
-        """All parts."""
-        return chain(self.fields(), self.findings(), self.silent(), self.accepted(), self.calls())
-
     @cached_property
-    def numbers(self) -> dict[Places, list[int]]:
-        """By both places: the numbers of the findings there."""
-        out: dict[Places, list[int]] = {}
+    def found(self) -> dict[Places, list[tuple[int, Finding]]]:
+        """By the places of two messages: what is found there, with its numbers."""
+        out = defaultdict[Places, list[tuple[int, Finding]]](list)
         for number, finding in self.numbered():
             if finding.kind != 'order':
-                out.setdefault(places_of(finding.first, finding.second), []).append(number)
-        return out
-
-    @cached_property
-    def changed(self) -> dict[Places, Finding]:
-        """By both places: what differs between two messages, or that one run alone has a call."""
-        return {places_of(finding.first, finding.second): finding
-                for finding in self.compared.findings if is_of_fields(finding)}
+                out[places_of(finding.first, finding.second)].append((number, finding))
+        return {**out}
 
     def numbered(self) -> Iterator[tuple[int, Finding]]:
         """All findings, with their numbers."""
@@ -302,35 +269,25 @@ class Body:
     # --- Findings ---
 
     def findings(self) -> Iterator[str]:
+        """How many differences there are, and each; those that say the same as one."""
         articles = chain.from_iterable(starmap(self.article, enumerate(self.shown, 1)))
-        more = sum(map(len, self.groups[SHOWN_AT_MOST:]))
+        more, total = sum(map(len, self.groups[SHOWN_AT_MOST:])), len(self.compared.findings)
         last = (f'<p id=more>.. and {count(more, "message")} more. <code>--json FILE</code> '
                 'writes all.</p>')
-        return markup.section(self.heading(), chain(markup.paragraphs(self.remarks()), articles,
-                                                    [last] if more else []), ' id=findings')
-
-    def heading(self) -> str:
-        """How many differences there are, those that say the same as one."""
-        total = len(self.compared.findings)
         if not total:
-            return 'No differences'
-        return f'{count(len(self.groups), "difference")} in {count(total, "message")}'
+            return markup.section('No differences', [f'<p>{self.remark()}</p>'], ' id=findings')
+        return markup.section(
+            f'{count(len(self.groups), "difference")} in {count(total, "message")}',
+            chain(articles, [last] if more else []), ' id=findings')
 
-    def remarks(self) -> Iterator[str]:
-        """What is to be known of the findings, or of there being none."""
-        is_turned, is_same = (self.content.report.same_under is not None,
-                              self.content.report.verdict == 'same')
-        if self.groups and is_turned:
-            yield ('These fields differ in the runs as they are. They do not count in another '
-                   'order, because they are also masked.')
-        if not self.groups and is_turned:
-            yield 'Nothing differs but the order.'
-        if not self.groups and is_same:
-            yield 'Nothing differs but what is masked.'
-        if not self.groups and not is_turned and not is_same:
-            yield ('All fields that differ are ignored.' if self.content.left_out else
-                   'No field of matched messages differs. '
-                   'Only which messages share a value, or empty connections, can.')
+    def remark(self) -> str:
+        """Returns what is to be known of there being no differences."""
+        report = self.report
+        if report.verdict == 'same' or report.same_under is not None:
+            return f'Nothing differs but {NOTHING_BUT[report.verdict == "same"]}.'
+        return ('All fields that differ are ignored.' if self.left_out else
+                'No field of matched messages differs. '
+                'Only which messages share a value, or empty connections, can.')
 
     def article(self, number: int, group: Sequence[Finding]) -> Iterator[str]:
         """A finding, and the places of those that say the same."""
@@ -371,7 +328,7 @@ class Body:
 
     def place(self, message: Message, side: int) -> str:
         """Where a message is, its frames, and a display filter for all of them to copy, as HTML."""
-        framing, parts = self.framings[side], self.content.recorded[side].parts
+        framing, parts = self.framings[side], self.recorded[side].parts
         return (f'{message.place}{telling.frames_of(message, framing)}'
                 + markup.filters(parts, framing(message)))
 
@@ -395,9 +352,9 @@ class Body:
         lines = list(telling.of_silent(self.compared, self.framings, OTHERS_AT_MOST))
         return markup.section('Left out', markup.paragraphs(lines)) if lines else iter(())
 
-    def accepted(self) -> Iterator[str]:
+    def accepted_ones(self) -> Iterator[str]:
         """How many findings were accepted, and these folded."""
-        lines = list(telling.of_accepted(self.content.report.accepted, self.framings, True))
+        lines = list(telling.of_accepted(self.report.accepted, self.framings, True))
         shown = [line for line in lines if line.startswith('accepted: ')]
         yield from markup.paragraphs(lines[len(shown):], 'accepted')
         if shown:
@@ -416,12 +373,10 @@ class Body:
         if self.beside.connections:
             yield ('<p class=quiet>In the order of the first run. '
                    'A click opens the fields of a call and its replies.</p>')
-        number = 0
         for connection in self.beside.connections:
             yield f'<div class=connection><h3>{heading_of(connection)}</h3>'
-            for row in connection.rows:
-                number += isinstance(row, Row)
-                yield from self.row(row, connection, number) if isinstance(row, Row) else gap(row)
+            yield from chain.from_iterable(self.row(row, connection) if isinstance(row, Row)
+                                           else gap(row) for row in connection.rows)
             yield '</div>'
         if self.beside.others:
             which = count(self.beside.others,
@@ -431,27 +386,27 @@ class Body:
             yield (f'<p class=gap>{count(self.beside.cut, "call")} more '
                    f'{plural(self.beside.cut, "is", "are")} only in the second run</p>')
 
-    def row(self, row: Row, connection: Connection, number: int) -> Iterator[str]:
+    def row(self, row: Row, connection: Connection) -> Iterator[str]:
         """An exchange of both runs: what it is, where, and its fields on a click."""
-        exchange = row.first or row.second
-        assert exchange
-        mark, said = self.mark(row)
-        places = ' | '.join(f'{record_of(one.call, own)}{telling.frames_of(one.call, framing)}'
-                            for one, own, framing in zip(
-                                (row.first, row.second), (connection.first, connection.second),
-                                self.framings) if one)
-        yield (f'<details class="row{" told" if mark != "=" else ""}" id=r{number}>'
-               f'<summary><b class=mark>{mark}</b> {exchange.procedure}'
+        messages, (mark, said) = list(together(row)), self.mark(row)
+        calls, own = messages[0], (connection.first, connection.second)
+        # (the place of a call is short if it is on the connection that is named above)
+        places = ' | '.join(
+            (f'record {call.record}' if call.connection == number else call.place)
+            + telling.frames_of(call, framing)
+            for call, number, framing in zip(calls, own, self.framings) if call)
+        yield (f'<details class="row{" told" if mark != "=" else ""}" '
+               f'id=r{self.anchors[places_of(*calls)]}>'
+               f'<summary><b class=mark>{mark}</b> {message_of_both(calls).procedure}'
                f'{f" {code(row.path)}" if row.path else ""} '
                f'<span class=quiet>{places}</span>{said}</summary>')
-        for first, second in together(row):
-            yield from self.message(first, second)
+        yield from chain.from_iterable(starmap(self.message, messages))
         yield '</details>'
 
     def mark(self, row: Row) -> tuple[str, str]:
         """Returns a sign for what a row is, and what is said of it, as HTML."""
         numbers = sorted({number for both in together(row)
-                          for number in self.numbers.get(places_of(*both), ())})
+                          for number, _ in self.found.get(places_of(*both), ())})
         links = ', '.join(f'<a href=#f{number}>finding {number}</a>' for number in numbers
                           if number <= len(self.shown))
         if row.first is None or row.second is None:
@@ -463,24 +418,20 @@ class Body:
 
     def message(self, first: Message | None, second: Message | None) -> Iterator[str]:
         """A message of both runs: where it is, and its fields."""
-        message = first or second
-        assert message
         # (the frames of the call are in the line of its row)
         places = ' | '.join(one.place + ('' if one.is_call else telling.frames_of(one, framing))
                             for one, framing in zip((first, second), self.framings) if one)
-        yield f'<h4>{"call" if message.is_call else "reply"}: {places}</h4>'
-        yield from fields.of_messages(first, second, self.changed.get(places_of(first, second)))
+        what = 'call' if message_of_both((first, second)).is_call else 'reply'
+        yield f'<h4>{what}: {places}</h4>'
+        found = self.found.get(places_of(first, second), ())
+        yield from fields.of_messages(first, second, next(
+            (finding for _, finding in found if is_of_fields(finding)), None))
 
 
 def heading_of(connection: Connection) -> str:
     both = connection.first, connection.second
     of_one = f' of the {RUNS[connection.first is None]} run' if None in both else ''
     return ' | '.join(f'connection {number}' for number in both if number is not None) + of_one
-
-
-def record_of(call: Message, connection: int | None) -> str:
-    """Returns the place of a call, short if it is on the connection that is named above."""
-    return f'record {call.record}' if call.connection == connection else call.place
 
 
 def gap(some: Gap, where: str = '') -> Iterator[str]:

@@ -1,12 +1,15 @@
-"""The fields of messages of both runs as HTML: those that differ come first, and those of the head
-of RPC are folded."""
+"""The fields of messages of both runs as HTML: those that differ come first, with the bytes marked
+in which they do, and those of the head of RPC are folded. Beside hexadecimal digits of a text
+stands the text."""
 from __future__ import annotations
 
-from collections.abc import Iterable, Iterator, Sequence
+from collections.abc import Callable, Iterator, Sequence
 from html import escape
+from itertools import groupby, zip_longest
 from typing import NamedTuple
 
 from ..comparison.values import long_values
+from ..comparison.values.long_values import bytes_of, is_long, spelled
 from ..comparison.verdict.arguments import LAST_OF_HEAD
 from ..comparison.verdict.differences import Difference
 from ..comparison.verdict.findings import Finding
@@ -14,12 +17,16 @@ from ..exchanges.listing import Message
 from ..exchanges.stored import Value
 from ..exchanges.whose import Labels
 from ..reporting import telling
-from . import marking, markup
+from . import markup
 
 DIFFERENCES_AT_MOST = 200  # of a message
 FIELDS_AT_MOST = 6_000  # characters of a message's fields
 GLUE = '\u00a0'  # a space after a sign at which no line ends
 SIGNS, SIDES = ('-', '+'), ('minus', 'plus')
+OPAQUE = ('data', 'rest')  # items whose values are hexadecimal also if they are short
+DOTS = '..'
+READABLE = 0.75  # of the bytes of a text, at least
+NO_LETTER = '\u00b7'  # stands for a byte that is none
 LAST_OF_REPLY = 'accept_stat'  # RFC 5531, section 9
 
 
@@ -43,7 +50,7 @@ def change_of(finding: Finding) -> Iterator[str]:
 def of_difference(difference: Difference) -> Iterator[str]:
     """The lines of a difference, with the bytes marked that differ."""
     lines = [line.strip() for line in telling.of_difference(difference)]
-    values, remark = marking.of_difference(difference), telling.remark_on(difference)
+    values, remark = marked_values(difference), telling.remark_on(difference)
     if not values or len(lines) != len(values):
         yield from map(line_of, lines)
         return
@@ -56,6 +63,67 @@ def line_of(line: str) -> str:
     """A line that has a sign before it."""
     look = markup.class_of(SIDES[SIGNS.index(line[0])] if line[0] in SIGNS else '')
     return f'<div{look}>{line[0]}{GLUE}{escape(line[2:])}</div>'
+
+
+# --- Bytes that differ ---
+
+def marked_values(difference: Difference) -> list[str]:
+    """Returns both values as HTML, or nothing if they are numbers."""
+    values = difference.apart.shown if difference.apart else (str(difference.first or ''),
+                                                              str(difference.second or ''))
+    if difference.is_equal or not has_bytes(difference):
+        return []
+    pieces = [content_of(value) for value in values]
+    is_text = values[0].strip('.').startswith('"')
+    has_text = not is_text and all(map(is_readable, pieces))
+    return [of_value(value, own, other, is_text) + (
+        f' <span class=text>{marked(own, other, letters)}</span>' if has_text else '')
+            for value, own, other in zip(values, pieces, reversed(pieces))]
+
+
+def of_value(value: str, own: bytes, other: bytes, is_text: bool) -> str:
+    """Returns a value as it is printed."""
+    before, after = (DOTS * is_cut for is_cut in (value.startswith(DOTS), value.endswith(DOTS)))
+    inner = f'"{marked(own, other, spelled)}"' if is_text else marked(own, other, bytes.hex)
+    return before + inner + after
+
+
+def has_bytes(difference: Difference) -> bool:
+    """Whether both values are bytes: of short ones only names say so, and quotes."""
+    both = difference.first, difference.second
+    if difference.apart or not all(both):
+        return difference.apart is not None
+    return difference.name in OPAQUE or all(
+        value is not None and str(value).startswith('"') and not is_long(value) for value in both)
+
+
+def content_of(value: str) -> bytes:
+    """The bytes of a value as it is printed, of which some may be left out at its ends."""
+    return bytes_of(value.removeprefix(DOTS).removesuffix(DOTS))
+
+
+def is_readable(content: bytes) -> bool:
+    """Whether most bytes are those of a text."""
+    readable = sum(0x20 <= byte < 0x7f or byte in b'\t\n\r' for byte in content)
+    return bool(content) and readable >= READABLE * len(content)
+
+
+def marked(own: bytes, other: bytes, spell: Callable[[bytes], str]) -> str:
+    """Returns bytes as they are spelled, with those marked that are not in the other value."""
+    return ''.join(f'<mark>{escape(spell(piece))}</mark>' if differs else escape(spell(piece))
+                   for differs, piece in pieces_of(own, other))
+
+
+def pieces_of(own: bytes, other: bytes) -> Iterator[tuple[bool, bytes]]:
+    """Returns the bytes that follow one another and are all in the other value, at their places, or
+    all not."""
+    pairs = (pair for pair in zip_longest(own, other) if pair[0] is not None)
+    for differs, some in groupby(pairs, lambda pair: pair[0] != pair[1]):
+        yield differs, bytes(byte for byte, _ in some)
+
+
+def letters(content: bytes) -> str:
+    return ''.join(chr(byte) if 0x20 <= byte < 0x7f else NO_LETTER for byte in content)
 
 
 # --- All fields ---
@@ -79,15 +147,11 @@ def of_messages(first: Message | None, second: Message | None,
         yield from change_of(finding)
     lines = [line for line in lines_of(first, second)
              if not (line.differs and line.label in told)]
-    yield div_of(cut([line.text for line in lines if not line.is_of_head]))
+    own = cut([line.text for line in lines if not line.is_of_head])
+    yield markup.block('div', own, 'fields')
     head = [line.text for line in lines if line.is_of_head]
     if head:
-        yield ''.join(markup.folded('head', 'head of RPC', [div_of(head)]))
-
-
-def div_of(lines: Iterable[str]) -> str:
-    text = '\n'.join(lines)
-    return f'<div class=fields>{escape(text)}</div>' if text else ''
+        yield from markup.folded('head', 'head of RPC', [markup.block('div', head, 'fields')])
 
 
 def lines_of(first: Message | None, second: Message | None) -> Iterator[Line]:

@@ -6,73 +6,96 @@ is escaped.
 """
 from __future__ import annotations
 
+import contextlib
 from collections.abc import Container, Iterable, Iterator, Sequence
 from html import escape
 from itertools import chain, starmap, zip_longest
 from typing import NamedTuple
 
+from ..captures.explained import tell_record
+from ..captures.located import Within
+from ..exchanges.kept import Kept
 from ..judgement.verdict import (
     HEADS, Verdict, counts_after, is_row, named, notes_of, row_of, status_of)
 from ..recordings.coverage import Allowed, Counts, named as named_calls
+from ..recordings.parts import Part
 from ..recordings.selection import count, plural
+from ..recordings.taken import Taken
+from ..shared.places import NoPlace, Place, parse_place
 from ..shared.printed import escaped, printable
 from ..shared.screens import Styled
 from . import markup
 from .markup import class_of
-from .seen import Fault, Seen, verdicts_in
-from .time_line import FORMS, of_time_line
+from .time_line import FORMS, TimeLine, line_of, of_time_line
 
 # How words of verdicts look: good, judged in part, at fault.
 GOOD, PART, BAD = 'plus', 'part', 'minus'
 LOOKS = {'ok': GOOD, 'in part': PART, 'left out': PART, 'not checked': PART, 'refused': BAD,
          'error': BAD}
 COUNTED = (('in part', PART), ('left out', PART), ('not checked', PART), ('errors', BAD))
-FAULTS_AT_MOST = 500  # on a page
+FAULTS_AT_MOST, FAULTS_OF_EACH = 500, 200  # on a page, and of a recording
+LINES_AT_MOST = 200  # of a message
+
+
+class Fault(NamedTuple):
+    """A verdict on a connection that is refused: what `tools/explain` says of its position, and all
+    fields of the message."""
+    verdict: Verdict
+    item: list[str]
+    message: list[str]
+
+
+class Seen(NamedTuple):
+    """A recording: its name, its verdicts, and what a page shows besides, if there is to be one."""
+    recording: str
+    verdicts: list[Verdict]
+    faults: Sequence[Fault] = ()
+    line: TimeLine | None = None
+    parts: Sequence[Part] = ()
+
+
+def verdicts_in(seen: Iterable[Seen]) -> list[Verdict]:
+    """Returns the verdicts on all recordings."""
+    return [verdict for one in seen for verdict in one.verdicts]
+
+
+def seen_in(kept: Kept, taken: Taken, recording: str, verdicts: list[Verdict]) -> Seen:
+    """Returns what is shown of a recording, by the exchanges of its connections."""
+    refused = [verdict for verdict in verdicts if verdict.state == 'refused']
+    faults = [fault_of(taken, verdict) for verdict in refused[:FAULTS_OF_EACH]]
+    return Seen(recording, verdicts, faults, line_of(kept, taken.begun), tuple(taken.parts))
 
 
 class Table(NamedTuple):
     """A table below its title: its heads, and its rows as HTML. One of cards has its rows one below
-    the other in a narrow window, and others can be moved sideways there. Valid rows are folded
+    the other in a narrow window, and a wide one can be moved sideways there. Valid rows are folded
     below the others."""
     title: str
     heads: Sequence[str]
     rows: Sequence[str]
-    is_of_cards: bool = False
+    look: str = 'wide'
     valid: Sequence[str] = ()
 
 
-class Content(NamedTuple):
-    """What a page is made of: the recordings, what does not change the status, and the tables of
-    all of them and of each. Faults are shown if that is asked for."""
-    seen: Sequence[Seen]
-    allowed: Allowed
-    tables: Sequence[Table]
-    of_each: Sequence[Sequence[Table]]
-    has_faults: bool
-
-
-def page(content: Content) -> Iterator[str]:
-    """The page, in pieces."""
-    verdicts = verdicts_in(content.seen)
-    counts, names = counts_after(verdicts), [escaped(one.recording) for one in content.seen]
+def page(seen: Sequence[Seen], allowed: Allowed, tables: Sequence[Table],
+         of_each: Sequence[Sequence[Table]] = ()) -> Iterator[bytes]:
+    """The page, in pieces, of recordings, what does not change the status, and the tables of all of
+    them and of each."""
+    counts, names = counts_after(verdicts_in(seen)), [escaped(one.recording) for one in seen]
     more = f' and {len(names) - 1:,} more' if len(names) > 1 else ''
     look, words = title_of(counts)
-    yield markup.opening(f'{words}: {names[0]}{more}') + FORMS
-    yield markup.heading(look, words)
-    yield from of_counts(counts)
-    yield from of_status(counts, status_of(verdicts, content.allowed), content.allowed)
-    yield markup.bar('fault', 'row')
-    for table in content.tables:
-        yield f'<section>{"".join(of_table(table, "h2"))}</section>'
-    if content.has_faults:
-        yield from of_faults(content.seen)
-    for name, one, tables in zip(names, content.seen, content.of_each or [()] * len(names)):
-        if one.line is not None or tables:
-            yield from markup.section(escape(name), of_recording(one, tables, len(names) > 1))
-    notes = [line for verdict in verdicts for line in notes_of(verdict)]
-    if notes:
-        yield from markup.section('Notes', markup.paragraphs(notes))
-    yield markup.closing()
+    status = of_status(counts, status_of(verdicts_in(seen), allowed), allowed)
+    several = (f'<section>{of_table(table, "h2")}</section>' for table in tables)
+    recordings = (of_recording(one, own, len(names) > 1)
+                  for one, own in zip(seen, of_each or [()] * len(names)))
+    return markup.whole_page(f'{words}: {names[0]}{more}', look, words, chain(
+        [FORMS], of_counts(counts), status, [markup.bar('fault', 'row')], several, of_faults(seen),
+        chain.from_iterable(recordings), of_notes(seen)))
+
+
+def of_notes(seen: Sequence[Seen]) -> Iterator[str]:
+    notes = [line for verdict in verdicts_in(seen) for line in notes_of(verdict)]
+    return markup.section('Notes', markup.paragraphs(notes)) if notes else iter(())
 
 
 # --- The counts ---
@@ -128,22 +151,14 @@ def of_count(number: int, words: str, look: str) -> str:
 
 # --- Tables ---
 
-def of_table(table: Table, level: str) -> Iterator[str]:
-    if table.title:
-        yield f'<{level}>{escape(table.title)}</{level}>'
-    look = 'cards' if table.is_of_cards else 'wide'
-    if table.rows or not table.valid:
-        yield from of_rows(look, table.heads, table.rows)
-    if table.valid:
-        yield from markup.folded('valid', count(len(table.valid), 'connection') + ' ok',
-                                 of_rows(look, table.heads, table.valid),
-                                 '' if table.rows else ' open')
-
-
-def of_rows(look: str, heads: Sequence[str], rows: Iterable[str]) -> Iterator[str]:
-    yield f'<div class={look}>'
-    yield from markup.table(heads, rows)
-    yield '</div>'
+def of_table(table: Table, level: str) -> str:
+    shown, valid = (f'<div class={table.look}>{"".join(markup.table(table.heads, rows))}</div>'
+                    for rows in (table.rows, table.valid))
+    folded = markup.folded('valid', count(len(table.valid), 'connection') + ' ok', [valid],
+                           '' if table.rows else ' open')
+    return ''.join([f'<{level}>{escape(table.title)}</{level}>',
+                    shown if table.rows or not table.valid else '',
+                    *(folded if table.valid else ())])
 
 
 def as_printed(title: str, rows: Sequence[Styled], numbers: Container[int]) -> Table:
@@ -168,8 +183,8 @@ def row_of_cells(cells: Sequence[str], numbers: Container[int], heads: Sequence[
 def table_of(seen: Sequence[Seen]) -> Table:
     """The table of `tools/verdicts`, whose faults lead to what is said of them. What is refused or
     could not be read comes first, and what is ok is folded."""
-    numbers, links = range(4, 6), links_of(seen)
-    verdicts = [*filter(is_row, verdicts_in(seen))]
+    numbers, verdicts = range(4, 6), [*filter(is_row, verdicts_in(seen))]
+    links = {id(fault.verdict): f'#f{number}' for number, fault, _ in numbered(seen)}
 
     def rows(some: Iterable[Verdict]) -> list[str]:
         return [row_of_cells(row_of(verdict._replace(message=said_of(verdict))), numbers, HEADS,
@@ -177,7 +192,7 @@ def table_of(seen: Sequence[Seen]) -> Table:
     wrong = sorted((verdict for verdict in verdicts if verdict.state != 'ok'),
                    key=lambda verdict: LOOKS[verdict.state] != BAD)
     valid = rows(verdict for verdict in verdicts if verdict.state == 'ok')
-    return Table('Connections', HEADS, rows(wrong), True, valid)
+    return Table('Connections', HEADS, rows(wrong), 'cards', valid)
 
 
 def look_of(verdict: Verdict) -> str:
@@ -201,11 +216,6 @@ def said_of(verdict: Verdict) -> str:
     return '; '.join(filter(None, ['' if is_raw(verdict) else 'ok', raw])) or 'no calls'
 
 
-def links_of(seen: Sequence[Seen]) -> dict[int, str]:
-    """Returns where a verdict's fault is on the page, by its identity."""
-    return {id(fault.verdict): f'#f{number}' for number, fault, _ in numbered(seen)}
-
-
 def numbered(seen: Sequence[Seen]) -> list[tuple[int, Fault, Seen]]:
     """Returns the faults that are shown, with their numbers and recordings."""
     faults = [(fault, one) for one in seen for fault in one.faults]
@@ -213,6 +223,33 @@ def numbered(seen: Sequence[Seen]) -> list[tuple[int, Fault, Seen]]:
 
 
 # --- Faults ---
+
+def fault_of(taken: Taken, verdict: Verdict) -> Fault:
+    """Explains a fault, if its position is in a record."""
+    item, message, within = Lines(), Lines(), Within(taken.spool, None, taken)
+    with contextlib.suppress(NoPlace):
+        place = parse_place(f'connection {verdict.connection} {verdict.position}')
+        if isinstance(place, Place):
+            found = within.record(place)
+            tell_record(found, place, verdict.reason, item.take)
+            if place.byte is not None:
+                tell_record(found, place._replace(byte=None), None, message.take)
+    return Fault(verdict, item.all(), message.all())
+
+
+class Lines(list[str]):
+    """The first lines of what is told, and how many are left."""
+    more = 0
+
+    def take(self, line: str) -> None:
+        if len(self) < LINES_AT_MOST:
+            self.append(printable(line))
+        else:
+            self.more += 1
+
+    def all(self) -> list[str]:
+        return [*self, *([f'.. and {self.more:,} lines more'] if self.more else [])]
+
 
 def of_faults(seen: Sequence[Seen]) -> Iterator[str]:
     """What is refused: where, why, in which frames, and the fields of the message."""
@@ -232,15 +269,11 @@ def of_fault(number: int, fault: Fault, seen: Seen) -> Iterator[str]:
     yield f'<p class=minus>{escape(printable(verdict.message))}{filters}</p>'
     if verdict.client:
         yield f'<p class=quiet>client {escape(verdict.client)}, server {escape(verdict.server)}</p>'
-    yield pre_of(fault.item)
+    yield markup.block('pre', fault.item)
     if fault.message:
-        yield from markup.folded('others', 'all fields of the message', [pre_of(fault.message)])
+        fields = markup.block('pre', fault.message)
+        yield from markup.folded('others', 'all fields of the message', [fields])
     yield '</article>'
-
-
-def pre_of(lines: Sequence[str]) -> str:
-    text = '\n'.join(lines)
-    return f'<pre>{escape(text)}</pre>' if text else ''
 
 
 # --- Recordings ---
@@ -248,13 +281,10 @@ def pre_of(lines: Sequence[str]) -> str:
 def of_recording(seen: Seen, tables: Sequence[Table], has_counts: bool) -> Iterator[str]:
     """The time line of a recording, its own counts if that is asked for, and its tables: that of
     all its connections, and those of each folded."""
-    if has_counts:
-        yield from of_counts(counts_after(seen.verdicts))
-    if seen.line is not None:
-        yield from of_time_line(seen.line)
-    for table in tables[:1]:
-        yield from of_table(table, 'h3')
-    if len(tables) > 1:
-        inner = (piece for table in tables[1:] for piece in of_table(table, 'h3'))
-        words = count(len(tables) - 1, 'table')
-        yield from markup.folded('others', f'{words} of single connections', inner)
+    shown = [of_table(table, 'h3') for table in tables]
+    words = f'{count(len(shown) - 1, "table")} of single connections'
+    pieces = chain(of_counts(counts_after(seen.verdicts)) if has_counts else (),
+                   of_time_line(seen.line) if seen.line else (), shown[:1],
+                   markup.folded('others', words, shown[1:]) if shown[1:] else ())
+    is_empty = seen.line is None and not shown
+    return iter(()) if is_empty else markup.section(escape(escaped(seen.recording)), pieces)

@@ -4,6 +4,7 @@ from __future__ import annotations
 
 from collections.abc import Iterable, Iterator, Sequence
 from html import escape
+from itertools import chain
 
 from ..recordings.parts import Part
 from ..reporting.frames import filters_of
@@ -18,20 +19,15 @@ def code(text: str) -> str:
     return f'<code>{escape(text)}</code>'
 
 
-def opening(title: str) -> str:
-    """The beginning of a page, up to its heading."""
-    return ('<!DOCTYPE html><html lang=en><meta charset=utf-8>'
+def whole_page(title: str, look: str, heading: str, pieces: Iterable[str]) -> Iterator[bytes]:
+    """The bytes of a page: its title, how its heading looks and what it says, and all below it."""
+    head = ('<!DOCTYPE html><html lang=en><meta charset=utf-8>'
             '<meta name=viewport content="width=device-width, initial-scale=1">'
             '<meta name=color-scheme content="light dark">'
-            f'<title>{escape(title)}</title><style>{STYLE}</style>')
-
-
-def closing() -> str:
-    return f'<script>{SCRIPT}</script></html>\n'
-
-
-def heading(look: str, text: str) -> str:
-    return f'<h1{class_of(look)}>{escape(text)}</h1>'
+            f'<title>{escape(title)}</title><style>{STYLE}</style>'
+            f'<h1{class_of(look)}>{escape(heading)}</h1>')
+    return (piece.encode(errors='backslashreplace')
+            for piece in chain([head], pieces, [f'<script>{SCRIPT}</script></html>\n']))
 
 
 def bar(found: str, rows: str) -> str:
@@ -64,10 +60,16 @@ def paragraphs(lines: Iterable[str], look: str = '') -> Iterator[str]:
     return (f'<p{class_of(look)}>{escape(line)}</p>' for line in lines)
 
 
-def table(names: Sequence[str], rows: Iterable[str]) -> Iterator[str]:
+def block(tag: str, lines: Iterable[str], look: str = '') -> str:
+    """Lines that are not HTML, in one element, or nothing if there are none."""
+    text = '\n'.join(lines)
+    return f'<{tag}{class_of(look)}>{escape(text)}</{tag}>' if text else ''
+
+
+def table(names: Sequence[str], rows: Iterable[str], look: str = '') -> Iterator[str]:
     """A table of rows that are HTML."""
     heads = ''.join(f'<th>{escape(name)}</th>' for name in names)
-    yield f'<table><thead><tr>{heads}</tr></thead>'
+    yield f'<table{class_of(look)}><thead><tr>{heads}</tr></thead>'
     yield from rows
     yield '</table>'
 
@@ -79,8 +81,3 @@ def filters(parts: Sequence[Part], numbers: Sequence[int]) -> str:
     return ''.join(f' <span>{escape(name)}{": " if name else ""}<code class=filter>{text}</code>'
                    '<button type=button class=copy aria-label="copy the filter"></button></span>'
                    for name, text in several)
-
-
-def encoded(pieces: Iterable[str]) -> Iterator[bytes]:
-    """The bytes of a page."""
-    return (piece.encode(errors='backslashreplace') for piece in pieces)

@@ -26,16 +26,13 @@ body {
 }
 a { color: var(--link) }
 h1 { font-size: 26px; line-height: 1.2; margin: 24px 0 8px }
-h1.same { color: var(--plus) }
-h1.differ { color: var(--minus) }
-h1.part { color: var(--part) }
 h2 { font-size: 19px; margin: 32px 0 8px }
 h3 { font-size: 15px; margin: 0 }
 p { margin: 6px 0 }
 code, pre, .change, .fields { font-family: var(--mono); font-size: 13px }
 .quiet, .gap, dt { color: var(--quiet) }
-.minus { color: var(--minus) }
-.plus { color: var(--plus) }
+.minus, .differ { color: var(--minus) }
+.plus, .same { color: var(--plus) }
 .part { color: var(--part) }
 .glance code { font-size: 15px }
 .glance { font-size: 17px; margin: 10px 0 }
@@ -62,9 +59,9 @@ dd { margin: 0 }
 
 .bar {
   display: none; position: sticky; top: 0; z-index: 1; background: Canvas;
-  border-bottom: 1px solid var(--line)
+  border-bottom: 1px solid var(--line); padding: 8px 0; margin-top: 24px; gap: 6px 8px;
+  flex-wrap: wrap; align-items: center
 }
-.bar { padding: 8px 0; margin-top: 24px; gap: 6px 8px; flex-wrap: wrap; align-items: center }
 .bar input { flex: 1 1 16em; min-width: 0; font: inherit; padding: 4px 8px }
 .copy { display: none; font-size: 12px; padding: 0 7px }
 .copy::before { content: "copy" }
@@ -87,15 +84,11 @@ article.here, article:target, .row:target { outline: 2px solid var(--here); outl
 .change .minus { background: var(--minus-back) }
 .change .plus { background: var(--plus-back) }
 .counts {
-  list-style: none; display: flex; flex-wrap: wrap; gap: 6px 10px; padding: 0; margin: 14px 0
+  list-style: none; display: flex; flex-wrap: wrap; gap: 6px 10px; padding: 0; margin: 14px 0;
+  color: var(--quiet)
 }
-.counts li {
-  border: 1px solid var(--line); border-radius: 6px; padding: 4px 12px; color: var(--quiet)
-}
+.counts li { border: 1px solid var(--line); border-radius: 6px; padding: 4px 12px }
 .counts b { font-size: 19px }
-.counts .plus { color: var(--plus) }
-.counts .part { color: var(--part) }
-.counts .minus { color: var(--minus) }
 .wide { overflow-x: auto; margin: 8px 0 }
 .wide td, .wide th { overflow-wrap: normal; white-space: nowrap; padding: 3px 6px; font-size: 13px }
 .wide td:last-child { white-space: normal; min-width: 20em }
@@ -165,10 +158,10 @@ SCRIPT = '''
 'use strict';
 document.documentElement.className = 'js';
 const every = selector => [...document.querySelectorAll(selector)], \
-  findings = every('article'), rows = every('.row');
-const find = document.getElementById('find'), found = document.getElementById('found'), \
-  texts = new Map();
-const heading = document.querySelector('#findings h2'), whole = heading && heading.textContent;
+  findings = every('article'), rows = every('.row'), texts = new Map();
+const [find, found, heading] = ['#find', '#found', '#findings h2'].map( \
+  selector => document.querySelector(selector)), whole = heading && heading.textContent;
+const visible = some => some.filter(one => !one.hidden);
 let here = null;
 
 function plain(text) {
@@ -190,14 +183,13 @@ function search() {
   const text = plain(find.value), isAll = text === '';
   for (const one of [...findings, ...rows]) one.hidden = !isAll && !has(one, text);
   for (const one of every('.gap, #more')) one.hidden = !isAll;
-  for (const one of every('.connection, section')) one.hidden = !isAll && !isFound(one, text);
-  for (const one of every('.valid')) {
+  for (const one of every('.connection, section, .valid')) {
     one.hidden = !isAll && !isFound(one, text);
-    one.open ||= !isAll && !one.hidden;
+    if (one.matches('.valid')) one.open ||= !isAll && !one.hidden;
   }
-  const seen = findings.filter(one => !one.hidden), \
+  const seen = visible(findings), \
+    differing = counted(seen.length, find.parentElement.dataset.found), \
     messages = seen.reduce((sum, one) => sum + Number(one.dataset.messages), 0);
-  const differing = counted(seen.length, find.parentElement.dataset.found);
   if (heading) \
     heading.textContent = isAll ? whole : `${differing} in ${counted(messages, 'message')}`;
   tell();
@@ -208,9 +200,8 @@ function counted(number, word) {
 }
 
 function tell() {
-  const seen = findings.filter(one => !one.hidden), at = seen.indexOf(here), \
-    words = find.parentElement.dataset;
-  const others = counted(rows.filter(one => !one.hidden).length, words.rows);
+  const seen = visible(findings), at = seen.indexOf(here), words = find.parentElement.dataset, \
+    others = counted(visible(rows).length, words.rows);
   const all = findings.length ? `${counted(seen.length, words.found)}, ${others}` : others;
   found.textContent = `${at < 0 ? '' : `${at + 1} of `}${all}`;
 }
@@ -229,10 +220,9 @@ function show(element) {
 }
 
 function go(step) {
-  const seen = findings.filter(one => !one.hidden), at = seen.indexOf(here);
-  if (!seen.length) return;
-  stay(seen[at < 0 ? (step > 0 ? 0 : seen.length - 1) \
-    : Math.min(Math.max(at + step, 0), seen.length - 1)]);
+  const seen = visible(findings), at = seen.indexOf(here), last = seen.length - 1;
+  if (last < 0) return;
+  stay(seen[at < 0 ? (step > 0 ? 0 : last) : Math.min(Math.max(at + step, 0), last)]);
   show(here);
 }
 

@@ -1,19 +1,29 @@
 """A time line of latencies as SVG: a dot for each call, whose height is its latency on a log scale.
 Errors have another form and another colour.
 
+    with contextlib.closing(kept_in(program, taken, verdicts)) as kept:
+        print(*of_time_line(line_of(kept, taken.begun)))
+
 Places from left to right are parts of the width in per cent, so the line is as wide as its page,
 and its texts keep their size.
 """
 from __future__ import annotations
 
 import math
-from collections.abc import Iterator, Sequence
+from collections.abc import Iterable, Iterator, Sequence
 from html import escape
 from typing import NamedTuple
 
+from ..exchanges.kept import Exchange, Kept, call_of
+from ..judgement.tallies import milliseconds
+from ..judgement.window import ALL, Window
 from ..recordings.selection import count, plural
+from .markup import paragraphs
 
 COLUMNS = 1_000  # of pixels, into which dots are sorted
+DOTS_AT_MOST = 2_000  # of which none is left out
+ERRORS_AT_MOST = 10_000
+WORDS_AT_MOST = 240  # characters of a dot's title
 HEIGHT, TOP, BOTTOM = 330, 44, 290  # of the line, and of the scale in it
 LANE = 18  # the height of calls without a latency
 TICKS_AT_MOST = 6
@@ -60,7 +70,7 @@ def of_time_line(line: TimeLine) -> Iterator[str]:
         yield ('<p class=quiet><svg class=key><use href=#good x=8 y=8 /></svg> answered '
                '<svg class=key><use href=#bad x=8 y=8 /></svg> an error, or no reply '
                '<svg class=key><use href=#open x=8 y=8 /></svg> no reply recorded</p>')
-    yield ''.join(f'<p class=quiet>{escape(words)}</p>' for words in words_of(line))
+    yield from paragraphs(words_of(line), 'quiet')
 
 
 def words_of(line: TimeLine) -> Iterator[str]:
@@ -112,9 +122,9 @@ class Scale:
         yield text_of(-8, LANE + 4, 'no reply', 'end')
         yield f'<line x2=100% y1={LANE} y2={LANE} class=lane />'
         for decade in range(self.low, self.high + 1):
-            height = self.down(10 ** decade)
+            height, (power, unit) = self.down(10 ** decade), unit_of(decade)
             yield f'<line x2=100% y1={height:g} y2={height:g} />'
-            yield text_of(-8, height + 4, latency_named(decade), 'end')
+            yield text_of(-8, height + 4, f'{10 ** (decade - power):,} {unit}', 'end')
         power, unit = unit_of(math.floor(math.log10(self.end)))
         for time in ticks(self.end):
             at = self.across(time)
@@ -128,12 +138,6 @@ def text_of(across: float | str, down: float, words: str, anchor: str) -> str:
     return f'<text x={across} y={down:g} text-anchor={anchor}>{escape(words)}</text>'
 
 
-def latency_named(decade: int) -> str:
-    """A power of ten of nanoseconds, as `100 µs`."""
-    power, unit = unit_of(decade)
-    return f'{10 ** (decade - power):,} {unit}'
-
-
 def unit_of(decade: int) -> tuple[int, str]:
     """Returns the unit in which a power of ten of nanoseconds is named, and its own power."""
     return next(one for one in UNITS if one[0] <= decade)
@@ -144,3 +148,38 @@ def ticks(end: int) -> Iterator[int]:
     step = 10 ** max(0, math.floor(math.log10(end)) - 1)
     factor = next(one for one in (1, 2, 5, 10, 20, 50) if end // (step * one) < TICKS_AT_MOST)
     return iter(range(0, end + 1, step * factor))
+
+
+# --- Dots ---
+
+def line_of(kept: Kept, begun: int, window: Window = ALL) -> TimeLine:
+    """Returns the time line of the calls of a window that have a time: all of them if they are few,
+    or else the errors, those without a reply, and the slowest of each column."""
+    own = [at for at in range(len(kept)) if window.has(kept.times[at])]
+    timed = [at for at in own if kept.times[at]]
+    end = max((kept.times[at] for at in timed), default=begun) - begun
+    errors = [at for at in timed if kept.exchange(at).is_error]
+    chosen = {*timed} if len(timed) <= DOTS_AT_MOST else {
+        *errors[:ERRORS_AT_MOST], *filter(kept.is_unanswered, timed),
+        *slowest(kept, timed, begun, end)}
+    return TimeLine([dot_of(kept.exchange(at), begun) for at in sorted(chosen)], end, len(own),
+                    sum(at not in chosen for at in errors), len(own) - len(timed))
+
+
+def slowest(kept: Kept, timed: Sequence[int], begun: int, end: int) -> Iterable[int]:
+    """Returns the call with the longest latency of each column, the first of several."""
+    found = dict[int, int]()
+    for at in timed:
+        column = (kept.times[at] - begun) * COLUMNS // (end + 1)
+        if kept.latency(at) > kept.latency(found.setdefault(column, at)):
+            found[column] = at
+    return found.values()
+
+
+def dot_of(one: Exchange, begun: int) -> Dot:
+    """Returns the dot of a call, of which its call, its answer and where it is are said."""
+    call, answer = (words if len(words) <= WORDS_AT_MOST else f'{words[:WORDS_AT_MOST]}..'
+                    for words in (' '.join(call_of(one).split()), one.answer))
+    latency = 'no latency' if one.latency is None else f'{milliseconds(one.latency)} ms'
+    where = f'connection {one.part.number} client record {one.record}, frame {one.frame}'
+    return Dot(one.time - begun, one.latency, one.is_error, f'{call}: {answer}; {where}, {latency}')

@@ -162,11 +162,6 @@ def following(text: str | None) -> frozenset[str]:
     return frozenset() if named is None else FOLLOWING - named
 
 
-def besides(mask: Mask, before: Mask) -> Mask:
-    """Returns the classes that one mask masks in another way than the one before."""
-    return {name: way for name, way in mask.items() if before.get(name) is not way}
-
-
 def told(mask: Mask) -> str:
     """Returns the mask as `--mask` takes it."""
     return ','.join(f'{name}={way.value}' for name, way in mask.items()) or 'none'
