@@ -6,6 +6,7 @@ A name is asked about only if its directory has been seen at rest as well. Hidde
 """
 from __future__ import annotations
 
+from ..exchanges.objects import DOTS
 from ..exchanges.values import seconds
 from .alone import BESIDE, broken, broken_by, of_made
 from .objects import HIDDEN, Content, Name, Named, Object, Objects, Part
@@ -13,7 +14,7 @@ from .recorded import (
     END, LISTINGS, NEVER, OF_CONTENT, OF_NAMES, REMOVES, UNCHECKED, Exchange, Recorded)
 from .rules import Finding, Looked, Source
 
-UNSTABLE, DOTS = 0, ('.', '..')
+UNSTABLE = 0
 Verifier = tuple[str, str, str]  # its server, what it is, and its digits
 
 
