@@ -10,7 +10,7 @@ from pathlib import Path
 
 from examples.messages import Bodies, word
 from tools.nfs3tools.comparison.values.classes import CLASSES, Mask, ValueClass, Way
-from tools.nfs3tools.shared.layouts import Item, Message, Procedure, procedure_of
+from tools.nfs3tools.shared.layouts import BodyReader, PlacedItem, Procedure, procedure_of
 
 TOP = Path(__file__).resolve().parents[2]
 
@@ -18,7 +18,7 @@ NF3DIR = '2'
 SILLY_NAME = re.compile(rb'\.nfs[0-9a-f]{24}')
 
 
-def with_changing(items: Iterable[Item], is_call: bool) -> Iterator[tuple[Item, bool]]:
+def with_changing(items: Iterable[PlacedItem], is_call: bool) -> Iterator[tuple[PlacedItem, bool]]:
     """Yields each item, and whether others may change meanwhile what it says if it is a size or a
     count of links: it is of a reply, in the attributes of a directory, or after the word that
     begins wcc_data (RFC 1813, section 2.6)."""
@@ -59,9 +59,9 @@ class Masker:
 
     def body(self, body: bytes, is_call: bool, procedure: Procedure) -> bytes:
         """Returns the body of a well-formed message with its masked values."""
-        message = Message(body)
+        message = BodyReader(body)
         message.read(is_call, procedure)
-        out, named = bytearray(body), list[tuple[ValueClass, Item]]()
+        out, named = bytearray(body), list[tuple[ValueClass, PlacedItem]]()
         for item, is_changing in with_changing(message.items, is_call):
             owner = self.class_of(item.name, body[item.begin:item.end], is_call, is_changing)
             if item.name == 'rest' and 'raw' in self.mask:
@@ -89,7 +89,7 @@ class Masker:
         return b'' if owner.name == 'machines' else b'.nfs' + b'0' * 24
 
 
-def put_text(body: bytearray, item: Item, text: bytes) -> int:
+def put_text(body: bytearray, item: PlacedItem, text: bytes) -> int:
     """Puts a text in place of one, with its length and residual bytes, and returns how many bytes
     more there are."""
     begin, end = item.begin - 4, item.end + -(item.end - item.begin) % 4

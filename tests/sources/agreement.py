@@ -447,7 +447,7 @@ def classes_of_the_mask(tools: Tools) -> None:
     rows of the table of classes, in order."""
     ways = classes.usual_ways()
     tools.want('classes', len(ways), 13)
-    tools.want('classes of the tools', list(values.BY_NAME), list(ways))
+    tools.want('classes of the tools', list(values.CLASSES_BY_NAME), list(ways))
     for path, names in classes.listed().items():
         tools.want(path, names, list(ways))
     for path, told in classes.with_ways().items():

@@ -24,7 +24,7 @@ from ..nfs3tools.recordings.container import capture_of
 from ..nfs3tools.recordings.frames import Source
 from ..nfs3tools.recordings.selection import Options
 from ..nfs3tools.recordings.taken import NotTaken, Taken, take_from
-from ..nfs3tools.reporting.messages import add_options, lines_of, options_of, parser_of
+from ..nfs3tools.reporting.messages import add_options, options_of, parser_of, recording_lines
 from ..nfs3tools.shared.progress import Progress
 from .forks import ended_in_fork
 
@@ -186,7 +186,7 @@ class Tools(Runs):
             self.want(what, str(refused), wanted)
             return []
         self.want(what, b''.join(capture_of(taken.pairs())), packed(*wanted))
-        return lines_of(taken)
+        return recording_lines(taken)
 
     def told(self, what: str, recording: bytes, wanted: list[Streams], lines: list[str],
              **options: typing.Any) -> None:

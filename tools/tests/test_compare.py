@@ -12,7 +12,7 @@ from examples.packets import Talk, pcap
 from tests.shared.traffic import Names, Traffic
 
 from ..nfs3tools.comparison.exchanges.matching import aligned, blocks_of, increasing
-from ..nfs3tools.comparison.values.classes import CLASSES, default_mask, told
+from ..nfs3tools.comparison.values.classes import CLASSES, default_mask, mask_text
 from .cases import FolderTest
 from .comparisons import Comparisons, Conversation, Exchange, conversation_of, is_unchecked
 from .scripts import CHANGED, FIRST, SECOND, measured
@@ -169,7 +169,7 @@ def ordinary_runs(place: Comparisons) -> None:
         place.put_both(Made(seed).conversation(), Made(seed + 100).conversation())
         status, out, error = place.compare('a', 'b')
         place.want('seed %d' % seed, (status, out[0], out[2:], error),
-                   (0, 'masked: ' + told(default_mask()), [], ''))
+                   (0, 'masked: ' + mask_text(default_mask()), [], ''))
     status, out, _ = place.compare('--mask', 'none', 'a', 'b')
     place.want('without a mask', (status, out[0], out[1].startswith('differ at ')),
                (1, 'masked: none', True))

@@ -12,10 +12,10 @@ import xml.etree.ElementTree
 from examples.messages import MOUNT, NFS, call, fh, success
 from examples.packets import ACK, CLIENT, FIN, RST, SERVER, Talk, datagram, ethernet, pcap, segment
 
-from ..nfs3tools.commands.verdicts import json_of, junit_of
+from ..nfs3tools.commands.verdicts import json_of_verdicts, junit_of_verdicts
 from ..nfs3tools.judgement.verdict import Verdict, counts_after, is_row, status_of
 from ..nfs3tools.recordings.coverage import Allowed
-from ..nfs3tools.reporting.messages import ports_of
+from ..nfs3tools.reporting.messages import port_numbers
 from .cases import FolderTest
 from .recordings import (
     enhanced, fragments, fragments_6, in_geneve, in_gre, in_labels, in_session, in_snap, in_vxlan,
@@ -291,7 +291,7 @@ def words_on_the_command_line(tools: Tools) -> None:
 
 def words_in_files(tools: Tools, case: Case, verdicts: list[Verdict]) -> None:
     """The same in JSON and JUnit."""
-    written = json.loads(json_of(verdicts))
+    written = json.loads(json_of_verdicts(verdicts))
     rows = [row for row in written['rows'] if row['shows_calls']][1:]
     tools.want(case.what + ', rows', [(row['state'], row['message']) for row in rows],
                [*zip(case.states, case.messages)])
@@ -302,7 +302,7 @@ def words_in_files(tools: Tools, case: Case, verdicts: list[Verdict]) -> None:
            for number, name in (word.split(' ', 1) for word in case.raw.split(', ') if word)}
     tools.want(case.what + ', counts', (written['version'], written['counts']),
                (2, {**named, 'raw': raw}))
-    suite = xml.etree.ElementTree.fromstring(junit_of(verdicts, Allowed()).decode())[0]
+    suite = xml.etree.ElementTree.fromstring(junit_of_verdicts(verdicts, Allowed()).decode())[0]
     properties = {item.get('name'): item.get('value') for item in suite.iter('property')}
     tools.want(case.what + ', properties', properties,
                {**{name: str(number) for name, number in named.items()}, 'raw': case.raw})
@@ -371,7 +371,7 @@ def ports_that_are_chosen(tools: Tools) -> None:
                         sums(found, left_out=left, errors=int(not found))))
     for ports in ('', '2049,', 'nfs', '0', '65536', '-1', '2049,2049'):
         try:
-            tools.want(f'no ports: {ports}', ports_of(ports), 'refused')
+            tools.want(f'no ports: {ports}', port_numbers(ports), 'refused')
         except argparse.ArgumentTypeError as refused:
             tools.want(f'no ports: {ports}', str(refused), f'no ports: {ports}')
 

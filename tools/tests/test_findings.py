@@ -10,9 +10,9 @@ from examples.messages import (
     hyper, ok, opaque, post_op_attr, sattr, set_to_client_time, success, wcc, word)
 
 from ..nfs3tools.exchanges.listing import Message, messages_of
-from ..nfs3tools.comparison.values.long_values import apart
+from ..nfs3tools.comparison.values.long_values import parting_between
 from ..nfs3tools.comparison.verdict.differences import Comparison
-from ..nfs3tools.reporting.telling import of_difference
+from ..nfs3tools.reporting.telling import difference_lines
 from .cases import FolderTest
 from .comparisons import Comparisons, Conversation, conversation_of
 from .scripts import CHANGED, EXAMPLES, FIRST
@@ -105,7 +105,7 @@ def values_that_part(place: Findings) -> None:
         places = [at for at, (byte, to) in enumerate(zip(one, other)) if byte != to]
         wanted = (places or [min(len(one), len(other))])[0], len(places), (len(one), len(other))
         for spell in (bytes.hex, listed_string):
-            found = apart(spell(one), spell(bytes(other)), 1_000)
+            found = parting_between(spell(one), spell(bytes(other)), 1_000)
             place.want('where', ((found.at, found.differing, found.sizes), found.offset),
                        (wanted, 1_000 + wanted[0]))
             place.want('what is shown', found.shown[0] != found.shown[1], True)
@@ -159,7 +159,7 @@ def long_handles(place: Findings) -> None:
         both.append(list(messages_of(place.run('show', 'a')[1].splitlines())))
     comparison = Comparison({})
     lines = [line for pair in zip(*both) for difference in comparison.of_messages(*pair)
-             for line in of_difference(difference)]
+             for line in difference_lines(difference)]
     place.want('the same bytes for another file', lines, [
         '  - rest=00000004 62626262',
         '  + rest=00000004 61616161    # 4 of 8 bytes differ, the first at byte 4; '

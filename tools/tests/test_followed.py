@@ -254,7 +254,7 @@ def differences(program: str, recording: bytes, options: Options) -> list[str]:
 def compared(program: str, seed: int, is_forgetting: bool) -> list[str]:
     """What is wrong with the rows of a seed."""
     recording = Make(random.Random(seed), seed, is_forgetting).recording()
-    sizes = {'SECTION': SMALL, 'KEPT_AT_MOST': 8 * SMALL,
+    sizes = {'SECTION_SIZE': SMALL, 'CONNECTION_BYTES_AT_MOST': 8 * SMALL,
              'FIRST_SIZE': SMALL // 4} if is_forgetting else {}
     with patch.multiple(following, **sizes) if sizes else contextlib.nullcontext():
         return [f'seed {seed}: {wrong}' for wrong in differences(program, recording, Options())]

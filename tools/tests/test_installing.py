@@ -15,7 +15,7 @@ from collections.abc import Callable
 
 from examples.messages import NFS, call
 from tests.shared.running import Answer, Runs, begin, ended, pipe_of, program_named
-from ..nfs3tools.comparison.values.classes import BY_NAME
+from ..nfs3tools.comparison.values.classes import CLASSES_BY_NAME
 from .cases import FolderTest
 from .scripts import TOP, packed, stream
 
@@ -247,7 +247,7 @@ OFFERED = {'nfs3canon': '--version', 'nfs3mask': '--version', 'nfs3-from-pcap': 
 OFFERED_WORDS: dict[str, list[str]] = {
     'nfs3-compare --mask ti': ['times'],
     'nfs3-compare --mask times,cookie': ['times,cookies', 'times,cookieverfs'],
-    'nfs3-compare --mask ': ['none', *BY_NAME], 'nfs3-compare --order ': ['any', 'strict'],
+    'nfs3-compare --mask ': ['none', *CLASSES_BY_NAME], 'nfs3-compare --order ': ['any', 'strict'],
     'nfs3-calls --sort ': ['latency', 'time'], 'nfs3-calls --sl': ['--slow'], 'nfs3-compare ': [],
     'nfs3-where ': []}
 # Each script prints what a shell offers. The words are the name and the file or folder of

@@ -10,7 +10,7 @@ from ..nfs3tools.recordings.container import capture_of
 from ..nfs3tools.recordings.frames import Frame
 from ..nfs3tools.recordings.segments import Segments
 from ..nfs3tools.recordings.taken import NotTaken, Taken
-from ..nfs3tools.reporting.messages import lines_of
+from ..nfs3tools.reporting.messages import recording_lines
 from ..nfs3tools.shared.places import SIDES
 from .cases import FolderTest
 from .recordings import fragments, pcapng
@@ -178,7 +178,7 @@ def checked(tools: Tools, what: str, conversation: Conversation, present: list[i
                [])
     kept = messages_in(taken)
     tools.want(what + ', kept', kept >= 0.9 * whole_messages(conversation, set(present)), True)
-    told = [line for line in lines_of(taken) if ': client ' not in line]
+    told = [line for line in recording_lines(taken) if ': client ' not in line]
     tools.want(what + ', told', bool(told) or not is_shown(conversation, set(present)), True)
 
 

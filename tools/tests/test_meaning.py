@@ -16,11 +16,11 @@ from examples.messages import (
     made, nfstime, ok, opaque, optional, post_op_attr, sattr, set_to_client_time, success, word)
 from examples.packets import Talk
 from tools.nfs3tools.exchanges.kept import Kept
-from tools.nfs3tools.exchanges.stored import Values
+from tools.nfs3tools.exchanges.stored import LongValues
 from tools.nfs3tools.judgement.verdict import Verdict, kept_in
 from tools.nfs3tools.meaning.across import findings_in
-from tools.nfs3tools.meaning.recorded import Exchange, Recorded
-from tools.nfs3tools.meaning.rules import BY_NAME, Looked
+from tools.nfs3tools.meaning.recorded import Recorded, RecordedExchange
+from tools.nfs3tools.meaning.rules import RULES, Looked
 from tools.nfs3tools.recordings.selection import Options
 from tools.nfs3tools.recordings.taken import take
 
@@ -242,7 +242,7 @@ def meaning(tools: Tools, *words: str) -> tuple[int, Any]:
 
 def a_fault_of_each_rule(tools: Tools) -> None:
     """Each is found, and nothing else; what is sound beside it passes."""
-    tools.want('rules', sorted(case.rule for case in CASES), sorted(BY_NAME))
+    tools.want('rules', sorted(case.rule for case in CASES), sorted(RULES))
     frames = [frame for number, case in enumerate(CASES)
               for frame in (*frames_of(2 * number, case.before + case.broken),
                             *frames_of(2 * number + 1, case.before + case.sound))]
@@ -339,12 +339,12 @@ def a_capture(tools: Tools) -> None:
 def the_manual_page(tools: Tools) -> None:
     """It has each rule of the table."""
     page = (TOP / 'tools/man/meaning.1').read_text()
-    rows = [line for rule in BY_NAME.values() for line in (
+    rows = [line for rule in RULES.values() for line in (
         '.TP', f'.BR {rule.name} " (" {rule.section} ", {rule.by})"'.replace('-', '\\-'),
         f'{rule.sentence[0].upper()}{rule.sentence[1:]}.')]
     tools.want('rules', [line for line in rows if line not in page.splitlines()], [])
     tools.want('number', page.partition('.SH RULES')[2].partition('.SH')[0].count('.TP'),
-               len(BY_NAME))
+               len(RULES))
 
 
 # --- One item changed, and exchanges hidden ---
@@ -353,11 +353,11 @@ class Changed(Recorded):
     """Recorded exchanges, one of which says something else."""
 
     def __init__(self, kept: Kept, number: int,
-                 change: Callable[[Exchange], Optional[Exchange]]) -> None:
+                 change: Callable[[RecordedExchange], Optional[RecordedExchange]]) -> None:
         self.number, self.change = number, change
         super().__init__(kept)
 
-    def exchange(self, number: int) -> Exchange:
+    def exchange(self, number: int) -> RecordedExchange:
         one = super().exchange(number)
         return self.change(one) or one if number == self.number else one
 
@@ -369,11 +369,11 @@ class Hiding(Recorded):
         self.hidden = hidden
         super().__init__(kept)
 
-    def note_change(self, one: Exchange) -> None:
+    def note_change(self, one: RecordedExchange) -> None:
         if one.source.number not in self.hidden:
             super().note_change(one)
 
-    def answered(self) -> Iterator[Exchange]:
+    def answered(self) -> Iterator[RecordedExchange]:
         return (one for one in super().answered() if one.source.number not in self.hidden)
 
 
@@ -382,7 +382,7 @@ def recorded_in(path: Path) -> Iterator[Recorded]:
     """The exchanges of a recording."""
     with take(str(path), Options(), shows_progress=False) as taken:
         verdicts = [Verdict(str(path), one.number) for one in taken.connections]
-        with contextlib.closing(kept_in(PROGRAM, taken, verdicts, Values())) as kept:
+        with contextlib.closing(kept_in(PROGRAM, taken, verdicts, LongValues())) as kept:
             recorded = Recorded(kept)
             yield recorded
             if recorded.values.file:
@@ -399,10 +399,10 @@ class Plant(NamedTuple):
     procedures: str
     is_call: bool
     item: str
-    value: Callable[[Any, Exchange], Any]
-    is_fit: Callable[[Exchange], Any] = lambda one: True
+    value: Callable[[Any, RecordedExchange], Any]
+    is_fit: Callable[[RecordedExchange], Any] = lambda one: True
 
-    def changed(self, one: Exchange) -> Optional[Exchange]:
+    def changed(self, one: RecordedExchange) -> Optional[RecordedExchange]:
         """Returns an exchange with the change, or None if it has no such item."""
         values = one.call if self.is_call else one.reply
         names = [name for name in values if name == self.item or name.endswith('.' + self.item)]
@@ -416,24 +416,24 @@ class Plant(NamedTuple):
         return one
 
 
-def more(step: int) -> Callable[[Any, Exchange], int]:
+def more(step: int) -> Callable[[Any, RecordedExchange], int]:
     return lambda value, one: int(value) + step
 
 
-def bit(mask: int) -> Callable[[Any, Exchange], int]:
+def bit(mask: int) -> Callable[[Any, RecordedExchange], int]:
     return lambda value, one: int(value) ^ mask
 
 
-def other_byte(data: Any, one: Exchange) -> bytes:
+def other_byte(data: Any, one: RecordedExchange) -> bytes:
     whole = data if isinstance(data, bytes) else data.read(0, data.size)
     return whole[:-1] + bytes([whole[-1] ^ 1]) if whole else whole
 
 
-def other_digit(value: Any, one: Exchange) -> str:
+def other_digit(value: Any, one: RecordedExchange) -> str:
     return f'{value[:-1]}{"1" if value[-1] == "0" else "0"}'
 
 
-def in_entry(name: str, value: Callable[[Any], Any]) -> Callable[[Any, Exchange], Any]:
+def in_entry(name: str, value: Callable[[Any], Any]) -> Callable[[Any, RecordedExchange], Any]:
     """Changes the third entry of a directory."""
     return lambda items, one: [{**item, name: value(item[name])} if at == 2 and name in item
                                else item for at, item in enumerate(items)]

@@ -12,7 +12,7 @@ from examples.packets import Talk, pcap
 
 from ..nfs3tools.recordings.selection import Options
 from ..nfs3tools.recordings.taken import take
-from ..nfs3tools.shared.layouts import BY_NAME, Item, Message as Body, procedures
+from ..nfs3tools.shared.layouts import BY_NAME, BodyReader as Body, PlacedItem, procedures
 from .cases import FolderTest
 from .comparisons import Comparisons
 from .scripts import TOP
@@ -55,7 +55,7 @@ class Said:
     def xid(self) -> tuple[int, bytes]:
         return self.connection, self.body[:4]
 
-    def items(self) -> list[Item]:
+    def items(self) -> list[PlacedItem]:
         body = Body(self.body)
         body.read(self.side == 0, BY_NAME[self.procedure])
         return body.items
@@ -113,7 +113,7 @@ class Plant(NamedTuple):
     body: bytes
 
 
-def other_value(said: Said, item: Item, chance: random.Random) -> bytes:
+def other_value(said: Said, item: PlacedItem, chance: random.Random) -> bytes:
     """Another value of a field: one more, another of few, or another byte of data."""
     value = said.body[item.begin:item.end]
     if item.name in WORDS:
@@ -127,9 +127,9 @@ def other_value(said: Said, item: Item, chance: random.Random) -> bytes:
     return value[:at] + bytes([value[at] ^ 1]) + value[at + 1:]
 
 
-def fields_of(run: Run) -> dict[tuple[str, ...], list[tuple[int, Item]]]:
+def fields_of(run: Run) -> dict[tuple[str, ...], list[tuple[int, PlacedItem]]]:
     """All fields that may be changed, by procedures, sides and names."""
-    out = defaultdict[tuple[str, ...], list[tuple[int, Item]]](list)
+    out = defaultdict[tuple[str, ...], list[tuple[int, PlacedItem]]](list)
     for at, said in enumerate(run):
         for item in said.items():
             plain = '(' not in item.name and item.name not in LEFT

@@ -23,7 +23,7 @@ from tests.shared.running import ended
 from ..nfs3tools.recordings.frames import Recording, Source, opened
 from ..nfs3tools.recordings.taken import share_of, size_of
 from ..nfs3tools.shared.progress import Progress
-from ..nfs3tools.shared.screens import Colour, Screen, Styled, lines_of, panels
+from ..nfs3tools.shared.screens import Colour, Screen, Styled, panels, table_lines
 from .cases import FolderTest
 from .comparisons import Comparisons
 from .scripts import TOP, Tools, connection_of, sums, whole
@@ -86,16 +86,16 @@ def lines_that_fit_are_as_elsewhere(tools: Tools) -> None:
     fitting = ['name      n   what', 'abc       12  one two three four five six seven',
                'abcdefgh  3   -']
     for width in (None, 47):
-        tools.want(f'{width} columns', list(lines_of(rows, Screen(width))), fitting)
-    tools.want('wrapped', list(lines_of(rows, Screen(38))),
+        tools.want(f'{width} columns', list(table_lines(rows, Screen(width))), fitting)
+    tools.want('wrapped', list(table_lines(rows, Screen(38))),
                ['name      n   what', 'abc       12  one two three four five',
                 ' ' * 14 + 'six seven', 'abcdefgh  3   -'])
-    tools.want('below', list(lines_of(rows, Screen(37))),
+    tools.want('below', list(table_lines(rows, Screen(37))),
                ['name      n', '    what', 'abc       12', '    one two three four five six seven',
                 'abcdefgh  3', '    -'])
-    tools.want('colour', list(lines_of(rows, Screen(None, True))),
+    tools.want('colour', list(table_lines(rows, Screen(None, True))),
                [*fitting[:2], f'abcdefgh  3   {RED}-{END}'])
-    tools.want('to the right', list(lines_of(rows, Screen(), [1]))[2], 'abcdefgh   3  -')
+    tools.want('to the right', list(table_lines(rows, Screen(), [1]))[2], 'abcdefgh   3  -')
 
 
 def panels_repeat_the_first_column(tools: Tools) -> None:

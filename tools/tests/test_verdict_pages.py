@@ -9,7 +9,7 @@ from examples.messages import (
     success)
 from examples.packets import Talk, pcap
 
-from ..nfs3tools.pages.time_line import COLUMNS, Dot, TimeLine, of_time_line
+from ..nfs3tools.pages.time_line import PIXEL_COLUMNS, Dot, TimeLine, of_time_line
 from .cases import FolderTest
 from .pages import (
     HERE, HOSTILE, SHOWN, VISIBLE, WIDTHS, Node, Pages, asked_of_others, broken_links, find,
@@ -265,7 +265,7 @@ def many_calls(tools: Written) -> None:
     dots = dots_of(page)
     errors = [int(dot[3][2]) for dot in dots if dot[0] == 'bad']
     tools.want('errors', errors[:ERRORS_AT_MOST], [*range(2, 2 * ERRORS_AT_MOST + 1, 2)])
-    tools.want(f'{len(dots)} dots', len(dots) - len(errors) <= COLUMNS < len(dots), True)
+    tools.want(f'{len(dots)} dots', len(dots) - len(errors) <= PIXEL_COLUMNS < len(dots), True)
     said = re.search(r'([\d,]+) of 22,000 calls are drawn: .* ([\d,]+) are left out, ([\d,]+) of '
                      r'them errors', page.text())
     tools.want('said', said and [int(word.replace(',', '')) for word in said.groups()],

@@ -9,12 +9,12 @@ from __future__ import annotations
 
 from collections.abc import Callable
 
-from ..shared.layouts import Body, Item, Message, Procedure, procedure_of
+from ..shared.layouts import Body, BodyReader, PlacedItem, Procedure, procedure_of
 from ..shared.places import Place
-from .located import HEAD_OF_CALL, Call, Found, call_of, numbers_in
+from .located import UP_TO_PROCEDURE, Call, FoundRecord, call_with_xid, numbers_in
 
 LINES_AROUND = 8  # of 16 bytes, before and after the byte of a long record
-SHOWN_AT_MOST = 100  # bytes of an item
+ITEM_BYTES_AT_MOST = 100  # bytes of an item
 Tell = Callable[[str], object]
 
 # What reasons of the program mean.
@@ -41,16 +41,17 @@ REASONS = {
     'XidConflict': 'an earlier call of the connection has this xid and another procedure'}
 
 
-def tell_record(found: Found, place: Place, reason: str | None, tell: Tell) -> None:
+def tell_record(found: FoundRecord, place: Place, reason: str | None, tell: Tell) -> None:
     """Tells the item at a byte, with why it is refused, or all items."""
-    head, is_call = found.body[:HEAD_OF_CALL], place.side == 'client'
-    call = None if is_call else call_of(found.calls, head[:4])
+    head, is_call = found.body[:UP_TO_PROCEDURE], place.side == 'client'
+    call = None if is_call else call_with_xid(found.calls, head[:4])
     procedure = tell_heading(place, found.body, call, tell)
     if place.byte is None:
         tell_items(found.body, is_call, procedure, tell)
         return
     begin, end = tell_item(found.body, is_call, procedure, place.byte, tell)
-    earlier = call_of(found.calls, head[:4], place.record) if reason == 'XidConflict' else None
+    earlier = (call_with_xid(found.calls, head[:4], place.record)
+               if reason == 'XidConflict' else None)
     if earlier:
         name = procedure_of(*earlier.numbers).name
         tell('earlier: client record %d, %s' % (earlier.record, name))
@@ -60,9 +61,9 @@ def tell_record(found: Found, place: Place, reason: str | None, tell: Tell) -> N
 
 def tell_heading(place: Place, body: Body, call: Call | None, tell: Tell) -> Procedure | None:
     """Tells what the message is, and returns its procedure if that is known."""
-    head, is_call = body[:HEAD_OF_CALL], place.side == 'client'
+    head, is_call = body[:UP_TO_PROCEDURE], place.side == 'client'
     numbers = call.numbers if call else numbers_in(head)
-    procedure = procedure_of(*numbers) if call or is_call and len(head) == HEAD_OF_CALL else None
+    procedure = procedure_of(*numbers) if call or is_call and len(head) == UP_TO_PROCEDURE else None
     named = ('%s of program %d, version %d, procedure %d' % (procedure.name, *numbers) if procedure
              else 'of a procedure that is not known')
     tell('%s: %s %s' % (place._replace(byte=None), 'call' if is_call else 'reply', named))
@@ -74,14 +75,14 @@ def tell_heading(place: Place, body: Body, call: Call | None, tell: Tell) -> Pro
 
 def tell_items(body: Body, is_call: bool, procedure: Procedure | None, tell: Tell) -> None:
     """Tells all items that have bytes, up to the end or to the first that is at fault."""
-    last = list[Item]()
+    last = list[PlacedItem]()
 
-    def look(item: Item) -> None:
+    def look(item: PlacedItem) -> None:
         last[:] = [item]
         if item.begin < item.end or not item.is_whole:
-            tell(line_of(item))
+            tell(item_line(item))
 
-    message = Message(body, look, SHOWN_AT_MOST)
+    message = BodyReader(body, look, ITEM_BYTES_AT_MOST)
     if not message.read(is_call, procedure):
         tell('allowed: %s' % last[0].allowed)
     if message.at < len(body):
@@ -92,16 +93,16 @@ def tell_items(body: Body, is_call: bool, procedure: Procedure | None, tell: Tel
 def tell_item(body: Body, is_call: bool, procedure: Procedure | None, byte: int,
               tell: Tell) -> tuple[int, int]:
     """Tells the item at a byte, and returns where it begins and ends."""
-    found = list[Item]()
+    found = list[PlacedItem]()
 
-    def look(item: Item) -> None:
+    def look(item: PlacedItem) -> None:
         is_there = item.begin <= byte < item.end or item.begin == byte and not item.is_whole
         if not found and is_there:
             found.append(item)
 
-    Message(body, look, SHOWN_AT_MOST).read(is_call, procedure)
+    BodyReader(body, look, ITEM_BYTES_AT_MOST).read(is_call, procedure)
     for item in found:
-        tell(line_of(item, byte))
+        tell(item_line(item, byte))
         tell('allowed: %s' % item.allowed)
         return item.begin, item.end
     is_within = byte < len(body)
@@ -110,16 +111,16 @@ def tell_item(body: Body, is_call: bool, procedure: Procedure | None, byte: int,
     return byte, len(body)
 
 
-def line_of(item: Item, byte: int | None = None) -> str:
+def item_line(item: PlacedItem, byte: int | None = None) -> str:
     """The line of an item, which is at this byte."""
-    value = item.value + '..' if item.end - item.begin > SHOWN_AT_MOST else item.value
-    remarks = ': '.join(filter(None, (item.meaning, remark_on(item))))
+    value = item.value + '..' if item.end - item.begin > ITEM_BYTES_AT_MOST else item.value
+    remarks = ': '.join(filter(None, (item.meaning, remark_on_item(item))))
     return 'byte %d: %s = %s%s' % (item.begin if byte is None else byte, item.name,
                                    value or 'nothing, since the body ends here',
                                    ' (%s)' % remarks if remarks else '')
 
 
-def remark_on(item: Item) -> str:
+def remark_on_item(item: PlacedItem) -> str:
     """What is valid in an item and still not as RFC 1813 means it (section 2.5): bits of
     a mode beyond its twelve, and a second in nanoseconds."""
     if item.is_whole and item.name == 'mode' and int(item.value) & ~0o7777:

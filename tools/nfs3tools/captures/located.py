@@ -17,19 +17,20 @@ from ..recordings.container import Container, capture_of
 from ..recordings.frames import NoRecording, Recording, Source, opened
 from ..recordings.parts import files_of
 from ..recordings.records import (
-    LONGEST_BODY, READ_AT_ONCE, Extent, Window, body_of, extents, fragments, xids)
+    FETCHED_AT_ONCE, LONGEST_BODY, Extent, Window, body_of, extents, fragments, xids)
 from ..recordings.selection import Options
 from ..recordings.spool import Spool, Stored
-from ..recordings.taken import FrameRef, NotTaken, Taken, TakenStream, bytes_of, copied, take, whole
+from ..recordings.taken import (
+    FrameRef, NotTaken, Taken, TakenStream, copied, range_of_place, take, whole)
 from ..recordings.unpacking import Damaged
 from ..shared.kinds import MAGICS
 from ..shared.places import SIDES, FilePlace, FramePlace, NoPlace, Place, Side
 
 # Bytes: the xid, mtype and rpcvers, and then the program, the version and the procedure.
-HEAD_OF_CALL = 24
+UP_TO_PROCEDURE = 24
 
 
-class Body:
+class StoredBody:
     """The bytes of a record's body, of which a piece at a time is in memory."""
 
     def __init__(self, stored: Stored) -> None:
@@ -43,10 +44,10 @@ class Body:
         return self.window.read(begin, max(0, end - begin))
 
 
-class Found(typing.NamedTuple):
+class FoundRecord(typing.NamedTuple):
     """A record: its body, the client's stream of its connection, and the frames that carry its
     place, of a recording."""
-    body: Body
+    body: StoredBody
     calls: TakenStream
     frames: list[FrameRef]
 
@@ -57,7 +58,7 @@ class Call(typing.NamedTuple):
     numbers: tuple[int, int, int]
 
 
-class Part(typing.NamedTuple):
+class CapturePart(typing.NamedTuple):
     """A part of a capture: what it is, and where it begins and ends."""
     what: str
     begin: int
@@ -73,7 +74,7 @@ class Within:
     def source(self) -> Source:
         """The bytes of the capture, from the first one on."""
         if self.taken is not None:
-            return Source(Joined(capture_of(self.taken.pairs())))
+            return Source(JoinedBlocks(capture_of(self.taken.pairs())))
         assert self.file is not None
         self.file.seek(0)
         return Source(self.file)
@@ -90,26 +91,26 @@ class Within:
         return (TakenStream(stored[0], None, whole(stored[0])),
                 TakenStream(stored[1], None, whole(stored[1])))
 
-    def record(self, place: Place) -> Found:
+    def record(self, place: Place) -> FoundRecord:
         """Returns what a place names. Raises `NoPlace` if there is no such record or byte."""
         streams = self.streams(place.connection)
         stream = streams[SIDES.index(place.side)]
         extent = extent_of_record(stream, place.record)
         if extent is None:
             raise NoPlace(f'there is no {place._replace(byte=None)}')
-        frames = stream.frames(*bytes_of(stream, extent, place))
-        return Found(self.body(stream, extent), streams[0], frames)
+        frames = stream.frames(*range_of_place(stream, extent, place))
+        return FoundRecord(self.body(stream, extent), streams[0], frames)
 
-    def body(self, stream: TakenStream, extent: Extent) -> Body:
+    def body(self, stream: TakenStream, extent: Extent) -> StoredBody:
         """Copies the body of a record, of one that is too long the first 16,777,216 bytes."""
         stored = Stored(self.spool)
         for begin, end in fragments(Window(stream), extent):
             end = min(end, begin + LONGEST_BODY - stored.size)
-            for at in range(begin, end, READ_AT_ONCE):
-                stored.append(stream.read(at, min(READ_AT_ONCE, end - at)))
-        return Body(stored)
+            for at in range(begin, end, FETCHED_AT_ONCE):
+                stored.append(stream.read(at, min(FETCHED_AT_ONCE, end - at)))
+        return StoredBody(stored)
 
-    def part(self, place: FilePlace) -> Part:
+    def part(self, place: FilePlace) -> CapturePart:
         """Returns the part of the capture that a byte is in, or after which the file ends. Raises
         `NoPlace` if there is none."""
         for part in Parts(self.source()).all():
@@ -137,13 +138,13 @@ def extent_of_record(stream: TakenStream, number: int) -> Extent | None:
     return next((extent for at, extent in numbered if at == number), None)
 
 
-def call_of(calls: TakenStream, xid: bytes, but: int | None = None) -> Call | None:
+def call_with_xid(calls: TakenStream, xid: bytes, but: int | None = None) -> Call | None:
     """Returns the first call with an xid, if there is one; a record number can be left out."""
     window = Window(calls)
     for number, (extent, one, _) in enumerate(xids(window, 0, calls.size), 1):
         if one == int.from_bytes(xid, 'big') and number != but:
-            head = body_of(window, extent, HEAD_OF_CALL)
-            if len(head) == HEAD_OF_CALL:
+            head = body_of(window, extent, UP_TO_PROCEDURE)
+            if len(head) == UP_TO_PROCEDURE:
                 return Call(number, numbers_in(head))
     return None
 
@@ -162,7 +163,7 @@ class Parts:
     def __init__(self, source: Source) -> None:
         self.source, self.at = source, 0
 
-    def all(self) -> typing.Iterator[Part]:
+    def all(self) -> typing.Iterator[CapturePart]:
         parts_of_connection, number = (
             self.in_turn if self.source.peek(8)[7:] == b'2' else self.of_streams, 0)
         yield self.part('the magic', 8)
@@ -171,23 +172,23 @@ class Parts:
             yield self.part(f'the word 1 before connection {number}', 4)
             yield from parts_of_connection(f'connection {number}')
         yield self.part('the word after the last connection, 0', 4)
-        yield Part('what follows the end', self.at, sys.maxsize)
+        yield CapturePart('what follows the end', self.at, sys.maxsize)
 
-    def of_streams(self, connection: str) -> typing.Iterator[Part]:
+    def of_streams(self, connection: str) -> typing.Iterator[CapturePart]:
         """Iterates over the parts of a connection of version 1."""
         for side in SIDES:
             while self.word():
                 yield from self.chunk(connection, side)
             yield self.part(f'the end of the stream of {connection} {side}', 4)
 
-    def in_turn(self, connection: str) -> typing.Iterator[Part]:
+    def in_turn(self, connection: str) -> typing.Iterator[CapturePart]:
         """Iterates over the parts of a connection of version 2."""
         while 0 < (side := self.word()) <= 2:
             yield self.part(f'the side word before a chunk of {connection} {SIDES[side - 1]}', 4)
             yield from self.chunk(connection, SIDES[side - 1])
         yield self.part(f'the side word after the last chunk of {connection}, 0', 4)
 
-    def chunk(self, connection: str, side: Side) -> typing.Iterator[Part]:
+    def chunk(self, connection: str, side: Side) -> typing.Iterator[CapturePart]:
         size = self.word()
         yield self.part(f'the length of a chunk of {connection} {side}, {size}', 4)
         yield self.part(f'a chunk of {connection} {side}', size)
@@ -196,23 +197,23 @@ class Parts:
         """Returns the next word without taking it."""
         return int.from_bytes(self.source.peek(4), 'big')
 
-    def part(self, what: str, size: int) -> Part:
+    def part(self, what: str, size: int) -> CapturePart:
         """Takes a part."""
         skipped(self.source, size)
         begin, self.at = self.at, self.at + size
-        return Part(what, begin, self.at)
+        return CapturePart(what, begin, self.at)
 
 
 def skipped(source: Source, size: int) -> int:
     """Takes bytes for nothing, and returns how many are missing."""
-    while size and (piece := source.take(min(size, READ_AT_ONCE))):
+    while size and (piece := source.take(min(size, FETCHED_AT_ONCE))):
         size -= len(piece)
     return size
 
 
 # --- Opening ---
 
-class Joined:
+class JoinedBlocks:
     """Blocks of bytes, which are read one after the other."""
 
     def __init__(self, blocks: typing.Iterator[bytes]) -> None:

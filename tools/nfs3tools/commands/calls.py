@@ -55,11 +55,11 @@ from collections.abc import Callable, Iterator, Sequence
 from functools import partial
 
 from ..comparison.values.long_values import bytes_of
-from ..exchanges.kept import Exchange, Kept, call_of, host_of
+from ..exchanges.kept import Kept, KeptExchange, call_text, host_of
 from ..judgement.tallies import milliseconds
 from ..judgement.verdict import (
-    VERSION, Verdict, count_unanswered, is_row, kept_in, members_of, named, status_of, sums_of,
-    tell_notes)
+    VERDICTS_VERSION, Verdict, count_unanswered, is_row, kept_in, status_of, subject_of, sums_of,
+    tell_notes, verdict_members)
 from ..judgement.window import ALL, DAY, add_window, window_of
 from ..recordings.coverage import PROCEDURES
 from ..recordings.selection import count, plural
@@ -71,18 +71,19 @@ from ..shared.printed import escaped, printable
 from ..shared.screens import GAP, NARROWEST, Colour, Screen, add_width, screen_of
 from .verdicts import Judge, judge_of
 
-HEADS = ('time', 'ms', 'frame', 'conn', 'call', 'answer')
+CALL_HEADS = ('time', 'ms', 'frame', 'conn', 'call', 'answer')
 RIGHT = 4  # columns that are set to the right
 WIDEST = 72  # of the calls
-AT_ONCE = 1_000  # lines whose columns are set together
-NANOSECONDS = {'us': 1_000, 'ms': 1_000_000, 's': 1_000_000_000}
-COLUMNS = ('recording', 'connection', 'record', 'client', 'server', 'frame', 'time_ns',
-           'latency_ns', 'user', 'procedure', 'path', 'second_path', 'other_names', 'arguments',
-           'sent_again', 'earlier', 'later', 'answer', 'waited_ns', 'is_error', 'replies')
-Wanted = Callable[[Exchange], bool]
+LINES_AT_ONCE = 1_000  # lines whose columns are set together
+NANOSECONDS_OF_UNIT = {'us': 1_000, 'ms': 1_000_000, 's': 1_000_000_000}
+CALL_COLUMNS = ('recording', 'connection', 'record', 'client', 'server', 'frame', 'time_ns',
+                'latency_ns', 'user', 'procedure', 'path', 'second_path', 'other_names',
+                'arguments', 'sent_again', 'earlier', 'later', 'answer', 'waited_ns', 'is_error',
+                'replies')
+Condition = Callable[[KeptExchange], bool]
 
 
-class Listed(typing.NamedTuple):
+class ListedRecording(typing.NamedTuple):
     """A recording whose exchanges are listed: its name, from when times count, `None` for the time
     of day, and the numbers of those that are wanted."""
     recording: str
@@ -90,15 +91,15 @@ class Listed(typing.NamedTuple):
     kept: Kept
     wanted: Sequence[int]
 
-    def exchanges(self) -> Iterator[Exchange]:
+    def exchanges(self) -> Iterator[KeptExchange]:
         return map(self.kept.exchange, self.wanted)
 
 
 # --- What is listed ---
 
-def wanted_by(chosen: argparse.Namespace) -> list[Wanted]:
+def wanted_by(chosen: argparse.Namespace) -> list[Condition]:
     """The conditions of the options, each of which has to hold."""
-    conditions = list[Wanted]()
+    conditions = list[Condition]()
     if chosen.errors:
         conditions.append(lambda one: one.is_error)
     if chosen.no_reply:
@@ -132,7 +133,7 @@ def as_named(path: str) -> str:
 
 
 def listed(judge: Judge, recording: str, chosen: argparse.Namespace,
-           verdicts: list[Verdict]) -> Listed:
+           verdicts: list[Verdict]) -> ListedRecording:
     """Judges a recording or capture, adds its verdicts, and returns the exchanges of the
     connections that were judged."""
     begun, found = list[int](), list[Kept]()
@@ -149,16 +150,16 @@ def listed(judge: Judge, recording: str, chosen: argparse.Namespace,
         order = [at for at in order if window.has(kept.times[at])]
     if conditions:
         order = [at for at in order if holds_all(conditions, kept.exchange(at))]
-    return Listed(recording, None if chosen.utc else sum(begun), kept, order)
+    return ListedRecording(recording, None if chosen.utc else sum(begun), kept, order)
 
 
-def holds_all(conditions: list[Wanted], one: Exchange) -> bool:
+def holds_all(conditions: list[Condition], one: KeptExchange) -> bool:
     return all(holds(one) for holds in conditions)
 
 
 # --- What is printed ---
 
-def time_of(time: int, begun: int | None) -> str:
+def call_time(time: int, begun: int | None) -> str:
     """A time as seconds from the first frame, or as that of the day (UTC)."""
     if time and begun is not None:
         return f'{(time - begun) / 1_000_000_000:.6f}'
@@ -171,15 +172,15 @@ def time_text(time: int) -> str:
     return f'{seconds // 3_600:02}:{seconds // 60 % 60:02}:{seconds % 60:02}.{rest // 1_000:06}'
 
 
-def cells_of(one: Exchange, begun: int | None) -> tuple[str, ...]:
+def cells_of(one: KeptExchange, begun: int | None) -> tuple[str, ...]:
     """The cells of a line."""
     answer = one.answer if one.kept.firsts[one.at] else answer_of(one)
-    return (time_of(one.time, begun),
+    return (call_time(one.time, begun),
             milliseconds(one.latency), str(one.frame or '-'),
-            f'{one.part.number}:{one.record}', call_of(one), answer)
+            f'{one.part.number}:{one.record}', call_text(one), answer)
 
 
-def answer_of(one: Exchange) -> str:
+def answer_of(one: KeptExchange) -> str:
     """What is said of a call without a reply: also for how long it waited."""
     if one.waited is None:
         return one.answer
@@ -189,20 +190,20 @@ def answer_of(one: Exchange) -> str:
     return f'{waited}, {later}' if later else waited
 
 
-class Lines:
+class AlignedLines:
     """Lines of cells. Each block of them is as wide as its cells are, and at least as the block
     before. A long call moves its answer. On a terminal both are wrapped if they are too long."""
 
     def __init__(self, screen: Screen) -> None:
-        self.screen, self.widths = screen, [0] * (len(HEADS) - 1)
-        self.rows: list[tuple[str, ...]] = [HEADS]
+        self.screen, self.widths = screen, [0] * (len(CALL_HEADS) - 1)
+        self.rows: list[tuple[str, ...]] = [CALL_HEADS]
         self.errors = set[int]()  # rows whose answers are errors
 
     def add(self, row: tuple[str, ...], is_error: bool) -> None:
         if is_error:
             self.errors.add(len(self.rows))
         self.rows.append(row)
-        if len(self.rows) > AT_ONCE:
+        if len(self.rows) > LINES_AT_ONCE:
             self.print()
 
     def print(self) -> None:
@@ -242,9 +243,9 @@ class Lines:
                           *(' ' * indent + GAP + one for one in answers)])
 
 
-def print_lines(found: Listed, screen: Screen) -> None:
+def print_lines(found: ListedRecording, screen: Screen) -> None:
     """Prints the lines of a recording."""
-    lines = Lines(screen)
+    lines = AlignedLines(screen)
     for one in found.exchanges():
         lines.add(cells_of(one, found.begun), one.is_error)
     lines.print()
@@ -255,10 +256,10 @@ def tell_verdicts(verdicts: list[Verdict]) -> None:
     tell_notes(verdicts)
     for verdict in verdicts:
         if is_row(verdict) and verdict.state != 'ok':
-            print(printable(f'{named(verdict)}: {verdict.message}'), file=sys.stderr)
+            print(printable(f'{subject_of(verdict)}: {verdict.message}'), file=sys.stderr)
 
 
-def tell_of_times(found: Listed, chosen: argparse.Namespace) -> None:
+def tell_of_times(found: ListedRecording, chosen: argparse.Namespace) -> None:
     """Prints on standard error what is to know of latencies and addresses, if an option asks for
     what is not there."""
     kept, number = found.kept, found.kept.backward
@@ -278,9 +279,9 @@ def tell_of_times(found: Listed, chosen: argparse.Namespace) -> None:
 
 # --- For programs ---
 
-def values_of(one: Exchange, recording: str, is_line: bool) -> Sequence[object]:
-    """The values of COLUMNS; of the replies an object for each. In a line there is their number,
-    and names have spaces between them."""
+def column_values(one: KeptExchange, recording: str, is_line: bool) -> Sequence[object]:
+    """The values of CALL_COLUMNS; of the replies an object for each. In a line there is their
+    number, and names have spaces between them."""
     part, names, replies = one.part, one.other_names, [
         {'record': reply.record, 'frame': reply.frame or None, 'answer': words}
         for reply, words in zip(one.answered, one.answers)]
@@ -297,7 +298,7 @@ class Text:
     def __init__(self, is_one: bool, screen: Screen) -> None:
         self.is_one, self.screen, self.number, self.all = is_one, screen, 0, 0
 
-    def add(self, found: Listed) -> None:
+    def add(self, found: ListedRecording) -> None:
         if not self.is_one:
             print(f'{escaped(found.recording)}:')
         print_lines(found, self.screen)
@@ -315,7 +316,7 @@ def duration(word: str) -> int:
     found = re.fullmatch(r'(\d{1,9}(?:\.\d{1,9})?)(us|ms|s)', word)
     if not found:
         raise argparse.ArgumentTypeError(f'no time: {word} (as in 100ms, 1.5s or 250us)')
-    return round(float(found[1]) * NANOSECONDS[found[2]])
+    return round(float(found[1]) * NANOSECONDS_OF_UNIT[found[2]])
 
 
 def procedure_names(word: str) -> frozenset[str]:
@@ -341,7 +342,7 @@ def user_id(word: str) -> int:
     return int(word)
 
 
-def words_of(words: list[str]) -> argparse.Namespace:
+def command_line_of_calls(words: list[str]) -> argparse.Namespace:
     parser = parser_of(__doc__, 'calls')
     parser.add_argument('--errors', action='store_true',
                         help='lists calls whose reply is no success, or that got none')
@@ -369,20 +370,20 @@ def words_of(words: list[str]) -> argparse.Namespace:
 
 
 def main(words: list[str]) -> int:
-    chosen, verdicts = words_of(words), list[Verdict]()
-    judge, form = judge_of(chosen), form_of(chosen, VERSION, 'calls', COLUMNS)
+    chosen, verdicts = command_line_of_calls(words), list[Verdict]()
+    judge, form = judge_of(chosen), form_of(chosen, VERDICTS_VERSION, 'calls', CALL_COLUMNS)
     text = Text(len(chosen.recordings) == 1, screen_of(chosen.color, chosen.width))
     for recording in chosen.recordings:
         found = listed(judge, recording, chosen, verdicts)
         with contextlib.closing(found.kept):
             if form:
-                form.add(values_of(one, recording, chosen.csv) for one in found.exchanges())
+                form.add(column_values(one, recording, chosen.csv) for one in found.exchanges())
             else:
                 text.add(found)
             tell_of_times(found, chosen)
     tell_verdicts(verdicts)
     if form:
-        form.end(members_of(verdicts))
+        form.end(verdict_members(verdicts))
     else:
         text.end()
     if not chosen.json:

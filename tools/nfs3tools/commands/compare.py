@@ -77,27 +77,28 @@ from typing import NamedTuple
 from ..comparison.exchanges.pairing import ASKING
 from ..comparison.parts.marks import NoMark
 from ..comparison.parts.part_by_part import PartByPart
-from ..comparison.values.classes import CLASSES, following, in_any_order, mask_word, told
+from ..comparison.values.classes import CLASSES, following, in_any_order, mask_text, mask_word
 from ..comparison.verdict import summary
 from ..comparison.verdict.accepted import accepted_of, file_of
 from ..comparison.verdict.cover import Cover, Size, covers_of, lines_of_counts, losses_of
-from ..comparison.verdict.decision import judged, run_of
+from ..comparison.verdict.decision import judged_runs, run_of
 from ..comparison.verdict.excerpt import Around
 from ..comparison.verdict.findings import RUNS, Compared, Framing, Run
-from ..comparison.verdict.ignored import ignored_of, without
+from ..comparison.verdict.ignored import ignored_of, without_ignored
 from ..comparison.verdict.orders import Choices, NothingToCompare
 from ..comparison.verdict.report import Report
 from ..comparison.verdict.trial import Trial
 from ..pages import compared as pages
-from ..pages.compared import Content, Recorded
+from ..pages.compared import ComparedContent, RunFiles
 from ..recordings.coverage import Allowed
 from ..recordings.parts import files_in, files_of
 from ..recordings.selection import Options
 from ..recordings.taken import NotTaken, Taken, take
 from ..reporting import telling
 from ..reporting.messages import (
-    REFUSED, add_judging, advice_on, allowed_of, ended, lines_of, options_of, parser_of, run)
-from ..reporting.reports import json_of, json_of_parts, junit_of, junit_of_error, junit_of_parts
+    REFUSED, add_judging, advice_on, allowed_of, ended, options_of, parser_of, recording_lines, run)
+from ..reporting.reports import (
+    json_of_comparison, json_of_parts, junit_of_comparison, junit_of_error, junit_of_parts)
 from ..shared.outputs import check_output, held, printed_beside, try_outputs, write_file
 from ..shared.printed import escaped
 from ..shared.programs import program_path
@@ -106,8 +107,8 @@ from ..shared.screens import Colour, Screen, add_colour, screen_of
 
 SAME, DIFFERENT = range(2)
 FINDINGS_AT_MOST, SILENT_AT_MOST = 20, 12
-SIGN, SIGNS = re.compile(r'  ([-+]) '), {'-': Colour.RED, '+': Colour.GREEN}  # of values
-AROUND = Around(3, pages.SHOWN_AT_MOST)  # on a page
+SIGN, SIGN_COLOURS = re.compile(r'  ([-+]) '), {'-': Colour.RED, '+': Colour.GREEN}  # of values
+AROUND = Around(3, pages.FINDINGS_ON_PAGE)  # on a page
 
 
 def classes_told() -> str:
@@ -117,7 +118,7 @@ def classes_told() -> str:
     return '\n'.join(['classes of values:', *rows])
 
 
-def words_of(words: list[str]) -> argparse.Namespace:
+def command_line_of_compare(words: list[str]) -> argparse.Namespace:
     parser = parser_of(__doc__, 'compare')
     parser.epilog = classes_told()
     parser.add_argument('--mask', type=mask_word, metavar='CLASS,..',
@@ -157,16 +158,16 @@ def words_of(words: list[str]) -> argparse.Namespace:
     return chosen
 
 
-def tell(name: str, taken: Taken) -> None:
+def print_missing(name: str, taken: Taken) -> None:
     """Prints what is missing from a recording, and what is left out of it."""
-    for line in lines_of(taken, has_taken=False):
+    for line in recording_lines(taken, has_taken=False):
         print(f'{escaped(name)}: {line}', file=sys.stderr)
 
 
-def recorded_of(taken: Taken, name: str) -> Recorded:
+def recorded_of(taken: Taken, name: str) -> RunFiles:
     files = files_of(name)
     is_known = all(os.path.isfile(file) for file in files)
-    return Recorded(sum(map(os.path.getsize, files)) if is_known else None, taken.ends(),
+    return RunFiles(sum(map(os.path.getsize, files)) if is_known else None, taken.ends(),
                     taken.parts)
 
 
@@ -230,10 +231,10 @@ def compared_runs(words: argparse.Namespace, stack: ExitStack) -> int:
         folder = Path(stack.enter_context(tempfile.TemporaryDirectory(prefix='nfs3canon')))
     runs = [stack.enter_context(taken_of(name, options_of(words))) for name in names]
     for taken, name in zip(runs, names):
-        tell(name, taken)
+        print_missing(name, taken)
     whole = whole_of(program, folder, names, [*inputs, *accepted_by(words)], runs)
     masks = in_any_order(words.mask, any(cover.has_raw for cover in whole.covers))
-    print(f'masked: {told(masks[0])}', flush=True)
+    print(f'masked: {mask_text(masks[0])}', flush=True)
     choices = Choices(words.order, masks, following(words.mask),
                       frozenset() if words.extra == 'none' else ASKING,
                       AROUND if words.html else None, words.accept)
@@ -270,11 +271,11 @@ def whole_of(program: str, folder: Path, names: list[str], inputs: list[str],
 def compared_whole(words: argparse.Namespace, whole: Whole, choices: Choices, losses: str) -> bool:
     """Compares the runs as wholes. Returns whether they are the same."""
     with whole.trial.progress.line():
-        said = judged(whole.trial, whole.runs, whole.sizes, choices)
+        said = judged_runs(whole.trial, whole.runs, whole.sizes, choices)
     line = said.line(choices, whole.sizes[0], losses)
     is_good = said.is_same and whole.is_good(allowed_of(words))
     report = said.report(choices, whole.names, whole.sizes, whole.covers)
-    print(screen_of(words.color).painted(line, colour_of(report.word(), is_good)),
+    print(screen_of(words.color).painted(line, colour_of_word(report.word(), is_good)),
           *whole.lines_of_counts(), sep='\n', flush=True)
     if words.accept_new:
         compared = said.found.whole or Compared()
@@ -287,18 +288,20 @@ def compared_whole(words: argparse.Namespace, whole: Whole, choices: Choices, lo
 def explain(words: argparse.Namespace, whole: Whole, line: str, report: Report, found: Compared,
             is_good: bool) -> None:
     """Writes and prints what differs between two runs."""
-    compared, left_out = without(found, words.ignore)
+    compared, left_out = without_ignored(found, words.ignore)
     if words.junit:
         told_of = compared if is_told(words, report) else replace(compared, findings=[])
-        write_file(words.junit, [junit_of(line, report, told_of, whole.framings(), is_good)],
-                   whole.inputs)
+        suite = junit_of_comparison(line, report, told_of, whole.framings(), is_good)
+        write_file(words.junit, [suite], whole.inputs)
     if words.html:
         recorded = [recorded_of(*one) for one in zip(whole.taken, whole.names)]
-        content = Content(line, report, compared, words.ignore, left_out, whole.runs, recorded)
-        write_file(words.html, pages.page(content), whole.inputs)
+        content = ComparedContent(line, report, compared, words.ignore, left_out, whole.runs,
+                                  recorded)
+        write_file(words.html, pages.compared_page(content), whole.inputs)
     if words.json:
-        write_file(words.json, json_of(report, compared, left_out, whole.framings()), whole.inputs)
-    print_found(words, whole, report, compared, left_out)
+        write_file(words.json, json_of_comparison(report, compared, left_out, whole.framings()),
+                   whole.inputs)
+    print_comparison(words, whole, report, compared, left_out)
     for text in telling.of_accepted(report.accepted, whole.framings(), words.all):
         print(text)
 
@@ -309,8 +312,8 @@ def is_told(words: argparse.Namespace, report: Report) -> bool:
     return report.same_under is None or bool(words.all)
 
 
-def print_found(words: argparse.Namespace, whole: Whole, report: Report, compared: Compared,
-                left_out: Counter[tuple[str, str]]) -> None:
+def print_comparison(words: argparse.Namespace, whole: Whole, report: Report, compared: Compared,
+                     left_out: Counter[tuple[str, str]]) -> None:
     if report.verdict == 'same':
         return
     screen = screen_of(words.color)
@@ -323,10 +326,10 @@ def print_found(words: argparse.Namespace, whole: Whole, report: Report, compare
     for text in telling.of_silent(compared, whole.framings(),
                                   None if words.all else SILENT_AT_MOST):
         print(text)
-    print(summary.of_compared(compared))
+    print(summary.compared_in_words(compared))
 
 
-def colour_of(word: str, is_good: bool) -> Colour:
+def colour_of_word(word: str, is_good: bool) -> Colour:
     """The colour of a verdict."""
     if is_good:
         return Colour.GREEN
@@ -336,7 +339,7 @@ def colour_of(word: str, is_good: bool) -> Colour:
 def coloured(line: str, screen: Screen) -> str:
     """Returns a line of a finding, as `diff` colours it."""
     sign = SIGN.match(line)
-    return screen.painted(line, SIGNS[sign[1]]) if sign else line
+    return screen.painted(line, SIGN_COLOURS[sign[1]]) if sign else line
 
 
 def compared_by_parts(words: argparse.Namespace, whole: Whole, choices: Choices,
@@ -347,7 +350,7 @@ def compared_by_parts(words: argparse.Namespace, whole: Whole, choices: Choices,
                            choices).reports(words.ignore)
     is_good, screen = whole.is_good(allowed_of(words)), screen_of(words.color)
     for part in parts:
-        print(screen.painted(part.line, colour_of(part.word(), is_good and part.is_good)))
+        print(screen.painted(part.line, colour_of_word(part.word(), is_good and part.is_good)))
     if words.junit:
         counting = '' if is_good else losses
         write_file(words.junit,
@@ -360,7 +363,7 @@ def compared_by_parts(words: argparse.Namespace, whole: Whole, choices: Choices,
         if part.report and part.report.verdict != 'same' and (
                 part.compared.silent or is_told(words, part.report)):
             print(part.label)
-            print_found(words, whole, part.report, part.compared, part.left_out)
+            print_comparison(words, whole, part.report, part.compared, part.left_out)
     if losses:
         print(f'compared in part: {losses}')
     print(*whole.lines_of_counts(), summary.of_parts([part.word() for part in parts]), sep='\n')
@@ -376,7 +379,7 @@ def write_error(words: argparse.Namespace, message: str) -> None:
 
 
 def main(words: list[str]) -> int:
-    chosen, stack = words_of(words), ExitStack()
+    chosen, stack = command_line_of_compare(words), ExitStack()
     try:
         stack.enter_context(printed_beside(outputs_of(chosen)))
         return compared_runs(chosen, stack)

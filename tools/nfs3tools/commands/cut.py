@@ -66,11 +66,11 @@ from ..shared.programs import CHECKED, lines_of_program, program_path, run_progr
 from ..shared.progress import Progress
 from .verdicts import Judge
 
-PCAP, PCAPNG = '.pcap', '.pcapng'
-HEAD = 8  # bytes: the xid and mtype, without which a record has no xid
+PCAP_ENDING, PCAPNG_ENDING = '.pcap', '.pcapng'
+HEAD_TO_MTYPE = 8  # bytes: the xid and mtype, without which a record has no xid
 
 
-class Wanted(NamedTuple):
+class WantedRecords(NamedTuple):
     """What is wanted of a connection: the records with some xids, and a record of a side that has
     none."""
     xids: set[int]
@@ -88,12 +88,12 @@ class Cut(NamedTuple):
         return client, server
 
 
-def wanted_at(taken: Taken, places: Iterable[Place]) -> dict[int, Wanted]:
+def wanted_at(taken: Taken, places: Iterable[Place]) -> dict[int, WantedRecords]:
     """Returns what is wanted for the records at some places, by connections. Raises `NoPlace`."""
-    wanted = defaultdict[int, Wanted](lambda: Wanted(set(), set()))
+    wanted = defaultdict[int, WantedRecords](lambda: WantedRecords(set(), set()))
     for place in places:
         head = head_at(taken, place)
-        if len(head) < HEAD:
+        if len(head) < HEAD_TO_MTYPE:
             wanted[place.connection].without.add((place.side, place.record))
         else:
             wanted[place.connection].xids.add(int.from_bytes(head[:4], 'big'))
@@ -103,15 +103,15 @@ def wanted_at(taken: Taken, places: Iterable[Place]) -> dict[int, Wanted]:
 def head_at(taken: Taken, place: Place) -> bytes:
     """Returns the first bytes of a record. Raises `NoPlace` if there is no such record."""
     stream, extent = taken.record_at(place)
-    return body_of(Window(stream), extent, HEAD)
+    return body_of(Window(stream), extent, HEAD_TO_MTYPE)
 
 
-def cut_of(connection: TakenConnection, wanted: Wanted) -> Cut:
+def cut_of(connection: TakenConnection, wanted: WantedRecords) -> Cut:
     return Cut(connection, {side: dict(picked(connection.stream(side), side, wanted))
                             for side in SIDES})
 
 
-def picked(stream: TakenStream, side: Side, wanted: Wanted) -> Iterator[tuple[int, Extent]]:
+def picked(stream: TakenStream, side: Side, wanted: WantedRecords) -> Iterator[tuple[int, Extent]]:
     """Iterates over the records that are wanted of a side, with their numbers."""
     for number, (extent, xid, _) in enumerate(xids(Window(stream), 0, stream.size), 1):
         if xid in wanted.xids or (side, number) in wanted.without:
@@ -144,12 +144,12 @@ def turn_of(outlines: Outlines, place: Place) -> int:
     return outlines.exchanges_of_replies(at)[place.record]
 
 
-def lines_of(taken: Taken, cuts: list[Cut]) -> Iterator[str]:
+def record_lines(taken: Taken, cuts: list[Cut]) -> Iterator[str]:
     """Iterates over a line for each record of the cut, which says where it was."""
     pairs = ((Place(number, side, record), Place(cut.connection.number, side, old))
              for number, cut in enumerate(cuts, 1)
              for side in SIDES for record, old in enumerate(cut.records[side], 1))
-    return (line_of(taken, place, old) for place, old in pairs)
+    return (record_line(taken, place, old) for place, old in pairs)
 
 
 def cuts_at(program: str, taken: Taken, place: Place | FramePlace, has_origins: bool,
@@ -163,7 +163,7 @@ def cuts_at(program: str, taken: Taken, place: Place | FramePlace, has_origins: 
     return [cut_of(taken.connections[number - 1], wanted[number]) for number in sorted(wanted)]
 
 
-def words_of(words: list[str]) -> argparse.Namespace:
+def command_line_of_cut(words: list[str]) -> argparse.Namespace:
     parser = parser_of(__doc__, 'cut')
     parser.add_argument('recording', metavar='RECORDING|CAPTURE')
     parser.add_argument('place', metavar='POSITION')
@@ -176,13 +176,13 @@ def words_of(words: list[str]) -> argparse.Namespace:
 
 
 def main(words: list[str]) -> int:
-    chosen = words_of(words)
+    chosen = command_line_of_cut(words)
     place, inputs = parse_place(chosen.place), files_of(chosen.recording)
-    is_pcap = chosen.out.endswith(PCAP)
+    is_pcap = chosen.out.endswith(PCAP_ENDING)
     if isinstance(place, FilePlace):
         raise NoPlace(f'no record: {place}')
-    if chosen.out.endswith(PCAPNG):
-        raise Refused(f'{escaped(chosen.out)}: OUT may be a {PCAP}, and no {PCAPNG}')
+    if chosen.out.endswith(PCAPNG_ENDING):
+        raise Refused(f'{escaped(chosen.out)}: OUT may be a {PCAP_ENDING}, and no {PCAPNG_ENDING}')
     try_outputs([chosen.out], inputs, () if is_pcap else (CAPTURE,))
     program = program_path(chosen.program)
     with contextlib.ExitStack() as stack:
@@ -209,7 +209,7 @@ def write_cuts(program: str, taken: Taken, cuts: list[Cut], _: str, out: str,
     pairs = [cut.streams() for cut in cuts]
     answer = run_program(program, ['check', '/dev/stdin'], CHECKED, capture_of(pairs))
     write_file(out, capture_of(pairs), inputs, (CAPTURE,))
-    return [*lines_of(taken, cuts), (answer.out or answer.error).strip()], 0
+    return [*record_lines(taken, cuts), (answer.out or answer.error).strip()], 0
 
 
 # --- As a recording ---
@@ -253,7 +253,7 @@ def write_recording(program: str, taken: Taken, cuts: list[Cut], recording: str,
     if extract.number < len(records):
         extract = max(extract, next(extracts), key=lambda one: one.number)
     write_file(out, [extract.content], inputs)
-    lines = [line_of(taken, there, here) for there, here in extract.found]
+    lines = [record_line(taken, there, here) for there, here in extract.found]
     lines += [f'connection {verdict.connection}: {verdict.message}'
               for verdict in extract.verdicts if verdict.connection is not None]
     lines += [f'frame {number} cannot be trimmed to these records, and a dissector may not find '
@@ -300,7 +300,7 @@ def places_in(extract: Taken, cut: Cut) -> Iterator[tuple[Place | None, Place]]:
             yield there, Place(cut.connection.number, side, record)
 
 
-def line_of(taken: Taken, place: Place | None, old: Place) -> str:
+def record_line(taken: Taken, place: Place | None, old: Place) -> str:
     """The line of a record, which says where it was."""
     frames = [str(frame.number) for frame in taken.frames(old)]
     told = f', {plural(len(frames), "frame", "frames")} {", ".join(frames)}' if frames else ''

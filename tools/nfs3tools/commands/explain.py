@@ -35,7 +35,7 @@ from ..captures.explained import tell_bytes, tell_reason, tell_record
 from ..captures.located import Within, located
 from ..recordings.carried import places_at
 from ..recordings.taken import FrameRef, NotTaken
-from ..reporting.frames import lines_of
+from ..reporting.frames import place_lines
 from ..reporting.messages import (
     ABSENT, add_options, ended, options_of, parser_of, position_text, run)
 from ..shared.names import as_called
@@ -54,7 +54,7 @@ def explain_record(within: Within, place: Place, reason: str | None) -> None:
 def tell_frames(within: Within, place: Place | FilePlace, frames: list[FrameRef]) -> None:
     """Prints the frames of a position of a recording."""
     if within.taken and frames:
-        print('\n'.join(lines_of(within.taken, place, frames)))
+        print('\n'.join(place_lines(within.taken, place, frames)))
 
 
 def explain_byte(within: Within, place: FilePlace, reason: str | None) -> None:

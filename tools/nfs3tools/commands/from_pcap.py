@@ -44,7 +44,7 @@ from functools import partial
 
 from ..recordings.parts import files_of
 from ..recordings.taken import NotTaken, take
-from ..reporting.messages import add_options, ended, options_of, parser_of, run, tell
+from ..reporting.messages import add_options, ended, options_of, parser_of, print_recording, run
 from ..shared.outputs import CAPTURE, try_outputs
 from ..shared.printed import escaped
 
@@ -63,7 +63,7 @@ def main(words: list[str]) -> int:
     with take(chosen.recording, options_of(chosen), frames=False) as taken:
         if not taken.is_recording:
             raise NotTaken(f'{escaped(chosen.recording)} is a capture already')
-        tell(taken)
+        print_recording(taken)
         if not taken.connections:
             return ended('from_pcap', 'no connection to pack', NOTHING_TAKEN)
         taken.write_capture(chosen.out, [chosen.recording])

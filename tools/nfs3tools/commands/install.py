@@ -27,7 +27,7 @@ from pathlib import Path
 
 from ..reporting.messages import parser_of, run
 from ..shared.names import installed_name
-from ..shared.outputs import PERMISSIONS, Refused, named, write_beside
+from ..shared.outputs import PERMISSIONS, Refused, failures_named, write_beside
 from ..shared.printed import escaped
 from ..shared.programs import Missing, made_programs, path_beside
 from ..shared.version import TOP, version
@@ -142,13 +142,13 @@ def links() -> Iterator[tuple[str, str]]:
         yield f'share/fish/vendor_completions.d/{installed_name(tool)}.fish', 'nfs3canon.fish'
 
 
-def content_of(source: Path, place: str) -> bytes:
+def installed_content(source: Path, place: str) -> bytes:
     """Returns what a file has that is installed."""
-    return (page_of(source.read_text()).encode() if place.startswith('share/man/')
+    return (installed_page(source.read_text()).encode() if place.startswith('share/man/')
             else source.read_bytes())
 
 
-def page_of(text: str) -> str:
+def installed_page(text: str) -> str:
     """Returns a manual page with the names under which the tools are installed: in its head, where
     it is about the tool itself, where it names other pages, and in the commands of examples."""
     pieces = re.split(r'(^\.EX\n.*?^\.EE$)', text, flags=re.MULTILINE | re.DOTALL)
@@ -176,7 +176,7 @@ def install(prefix: Path, program: Path) -> None:
     refuse_links(prefix)
     for source, place in list(files(program)):
         is_run = source.stat().st_mode & EXECUTABLE
-        put(prefix / place, content_of(source, place),
+        put(prefix / place, installed_content(source, place),
             FOR_ALL_TO_RUN if is_run else FOR_ALL_TO_READ)
     for name in PROGRAMS:
         put(prefix / 'bin' / name, launcher().encode(), FOR_ALL_TO_RUN)
@@ -187,7 +187,7 @@ def install(prefix: Path, program: Path) -> None:
 def put(path: Path, content: bytes, mode: int = FOR_ALL_TO_READ) -> None:
     """Writes a file, with the same permissions under every umask. It takes the place of a link."""
     make_folder(path.parent)
-    with named(str(path)):
+    with failures_named(str(path)):
         write_beside(str(path), [content], mode)
 
 

@@ -48,13 +48,14 @@ from collections import Counter
 from collections.abc import Iterator, Sequence
 from functools import partial
 
-from ..judgement.tallies import Tallies, Tally, in_order, milliseconds, sum_of, tallies_of
+from ..judgement.tallies import (
+    Tallies, Tally, milliseconds, procedures_in_order, sum_of, tallies_of)
 from ..judgement.verdict import (
-    VERSION, Verdict, colour_of, count_unanswered, is_row, kept_in, members_of, named, status_of,
-    sums_of, tell_notes)
+    VERDICTS_VERSION, Verdict, colour_of, count_unanswered, is_row, kept_in, status_of, subject_of,
+    sums_of, tell_notes, verdict_members)
 from ..judgement.window import add_window, window_of
-from ..pages.judged import Seen, Table as ShownTable, as_printed, page, said_of, verdicts_in
-from ..pages.time_line import TimeLine, line_of
+from ..pages.judged import Seen, ShownTable, as_printed, judged_page, said_of, verdicts_in
+from ..pages.time_line import TimeLine, time_line_of
 from ..recordings.parts import files_in
 from ..recordings.selection import plural
 from ..recordings.taken import Taken
@@ -63,40 +64,42 @@ from ..shared.outputs import writing
 from ..shared.places import Place
 from ..shared.printed import escaped, printable
 from ..shared.screens import (
-    Colour, Screen, Styled, add_width, is_as_wide, lines_of, panels, screen_of)
+    Colour, Screen, Styled, add_width, is_as_wide, panels, screen_of, table_lines)
 from .verdicts import Judge, judge_of
 
-PARTS = (0.5, 0.99, 1)  # of the latencies: the median, the 99th percentile, and the longest
-COUNTS = ('calls', 'again', 'replies', 'unanswered', 'call_bytes', 'reply_bytes')
+QUANTILES = (0.5, 0.99, 1)  # of the latencies: the median, the 99th percentile, and the longest
+TALLY_COUNTS = ('calls', 'again', 'replies', 'unanswered', 'call_bytes', 'reply_bytes')
 RANKS = ('median_ns', 'p99_ns', 'most_ns', 'mean_ns', 'sum_ns')
-HEADS = ('procedure', 'calls', 'again', 'replies', 'no reply', 'call bytes',
-         'reply bytes', 'median ms', '99 % ms', 'most ms', 'mean ms', 'sum ms', 'errors')
-NARROW = 6  # columns of a table's first panel in a narrow terminal: the counts, and the errors
-NUMBERS = range(1, len(HEADS) - 1)  # the columns that are set to the right
-LONGEST = 'longest'  # is before the errors in tables of one recording
+PROCEDURE_HEADS = ('procedure', 'calls', 'again', 'replies', 'no reply', 'call bytes',
+                   'reply bytes', 'median ms', '99 % ms', 'most ms', 'mean ms', 'sum ms', 'errors')
+# Columns of a table's first panel in a narrow terminal: the counts, and the errors
+NARROW_COLUMNS = 6
+PROCEDURE_NUMBERS = range(1, len(PROCEDURE_HEADS) - 1)  # the columns that are set to the right
+LONGEST_COLUMN = 'longest'  # is before the errors in tables of one recording
 IN_ALL = 'in all'
 ON_PAGE = Screen(sys.maxsize)  # on which numbers are as on a terminal
 # The columns by which rows are sorted, but for the first with the largest number first.
-BY_NAME = 'procedure'
-COLUMNS: dict[str, typing.Callable[[Tally], int | None]] = {
+BY_PROCEDURE = 'procedure'
+SORT_COLUMNS: dict[str, typing.Callable[[Tally], int | None]] = {
     'calls': lambda tally: tally.calls, 'again': lambda tally: tally.again,
     'replies': lambda tally: tally.replies, 'no-reply': lambda tally: tally.unanswered,
     'call-bytes': lambda tally: tally.call_bytes, 'reply-bytes': lambda tally: tally.reply_bytes,
-    'median': lambda tally: tally.ranked(PARTS)[0], 'p99': lambda tally: tally.ranked(PARTS)[1],
-    'most': lambda tally: tally.ranked(PARTS)[2], 'mean': lambda tally: tally.mean,
+    'median': lambda tally: tally.ranked(QUANTILES)[0],
+    'p99': lambda tally: tally.ranked(QUANTILES)[1],
+    'most': lambda tally: tally.ranked(QUANTILES)[2], 'mean': lambda tally: tally.mean,
     'sum': lambda tally: tally.total, 'errors': lambda tally: sum(tally.errors.values())}
 
 
-class Table(typing.NamedTuple):
+class TallyTable(typing.NamedTuple):
     """What is counted of a connection, or of all of a recording (then the verdict is None), or of
     all recordings (then there is no recording either)."""
     recording: str | None
     verdict: Verdict | None
     tallies: Tallies
 
-    def rows(self, column: str = BY_NAME) -> Iterator[tuple[str, Tally]]:
+    def rows(self, column: str = BY_PROCEDURE) -> Iterator[tuple[str, Tally]]:
         """Iterates over the procedures, sorted by a column, and then all of them."""
-        for name in sorted_by(column, in_order(self.tallies), self.tallies):
+        for name in sorted_by(column, procedures_in_order(self.tallies), self.tallies):
             yield name, self.tallies[name]
         yield IN_ALL, total_of(self.tallies)
 
@@ -104,21 +107,21 @@ class Table(typing.NamedTuple):
 def sorted_by(column: str, names: list[str], *several: Tallies) -> list[str]:
     """Returns names of procedures with the largest number of a column first, in whichever of
     several tables that is; without a number last."""
-    if column == BY_NAME:
+    if column == BY_PROCEDURE:
         return names
     def rank(name: str) -> tuple[bool, int]:
-        found = (COLUMNS[column](tallies[name]) for tallies in several if name in tallies)
+        found = (SORT_COLUMNS[column](tallies[name]) for tallies in several if name in tallies)
         numbers = [number for number in found if number is not None]
         return not numbers, -max(numbers, default=0)
     return sorted(names, key=rank)
 
 
-class Counted(typing.NamedTuple):
+class CountedRecording(typing.NamedTuple):
     """A recording with its verdicts and what a page shows besides, the tables of its connections,
     and that of all of them."""
     seen: Seen
-    tables: list[Table]
-    in_all: Table
+    tables: list[TallyTable]
+    in_all: TallyTable
 
 
 def total_of(tallies: Tallies) -> Tally:
@@ -129,10 +132,10 @@ def total_of(tallies: Tallies) -> Tally:
     return total
 
 
-def counted(judge: Judge, recording: str, chosen: argparse.Namespace) -> Counted:
+def counted(judge: Judge, recording: str, chosen: argparse.Namespace) -> CountedRecording:
     """Judges a recording or capture, and counts the calls that are chosen of each connection that
     was judged. What a page shows is looked for if there is to be one."""
-    tables, lines = list[Table](), list[TimeLine]()
+    tables, lines = list[TallyTable](), list[TimeLine]()
 
     def look(taken: Taken, verdicts: list[Verdict]) -> None:
         judged = {verdict.connection: verdict for verdict in verdicts}
@@ -140,21 +143,22 @@ def counted(judge: Judge, recording: str, chosen: argparse.Namespace) -> Counted
                                         has_texts=bool(chosen.html))) as kept:
             count_unanswered(kept, verdicts)
             window = window_of(chosen, taken.begun)
-            tables.extend(Table(recording, judged[part.number],
-                                tallies_of(kept, recording, number, window))
+            tables.extend(TallyTable(recording, judged[part.number],
+                                     tallies_of(kept, recording, number, window))
                           for number, part in enumerate(kept.parts))
             if chosen.html:
-                lines.append(line_of(kept, taken.begun, window))
+                lines.append(time_line_of(kept, taken.begun, window))
     verdicts = judge.verdicts(recording, look)
-    in_all = Table(recording, None, sum_of(table.tallies for table in tables))
-    return Counted(Seen(recording, verdicts, line=lines[0] if lines else None), tables, in_all)
+    in_all = TallyTable(recording, None, sum_of(table.tallies for table in tables))
+    return CountedRecording(Seen(recording, verdicts, line=lines[0] if lines else None), tables,
+                            in_all)
 
 
 # --- What is printed ---
 
-def row_of(name: str, tally: Tally, is_named: bool, screen: Screen) -> Styled:
+def tally_row(name: str, tally: Tally, is_named: bool, screen: Screen) -> Styled:
     """A row. The longest latency is named by its recording, or not."""
-    counts = (screen.number(getattr(tally, count)) for count in COUNTS)
+    counts = (screen.number(getattr(tally, count)) for count in TALLY_COUNTS)
     latencies = (milliseconds(rank, screen) for rank in latencies_of(tally))
     cells = [name, *counts, *latencies, longest_of(tally, is_named),
              errors_of(tally.errors, screen)]
@@ -163,7 +167,7 @@ def row_of(name: str, tally: Tally, is_named: bool, screen: Screen) -> Styled:
 
 def latencies_of(tally: Tally) -> list[int | None]:
     """The latencies of a row."""
-    return [*tally.ranked(PARTS), tally.mean, tally.total]
+    return [*tally.ranked(QUANTILES), tally.mean, tally.total]
 
 
 def longest_of(tally: Tally, is_named: bool) -> str:
@@ -184,28 +188,28 @@ def most_first(errors: Counter[str]) -> list[tuple[str, int]]:
     return sorted(errors.items(), key=lambda error: (-error[1], error[0]))
 
 
-def print_table(title: str, table: Table, column: str, screen: Screen) -> None:
+def print_table(title: str, table: TallyTable, column: str, screen: Screen) -> None:
     """Prints a table below its title, which is alone if there is nothing in the table. An empty
     line is before it."""
     print(f'\n{title}{told_of_clock(total_of(table.tallies))}')
     if not table.tallies:
         return
-    rows = rows_of(table, column, screen)
+    rows = table_rows(table, column, screen)
     if screen.width is not None and not is_as_wide(rows, screen.width):
         rows = [row._replace(cells=beside_calls(row.cells)) for row in rows]
-    for line in panels(rows, screen, NUMBERS, NARROW):
+    for line in panels(rows, screen, PROCEDURE_NUMBERS, NARROW_COLUMNS):
         print(line)
 
 
 def beside_calls(cells: Sequence[str]) -> list[str]:
     """Returns the cells of a row with the errors beside the counts."""
-    return [*cells[:NARROW - 1], cells[-1], *cells[NARROW - 1:-1]]
+    return [*cells[:NARROW_COLUMNS - 1], cells[-1], *cells[NARROW_COLUMNS - 1:-1]]
 
 
-def rows_of(table: Table, column: str, screen: Screen) -> list[Styled]:
+def table_rows(table: TallyTable, column: str, screen: Screen) -> list[Styled]:
     """The rows of a table, that of the heads first."""
-    return [Styled((*HEADS[:-1], LONGEST, HEADS[-1])),
-            *(row_of(*row, table.recording is None, screen) for row in table.rows(column))]
+    return [Styled((*PROCEDURE_HEADS[:-1], LONGEST_COLUMN, PROCEDURE_HEADS[-1])),
+            *(tally_row(*row, table.recording is None, screen) for row in table.rows(column))]
 
 
 def told_of_clock(tally: Tally) -> str:
@@ -215,23 +219,24 @@ def told_of_clock(tally: Tally) -> str:
     return f'; the clock went back: {number:,} {are} negative' if number else ''
 
 
-def title_of(verdict: Verdict, screen: Screen) -> str:
+def table_title(verdict: Verdict, screen: Screen) -> str:
     """The title of a connection's table, with its verdict."""
     ends = f': client {verdict.client}, server {verdict.server}' if verdict.client else ''
     how_far = '; counted up to there' if verdict.state == 'refused' else ''
     word = screen.painted(printable(verdict.message), colour_of(verdict))
-    return f'{printable(f"{named(verdict)}{ends}")}: {word}{how_far}'
+    return f'{printable(f"{subject_of(verdict)}{ends}")}: {word}{how_far}'
 
 
-def print_tables(found: Sequence[Counted], is_total: bool, column: str, screen: Screen) -> None:
+def print_tables(found: Sequence[CountedRecording], is_total: bool, column: str,
+                 screen: Screen) -> None:
     """Prints the tables of each recording, and what is said of it that is none of a connection."""
     for one in found:
         for table in [] if is_total else one.tables:
             assert table.verdict
-            print_table(title_of(table.verdict, screen), table, column, screen)
+            print_table(table_title(table.verdict, screen), table, column, screen)
         for verdict in one.seen.verdicts:
             if is_row(verdict) and (verdict.state == 'error' or verdict.connection is None):
-                print('\n' + title_of(verdict, screen))
+                print('\n' + table_title(verdict, screen))
         title = printable(f'{escaped(one.seen.recording)} in all: {sums_of(one.seen.verdicts)}')
         print_table('\n'.join(screen.wrapped(title, 0)), one.in_all, column, screen)
     if len(found) > 1:
@@ -239,28 +244,31 @@ def print_tables(found: Sequence[Counted], is_total: bool, column: str, screen: 
         print_table(f'all recordings: {sums}', in_all_of(found), column, screen)
 
 
-def in_all_of(found: Sequence[Counted]) -> Table:
+def in_all_of(found: Sequence[CountedRecording]) -> TallyTable:
     """The table of all recordings."""
-    return Table(None, None, sum_of(one.in_all.tallies for one in found))
+    return TallyTable(None, None, sum_of(one.in_all.tallies for one in found))
 
 
-def print_beside(first: Counted, second: Counted, column: str, screen: Screen) -> None:
+def print_beside(first: CountedRecording, second: CountedRecording, column: str,
+                 screen: Screen) -> None:
     """Prints two recordings in one table."""
     for name, one in zip('AB', (first, second)):
         seen, told = one.seen, told_of_clock(total_of(one.in_all.tallies))
         for verdict in seen.verdicts:
             if is_row(verdict) and verdict.state != 'ok':
-                print(printable(f'{named(verdict)}: {verdict.message}'))
+                print(printable(f'{subject_of(verdict)}: {verdict.message}'))
         title = printable(f'{name}: {escaped(seen.recording)}: {sums_of(seen.verdicts)}{told}')
         print(*screen.wrapped(title, 0), sep='\n')
     print_rows_beside(rows_beside(first, second, column, screen), screen)
 
 
-def rows_beside(first: Counted, second: Counted, column: str, screen: Screen) -> list[Styled]:
+def rows_beside(first: CountedRecording, second: CountedRecording, column: str,
+                screen: Screen) -> list[Styled]:
     """The rows of two recordings in one table, that of the heads first."""
     here, there = (dict(one.in_all.rows()) for one in (first, second))
-    names = [*sorted_by(column, in_order({*here, *there} - {IN_ALL}), here, there), IN_ALL]
-    return [Styled(HEADS), *(
+    names = [*sorted_by(column, procedures_in_order({*here, *there} - {IN_ALL}), here, there),
+             IN_ALL]
+    return [Styled(PROCEDURE_HEADS), *(
         Styled(cells_beside(name, here.get(name, Tally()), there.get(name, Tally()), screen))
         for name in names)]
 
@@ -268,7 +276,7 @@ def rows_beside(first: Counted, second: Counted, column: str, screen: Screen) ->
 def print_rows_beside(rows: Sequence[Styled], screen: Screen) -> None:
     """Prints a table of two recordings, or if it is too wide a block for each procedure."""
     if screen.width is None or is_as_wide(rows, screen.width):
-        lines = lines_of(rows, screen, range(1, len(HEADS) - 1))
+        lines = table_lines(rows, screen, range(1, len(PROCEDURE_HEADS) - 1))
     else:
         lines = itertools.chain.from_iterable(block_of(row, screen) for row in rows[1:])
     print(*lines, sep='\n')
@@ -277,33 +285,33 @@ def print_rows_beside(rows: Sequence[Styled], screen: Screen) -> None:
 def block_of(row: Styled, screen: Screen) -> Iterator[str]:
     """The lines of a block: the procedure, and below it what there is of it."""
     yield row.cells[0]
-    rows = [Styled(['', head, cell]) for head, cell in zip(HEADS[1:], row.cells[1:])
+    rows = [Styled(['', head, cell]) for head, cell in zip(PROCEDURE_HEADS[1:], row.cells[1:])
             if cell not in ('-', '0')]
-    yield from lines_of(rows, screen)
+    yield from table_lines(rows, screen)
 
 
 def cells_beside(name: str, first: Tally, second: Tally, screen: Screen) -> list[str]:
     """The cells of a row about two recordings."""
     number_of, both = screen.number, (first, second)
     counts = [(*(getattr(tally, count) for tally in both), count.endswith('bytes'))
-              for count in COUNTS]
-    errors = (f'{error} ' + changed(*(number_of(tally.errors[error]) for tally in both))
+              for count in TALLY_COUNTS]
+    errors = (f'{error} ' + both_cells(*(number_of(tally.errors[error]) for tally in both))
               for error, _ in most_first(first.errors + second.errors))
     latencies = zip(*map(latencies_of, both))
-    return [name, *(changed(number_of(number), number_of(other),
-                            change_of(number, other) if is_size else '')
+    return [name, *(both_cells(number_of(number), number_of(other),
+                               percent_change(number, other) if is_size else '')
                     for number, other, is_size in counts),
-            *(changed(milliseconds(rank, screen), milliseconds(other, screen),
-                      change_of(rank, other)) for rank, other in latencies),
+            *(both_cells(milliseconds(rank, screen), milliseconds(other, screen),
+                         percent_change(rank, other)) for rank, other in latencies),
             ', '.join(errors) or '-']
 
 
-def changed(first: str, second: str, change: str = '') -> str:
+def both_cells(first: str, second: str, change: str = '') -> str:
     """What both recordings have, or else what each of them has, and the change."""
     return first if first == second else f'{first} -> {second}{change}'
 
 
-def change_of(first: int | None, second: int | None) -> str:
+def percent_change(first: int | None, second: int | None) -> str:
     """The change in per cent, if there is something that it is of."""
     return (f' ({round(100 * (second - first) / first):+d} %)' if first and second is not None
             else '')
@@ -311,40 +319,42 @@ def change_of(first: int | None, second: int | None) -> str:
 
 # --- The page ---
 
-def page_of(found: Sequence[Counted], chosen: argparse.Namespace) -> Iterator[bytes]:
+def procedures_page(found: Sequence[CountedRecording],
+                    chosen: argparse.Namespace) -> Iterator[bytes]:
     """The page: the tables that are printed, and a time line for each recording."""
     whole, of_each = list[ShownTable](), list[list[ShownTable]]()
     if chosen.beside:
         whole = [shown_of('A: {} | B: {}'.format(*(escaped(one.seen.recording) for one in found)),
                           rows_beside(found[0], found[1], chosen.sort, ON_PAGE))]
     elif len(found) > 1:
-        whole = [shown('all recordings', in_all_of(found), chosen.sort)]
+        whole = [shown_table('all recordings', in_all_of(found), chosen.sort)]
     if not chosen.beside:
-        of_each = [[shown('in all', one.in_all, chosen.sort),
-                    *(shown(title_of(table.verdict._replace(message=said_of(table.verdict)),
-                                     Screen()), table, chosen.sort)
+        of_each = [[shown_table('in all', one.in_all, chosen.sort),
+                    *(shown_table(table_title(
+                        table.verdict._replace(message=said_of(table.verdict)), Screen()),
+                                  table, chosen.sort)
                       for table in ([] if chosen.total else one.tables) if table.verdict)]
                    for one in found]
-    return page([one.seen for one in found], allowed_of(chosen), whole, of_each)
+    return judged_page([one.seen for one in found], allowed_of(chosen), whole, of_each)
 
 
-def shown(title: str, table: Table, column: str) -> ShownTable:
+def shown_table(title: str, table: TallyTable, column: str) -> ShownTable:
     """A table as it is printed, for the page."""
     return shown_of(title + told_of_clock(total_of(table.tallies)),
-                    rows_of(table, column, ON_PAGE))
+                    table_rows(table, column, ON_PAGE))
 
 
 def shown_of(title: str, styled: Sequence[Styled]) -> ShownTable:
     """The same of rows, with the errors beside the counts."""
     rows = [row._replace(cells=beside_calls(row.cells)) for row in styled]
-    numbers = [at for at, head in enumerate(rows[0].cells) if head in HEADS[1:-1]]
+    numbers = [at for at, head in enumerate(rows[0].cells) if head in PROCEDURE_HEADS[1:-1]]
     return as_printed(title, rows, numbers)
 
 
 # --- What is written ---
 
-def object_of(name: str, tally: Tally) -> dict[str, typing.Any]:
-    counts = {count: getattr(tally, count) for count in COUNTS}
+def tally_object(name: str, tally: Tally) -> dict[str, typing.Any]:
+    counts = {count: getattr(tally, count) for count in TALLY_COUNTS}
     ranks = dict(zip(RANKS, latencies_of(tally)))
     longest = tally.longest
     position = longest and str(Place(longest.connection, 'client', longest.record))
@@ -354,7 +364,7 @@ def object_of(name: str, tally: Tally) -> dict[str, typing.Any]:
             'latencies': len(tally.latencies), **ranks, **where}
 
 
-def whose(table: Table) -> dict[str, typing.Any]:
+def whose(table: TallyTable) -> dict[str, typing.Any]:
     """The recording and the connection of a table."""
     verdict = table.verdict
     name = None if table.recording is None else escaped(table.recording)
@@ -363,25 +373,25 @@ def whose(table: Table) -> dict[str, typing.Any]:
             'server': verdict.server if verdict else ''}
 
 
-def json_of(found: Sequence[Counted], column: str) -> bytes:
+def json_of_tables(found: Sequence[CountedRecording], column: str) -> bytes:
     """The verdicts, as tools/verdicts writes them, and the tables; of each the last object of its
     procedures is the sum."""
     verdicts = verdicts_in(one.seen for one in found)
-    tables = [{**whose(table), 'procedures': [object_of(*row) for row in table.rows(column)]}
+    tables = [{**whose(table), 'procedures': [tally_object(*row) for row in table.rows(column)]}
               for one in found for table in (*one.tables, one.in_all)]
-    whole = {'version': VERSION, **members_of(verdicts), 'tables': tables}
+    whole = {'version': VERDICTS_VERSION, **verdict_members(verdicts), 'tables': tables}
     return json.dumps(whole, indent=1).encode() + b'\n'
 
 
-def csv_of(found: Sequence[Counted], column: str) -> bytes:
+def csv_of(found: Sequence[CountedRecording], column: str) -> bytes:
     """The tables in one, without the rows of sums. The rows of a recording in all have no
     connection."""
     text = io.StringIO()
-    rows = [{**whose(table), **object_of(*row),
+    rows = [{**whose(table), **tally_object(*row),
              'errors': ' '.join(f'{name}={number}' for name, number in most_first(row[1].errors))}
             for one in found for table in (*one.tables, one.in_all) for row in table.rows(column)
             if row[0] != IN_ALL]
-    heads = [*whose(Table(None, None, {})), *object_of('', Tally())]
+    heads = [*whose(TallyTable(None, None, {})), *tally_object('', Tally())]
     writer = csv.DictWriter(text, heads)
     writer.writeheader()
     writer.writerows(rows)
@@ -390,13 +400,14 @@ def csv_of(found: Sequence[Counted], column: str) -> bytes:
 
 # --- The command ---
 
-def words_of(words: list[str]) -> argparse.Namespace:
+def command_line_of_procedures(words: list[str]) -> argparse.Namespace:
     parser = parser_of(__doc__, 'procedures')
     parser.add_argument('--beside', action='store_true',
                         help='prints two recordings side by side, with what changed')
     parser.add_argument('--total', action='store_true', help='prints no tables of connections')
-    parser.add_argument('--sort', metavar='COLUMN', choices=[BY_NAME, *COLUMNS], default=BY_NAME,
-                        help=f'has the largest of a column first: {", ".join(COLUMNS)}')
+    parser.add_argument('--sort', metavar='COLUMN', choices=[BY_PROCEDURE, *SORT_COLUMNS],
+                        default=BY_PROCEDURE,
+                        help=f'has the largest of a column first: {", ".join(SORT_COLUMNS)}')
     parser.add_argument('--json', metavar='FILE', help='writes the verdicts and the tables as JSON')
     parser.add_argument('--csv', metavar='FILE', help='writes the tables as comma-separated values')
     parser.add_argument('--html', metavar='FILE',
@@ -411,10 +422,11 @@ def words_of(words: list[str]) -> argparse.Namespace:
 
 
 def main(words: list[str]) -> int:
-    chosen = words_of(words)
-    with writing(files_in(chosen.recordings), (chosen.json, lambda: [json_of(found, chosen.sort)]),
+    chosen = command_line_of_procedures(words)
+    with writing(files_in(chosen.recordings),
+                 (chosen.json, lambda: [json_of_tables(found, chosen.sort)]),
                  (chosen.csv, lambda: [csv_of(found, chosen.sort)]),
-                 (chosen.html, lambda: page_of(found, chosen))):
+                 (chosen.html, lambda: procedures_page(found, chosen))):
         judge = judge_of(chosen)
         found = [counted(judge, recording, chosen) for recording in chosen.recordings]
         verdicts = verdicts_in(one.seen for one in found)

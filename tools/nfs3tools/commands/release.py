@@ -42,7 +42,7 @@ def entry(info: tarfile.TarInfo) -> tarfile.TarInfo:
 
 PACKAGER = 'dpkg-deb'
 # Debian has pages packed, and looks for completions of zsh in a folder of its own.
-PAGES, ZSH, ZSH_OF_DEBIAN = (
+DEBIAN_PAGES, ZSH, ZSH_OF_DEBIAN = (
     'usr/share/man', 'usr/share/zsh/site-functions', 'usr/share/zsh/vendor-completions')
 DOCUMENTS = 'usr/share/doc/nfs3canon'
 CONTROL = """Package: nfs3canon
@@ -84,12 +84,12 @@ def package(folder: Path, program: Path) -> Path:
                                 env={**os.environ, 'SOURCE_DATE_EPOCH': str(RELEASED)})
         if answer.returncode:
             raise Died(f'{PACKAGER}: {printable(answer.stderr.decode(errors="replace").strip())}')
-        return with_checksum(archive, made.read_bytes())
+        return write_archive(archive, made.read_bytes())
 
 
 def arrange(tree: Path) -> None:
     """Puts files where Debian has them."""
-    for page in sorted((tree / PAGES).rglob('*.1')):
+    for page in sorted((tree / DEBIAN_PAGES).rglob('*.1')):
         put(page.with_name(f'{page.name}.gz'), gzip.compress(page.read_bytes(), mtime=RELEASED))
         page.unlink()
     (tree / ZSH).rename(tree / ZSH_OF_DEBIAN)
@@ -122,10 +122,10 @@ def release(folder: Path, program: Path) -> Path:
                 tar.add(path, path.relative_to(place), recursive=False, filter=entry)
         file.seek(0)
         content = file.read()
-    return with_checksum(archive, content)
+    return write_archive(archive, content)
 
 
-def with_checksum(archive: Path, content: bytes) -> Path:
+def write_archive(archive: Path, content: bytes) -> Path:
     write_file(str(archive), [content], replaces=(COMPRESSED,))
     write_file(f'{archive}.sha256',
                [f'{hashlib.sha256(content).hexdigest()}  {archive.name}\n'.encode()])

@@ -66,21 +66,22 @@ from xml.etree.ElementTree import SubElement
 from ..judgement.following import Form, follow
 from ..judgement.unanswered import Unanswered, open_calls
 from ..judgement.verdict import (
-    COVERED, HEADS, VERSION, Verdict, colour_of, counts_after, error_of, is_row, kept_in,
-    object_of, of_covered, row_of, status_of, sums_of, tell_notes, told, verdict_of)
-from ..pages.judged import Seen, page, seen_in, table_of, verdicts_in
-from ..recordings.coverage import Allowed, named as named_calls
+    COVERED, VERDICTS_VERSION, VERDICT_HEADS, Verdict, colour_of, counts_after, error_verdict,
+    is_row, kept_in, of_covered, said_last, status_of, sums_of, tell_notes, verdict_object,
+    verdict_of, verdict_row)
+from ..pages.judged import Seen, judged_page, seen_in, table_of, verdicts_in
+from ..recordings.coverage import Allowed, named_calls
 from ..recordings.parts import files_in, files_of
 from ..recordings.selection import Options
 from ..recordings.taken import NotTaken, Taken, TakenConnection, take
 from ..reporting.junit import Suite
 from ..reporting.messages import (
-    add_recordings, advice_on, allowed_of, options_of, parser_of, run, words_of)
+    add_recordings, advice_on, allowed_of, error_text, options_of, parser_of, run)
 from ..shared.outputs import STANDARD_OUTPUT, writing
 from ..shared.places import Place, parse_fault
 from ..shared.printed import escaped, printable
 from ..shared.programs import CHECKED, Died, FilterRefused, Missing, program_path, run_program
-from ..shared.screens import Screen, Styled, is_as_wide, lines_of, positive, screen_of
+from ..shared.screens import Screen, Styled, is_as_wide, positive, screen_of, table_lines
 
 CONNECTIONS_AT_ONCE = 32  # of a recording
 Look = typing.Callable[[Taken, list[Verdict]], object]
@@ -105,15 +106,15 @@ class Judge(typing.NamedTuple):
                     look(taken, verdicts)
                 return verdicts
         except NotTaken as refused:
-            return [error_of(recording, advice_on(refused, 'verdicts'))]
+            return [error_verdict(recording, advice_on(refused, 'verdicts'))]
         except (FilterRefused, Missing) as refused:
-            return [error_of(recording, str(refused))]
+            return [error_verdict(recording, str(refused))]
         except OSError as failed:
-            return [error_of(recording, words_of(failed))]
+            return [error_verdict(recording, error_text(failed))]
         except Died as died:
             raise Died(f'{escaped(recording)}: {died}') from died
         except MemoryError:
-            return [error_of(recording, 'out of memory')]
+            return [error_verdict(recording, 'out of memory')]
 
     def seen(self, recording: str) -> Seen:
         """The verdicts on a recording or capture, with what a page shows besides."""
@@ -140,9 +141,9 @@ class Judge(typing.NamedTuple):
         if taken.damage and not taken.is_recording:
             verdicts += self.of_container(recording, verdicts)
         elif taken.damage:
-            verdicts.append(error_of(recording, taken.damage))
+            verdicts.append(error_verdict(recording, taken.damage))
         elif not taken.connections and taken.is_recording:
-            verdicts.append(error_of(recording, taken.nothing))
+            verdicts.append(error_verdict(recording, taken.nothing))
         return [Verdict(recording, state='note', message=note) for note in taken.notes] + verdicts
 
     def of_connection(self, recording: str, taken: Taken, connection: TakenConnection) -> Verdict:
@@ -157,7 +158,7 @@ class Judge(typing.NamedTuple):
         answer = run_program(self.program, ['check', *files_of(recording)], CHECKED)
         fault = parse_fault(answer.error)
         if fault is None:
-            return [error_of(recording, told(answer))]
+            return [error_verdict(recording, said_last(answer))]
         at = fault.place.connection if isinstance(fault.place, Place) else None
         if at is not None and any(other.connection == at for other in others):
             return []
@@ -220,24 +221,24 @@ def judged_all(chosen: argparse.Namespace) -> int:
     recordings_at_once = chosen.j or os.cpu_count() or 1
     at_once = max(1, min(CONNECTIONS_AT_ONCE, recordings_at_once // len(chosen.recordings)))
     allowed, inputs = allowed_of(chosen), files_in(chosen.recordings)
-    with writing(inputs, (chosen.junit, lambda: [junit_of(verdicts, allowed)]),
-                 (chosen.json, lambda: [json_of(verdicts)]),
-                 (chosen.html, lambda: page(seen, allowed, [table_of(seen)]))):
+    with writing(inputs, (chosen.junit, lambda: [junit_of_verdicts(verdicts, allowed)]),
+                 (chosen.json, lambda: [json_of_verdicts(verdicts)]),
+                 (chosen.html, lambda: judged_page(seen, allowed, [table_of(seen)]))):
         judge = Judge(program_path(chosen.program), options_of(chosen), at_once,
                       len(chosen.recordings) == 1)
         try:
-            seen = list(judged(judge.seen if chosen.html else judge.unseen, chosen.recordings,
-                               recordings_at_once))
+            seen = list(judged_recordings(judge.seen if chosen.html else judge.unseen,
+                                          chosen.recordings, recordings_at_once))
         except concurrent.futures.BrokenExecutor as broken:
             raise OSError('a process that judged a recording was killed, as when memory runs '
                           'out') from broken
         verdicts = verdicts_in(seen)
-        print_table(verdicts, chosen.quiet, screen_of(chosen.color))
+        print_verdicts(verdicts, chosen.quiet, screen_of(chosen.color))
     return status_of(verdicts, allowed)
 
 
-def judged(judge: typing.Callable[[str], Seen], recordings: list[str],
-           at_once: int) -> typing.Iterator[Seen]:
+def judged_recordings(judge: typing.Callable[[str], Seen], recordings: list[str],
+                      at_once: int) -> typing.Iterator[Seen]:
     """Iterates over what is said of recordings, in their order. Processes of their own judge them
     if they are several."""
     processes, is_shown = min(at_once, len(recordings)), sys.stderr.isatty()
@@ -264,36 +265,37 @@ def leave_interrupts() -> None:
 
 # --- What is printed and written ---
 
-def print_table(verdicts: list[Verdict], is_quiet: bool, screen: Screen) -> None:
+def print_verdicts(verdicts: list[Verdict], is_quiet: bool, screen: Screen) -> None:
     """Prints a row for each verdict but those on connections that show no call, which with all
     notes go to standard error."""
     tell_notes(verdicts)
-    for line in rows_of([verdict for verdict in verdicts if is_row(verdict, is_quiet)],
-                        not is_quiet, screen):
+    for line in verdict_lines([verdict for verdict in verdicts if is_row(verdict, is_quiet)],
+                              not is_quiet, screen):
         print(line)
     print(*screen.wrapped(sums_of(verdicts), 0), sep='\n')
 
 
-def rows_of(verdicts: list[Verdict], has_heads: bool, screen: Screen) -> typing.Iterator[str]:
+def verdict_lines(verdicts: list[Verdict], has_heads: bool, screen: Screen) -> typing.Iterator[str]:
     """The lines of a table. If it is too wide for the terminal, each recording has its own."""
-    heads = [Styled(HEADS)] if has_heads else []
-    rows = [Styled(row_of(verdict, screen), colour_of(verdict)) for verdict in verdicts]
+    heads = [Styled(VERDICT_HEADS)] if has_heads else []
+    rows = [Styled(verdict_row(verdict, screen), colour_of(verdict)) for verdict in verdicts]
     if screen.width is None or is_as_wide([*heads, *rows], screen.width):
-        yield from lines_of([*heads, *rows], screen)
+        yield from table_lines([*heads, *rows], screen)
         return
     for name, some in itertools.groupby(rows, lambda row: row.cells[0]):
         yield from screen.wrapped(f'{name}:', 0)
-        yield from lines_of([row._replace(cells=row.cells[1:]) for row in (*heads, *some)], screen)
+        yield from table_lines([row._replace(cells=row.cells[1:]) for row in (*heads, *some)],
+                               screen)
 
 
-def junit_of(verdicts: list[Verdict], allowed: Allowed) -> bytes:
+def junit_of_verdicts(verdicts: list[Verdict], allowed: Allowed) -> bytes:
     """The verdicts as JUnit XML: a suite with a test case for each, the counts as its properties,
     and the notes on whole recordings as its output."""
     counts = counts_after(verdicts)
     suite = Suite('nfs3canon', [*counts.numbers().items(), ('raw', named_calls(counts.raw))])
     for verdict in (verdict for verdict in verdicts if verdict.state != 'note'):
         is_word, tag = verdict.state in COVERED, tag_of(verdict, allowed)
-        case = suite.add(escaped(verdict.recording), name_of(verdict), tag,
+        case = suite.add(escaped(verdict.recording), name_of_case(verdict), tag,
                          printable(verdict.message),
                          attributes={'type': verdict.state} if is_word and tag == 'failure' else {},
                          time=f'{verdict.seconds:.3f}')
@@ -314,7 +316,7 @@ def tag_of(verdict: Verdict, allowed: Allowed) -> str | None:
     return None if verdict.is_good(allowed) else 'error' if verdict.state == 'error' else 'failure'
 
 
-def name_of(verdict: Verdict) -> str:
+def name_of_case(verdict: Verdict) -> str:
     if verdict.connection is None:
         return (printable(verdict.message) if verdict.state in ('left out', 'in part')
                 else 'as a whole')
@@ -323,10 +325,10 @@ def name_of(verdict: Verdict) -> str:
     return f'connection {verdict.connection}{ends}'
 
 
-def json_of(verdicts: list[Verdict]) -> bytes:
+def json_of_verdicts(verdicts: list[Verdict]) -> bytes:
     """The verdicts as JSON, with the version of this form, the counts, and an object for each."""
-    whole = {'version': VERSION, 'counts': counts_after(verdicts).members(),
-             'rows': [*map(object_of, verdicts)]}
+    whole = {'version': VERDICTS_VERSION, 'counts': counts_after(verdicts).members(),
+             'rows': [*map(verdict_object, verdicts)]}
     return json.dumps(whole, indent=1).encode() + b'\n'
 
 

@@ -32,7 +32,7 @@ from functools import partial
 
 from ..recordings.carried import places_at
 from ..recordings.taken import NotTaken, take
-from ..reporting.frames import lines_of
+from ..reporting.frames import place_lines
 from ..reporting.messages import (
     ABSENT, add_options, ended, options_of, parser_of, position_text, run)
 from ..shared.places import NoPlace, parse_place
@@ -54,7 +54,7 @@ def main(words: list[str]) -> int:
         except NoPlace as absent:
             return ended('where', str(absent), ABSENT)
         for one, frames in found:
-            print('\n'.join(lines_of(taken, one, frames)))
+            print('\n'.join(place_lines(taken, one, frames)))
     return 0
 
 

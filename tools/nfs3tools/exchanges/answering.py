@@ -16,9 +16,9 @@ from ..recordings.records import Window, body_of, extent_of, xids
 from ..recordings.taken import TakenStream
 from ..shared.layouts import MOUNTSTAT, NFSSTAT, VALUES
 
-STATUS = re.compile(r' mtype=1 reply_stat=(?:'
-                    r'0 verf_flavor=\d+ verf_body=\w* accept_stat=(\d+)(?: status=(\d+))?'
-                    r'|1 reject_stat=(\d+)(?: auth_stat=(\d+))?)')
+REPLY_STATUS = re.compile(r' mtype=1 reply_stat=(?:'
+                          r'0 verf_flavor=\d+ verf_body=\w* accept_stat=(\d+)(?: status=(\d+))?'
+                          r'|1 reject_stat=(\d+)(?: auth_stat=(\d+))?)')
 # As most replies begin.
 SUCCESS = ' mtype=1 reply_stat=0 verf_flavor=0 verf_body= accept_stat=0 status=0 '
 
@@ -72,7 +72,7 @@ class Answering:
         return owners.popleft() if len(owners) > 1 else owners[0]
 
 
-class Sent(NamedTuple):
+class UnreadCall(NamedTuple):
     """A call in a stream, before it is known what it says: where its record begins and ends, and
     its xid."""
     stream: TakenStream
@@ -86,9 +86,9 @@ class Sent(NamedTuple):
         return hash(body_of(window, extent_of(window, self.begin, self.end))[4:])
 
 
-def calls_in(stream: TakenStream) -> Iterator[Sent]:
+def calls_in(stream: TakenStream) -> Iterator[UnreadCall]:
     """Iterates over the records of a client."""
-    return (Sent(stream, extent.begin, extent.end, xid)
+    return (UnreadCall(stream, extent.begin, extent.end, xid)
             for extent, xid, _ in xids(Window(stream), 0, stream.size))
 
 
@@ -101,7 +101,7 @@ class Answers:
     replies: how many replies each call that was sent first has
     """
 
-    def __init__(self, calls: Iterable[Sent], server: TakenStream,
+    def __init__(self, calls: Iterable[UnreadCall], server: TakenStream,
                  answered_before: Collection[int] = ()) -> None:
         """`answered_before` are the numbers of calls that had a reply before these records."""
         self.calls, rule = list(calls), Answering()
@@ -139,14 +139,14 @@ def error_in(procedure: str, said: str) -> str:
     """Returns the name of the error in the items of a reply, or nothing for success."""
     if said.startswith(SUCCESS):
         return ''
-    read = STATUS.match(said)
+    read = REPLY_STATUS.match(said)
     assert read, said[:200]
-    return error_of(procedure, *read.groups())
+    return error_name(procedure, *read.groups())
 
 
 @functools.cache
-def error_of(procedure: str, accepted: str | None, status: str | None,
-             rejected: str | None, unauthorized: str | None) -> str:
+def error_name(procedure: str, accepted: str | None, status: str | None,
+               rejected: str | None, unauthorized: str | None) -> str:
     """Returns the name of the error that a reply has, nothing for success: the status of NFS or
     MOUNT, or else why the call was not accepted."""
     if unauthorized is not None:

@@ -16,13 +16,13 @@ from ..shared.layouts import RAW, VALUES, meaning_of
 from .answering import error_in
 from .listing import ITEM
 
-LONGEST = 1_000  # characters of a name or a text
-KEPT_AT_MOST = 1_024  # texts that are made once
+LONGEST_TEXT = 1_000  # characters of a name or a text
+TEXTS_KEPT_AT_MOST = 1_024  # texts that are made once
 ASKED_AT_MOST = 128  # the same of calls: a client asks the same again soon
 WIDTH = 7  # of GETATTR and SETATTR, and of names that are shorter
-HEAD = re.compile(r' mtype=0 rpcvers=2 prog=\d+ vers=\d+ proc=\d+ cred_flavor=\d+ '
-                  r'(?:cred_body=\w*|cred_length=\d+ stamp=\d+ machinename="[^"]*" uid=(\d+) '
-                  r'gid=\d+ gids=\d+(?: group=\d+)*) verf_flavor=0 verf_body=\w*')
+CALL_HEAD = re.compile(r' mtype=0 rpcvers=2 prog=\d+ vers=\d+ proc=\d+ cred_flavor=\d+ '
+                       r'(?:cred_body=\w*|cred_length=\d+ stamp=\d+ machinename="[^"]*" uid=(\d+) '
+                       r'gid=\d+ gids=\d+(?: group=\d+)*) verf_flavor=0 verf_body=\w*')
 OBJECT = re.compile(r' (?:fh=([^ ]*)(?: name="([^"]*)")?|dirpath="([^"]*)")')
 # The arguments besides handles and names, by procedures. Some names mean several items.
 ARGUMENTS = {'NFSPROC3_SETATTR': '{sattr}{guard}', 'NFSPROC3_ACCESS': '{access}',
@@ -79,7 +79,7 @@ def asked_in(procedure: str, said: str) -> Asked:
     template = ARGUMENTS.get(procedure)
     if template is None:
         return Asked(user, handle, entry)
-    words = told(template, ITEM.findall(said, end)).strip()
+    words = filled(template, ITEM.findall(said, end)).strip()
     return Asked(user, handle, entry, None, None, words)
 
 
@@ -93,7 +93,7 @@ def head_of(procedure: str, said: str) -> tuple[str, int | None]:
     # (the head ends before a space; with the same text before it, it is the same head)
     if last and said.startswith(last[0]) and said[len(last[0]):len(last[0]) + 1] in ' ':
         return last
-    head = HEAD.match(said)
+    head = CALL_HEAD.match(said)
     assert head, said[:200]
     found = LAST_HEADS[procedure] = head[0], int(head[1]) if head[1] else None
     return found
@@ -107,10 +107,10 @@ def object_at(said: str, begin: int) -> tuple[str | None, str | None, int]:
         return None, None, begin
     handle, name, path = found.groups()
     entry = name if handle is not None else path
-    return handle, None if entry is None else cut(entry), found.end()
+    return handle, None if entry is None else beginning_of(entry), found.end()
 
 
-def told(template: str, items: Iterable[tuple[str, str]]) -> str:
+def filled(template: str, items: Iterable[tuple[str, str]]) -> str:
     """Returns a template with the items of a call or of a reply in words."""
     values = dict(items)
     for name in not_plain(template):
@@ -128,28 +128,28 @@ def not_plain(template: str) -> list[str]:
 def of_several(name: str, values: Mapping[str, str]) -> str:
     """Returns what a name in a template means that is not that of an item."""
     if name == 'sattr':
-        return ''.join(f' {word}' for word in settings_in(values))
+        return ''.join(f' {word}' for word in settings_in_words(values))
     if name == 'guard':
         return ' guarded' if values['check'] == '1' else ''
     if name == 'device':
         return ' {spec1}:{spec2}'.format_map(values) if 'spec1' in values else ''
     if name == 'end':
         return ' eof' if values['eof'] == '1' else ''
-    return cut(values['path'].strip('"'))
+    return beginning_of(values['path'].strip('"'))
 
 
-@functools.lru_cache(KEPT_AT_MOST)
+@functools.lru_cache(TEXTS_KEPT_AT_MOST)
 def number_named(name: str, value: str) -> str:
     """The name of an item's number."""
     return meaning_of(name, value, VALUES.get(name)).removeprefix('NF3')
 
 
-def cut(text: str) -> str:
+def beginning_of(text: str) -> str:
     """Returns a text, of a long one the beginning."""
-    return text if len(text) <= LONGEST else SPLIT.sub('', text[:LONGEST]) + '..'
+    return text if len(text) <= LONGEST_TEXT else SPLIT.sub('', text[:LONGEST_TEXT]) + '..'
 
 
-def settings_in(items: Mapping[str, str]) -> Iterator[str]:
+def settings_in_words(items: Mapping[str, str]) -> Iterator[str]:
     """The attributes that a call sets."""
     if items.get('set_mode') == '1':
         yield number_named('mode', items['mode'])
@@ -177,10 +177,10 @@ def answer_in(procedure: str, said: str) -> str:
     return 'OK' if read is None else result_of(template, read.groups())
 
 
-@functools.lru_cache(KEPT_AT_MOST)
+@functools.lru_cache(TEXTS_KEPT_AT_MOST)
 def result_of(template: str, values: tuple[str, ...]) -> str:
     """What a success says, by names of items each with its value."""
-    return 'OK ' + told(template, zip(values[::2], values[1::2]))
+    return 'OK ' + filled(template, zip(values[::2], values[1::2]))
 
 
 def entries_in(said: str) -> str:
@@ -190,7 +190,7 @@ def entries_in(said: str) -> str:
     return f'{number:,} {"entry" if number == 1 else "entries"}' + ' eof' * is_end
 
 
-@functools.lru_cache(KEPT_AT_MOST)
+@functools.lru_cache(TEXTS_KEPT_AT_MOST)
 def short_name(procedure: str) -> str:
     """The name of a procedure without that of its version: `WRITE` of NFS, `MOUNT MNT` of MOUNT. A
     short one is as wide as most are."""

@@ -23,13 +23,13 @@ from .answering import Answering, error_in
 from .in_words import Asked, answer_in, asked_in, short_name
 from .listing import ITEM, Item, Message, is_call, listed_of, name_of_call
 from .objects import LISTING, MAKING, RENAMING, TEACHING, UNKNOWN, Move, Paths, below
-from .stored import Texts, Values, without_long
+from .stored import LongValues, Texts, without_long
 
 UNTIMED = -1 << 63  # means no latency
-HANDLE = re.compile(r' (fh)=([^ ]*)')
+HANDLE_ITEM = re.compile(r' (fh)=([^ ]*)')
 
 
-class Part(NamedTuple):
+class KeptConnection(NamedTuple):
     """A connection whose exchanges are kept.
 
     number, client, server: as those of what was taken
@@ -53,7 +53,7 @@ class Part(NamedTuple):
         return path if entry is None else below(path, entry)
 
 
-class Sent(NamedTuple):
+class SentRecord(NamedTuple):
     """A record, with the frame that completed it, when, and how many bytes it has with its
     marks. Frame and time are 0 if they are not known."""
     record: int
@@ -62,7 +62,7 @@ class Sent(NamedTuple):
     size: int
 
 
-class Exchange:
+class KeptExchange:
     """A call, with its retransmissions and its replies. What they say is read once it is asked for.
 
     part: its connection
@@ -87,15 +87,15 @@ class Exchange:
         return None if latency == UNTIMED else latency
 
     @property
-    def sent(self) -> Sent:
-        return Sent(self.record, self.frame, self.time, self.kept.sizes[self.at])
+    def sent(self) -> SentRecord:
+        return SentRecord(self.record, self.frame, self.time, self.kept.sizes[self.at])
 
     @property
-    def again(self) -> Sequence[Sent]:
+    def again(self) -> Sequence[SentRecord]:
         return self.kept.again.get(self.at, ())
 
     @property
-    def answered(self) -> Sequence[Sent]:
+    def answered(self) -> Sequence[SentRecord]:
         return [self.kept.reply(number) for number in self.kept.replies_of(self.at)]
 
     @cached_property
@@ -141,7 +141,7 @@ class Exchange:
         replies = self.kept.replies_of(self.at)
         if not replies or self.errors or self.kept.listed_name(self.at) not in MAKING:
             return None
-        found = HANDLE.search(self.kept.answering[replies[0]])
+        found = HANDLE_ITEM.search(self.kept.answering[replies[0]])
         return found[2] if found else None
 
     @property
@@ -208,7 +208,7 @@ class Exchange:
         return bool(self.errors)
 
 
-def call_of(one: Exchange) -> str:
+def call_text(one: KeptExchange) -> str:
     """A call with its paths and its other arguments."""
     asked, words, path = one.asked, [short_name(one.procedure)], one.path
     if path is not None:
@@ -234,11 +234,11 @@ class Kept:
     errors: the errors of replies, by exchanges
     """
 
-    def __init__(self, values: Values | None = None, has_texts: bool = True) -> None:
+    def __init__(self, values: LongValues | None = None, has_texts: bool = True) -> None:
         """`values` keeps long values, which are lost without it. Without texts it is only kept when
         an exchange was, its procedure and its errors."""
         self.spool, self.values, self.has_texts = Spool(), values, has_texts
-        self.parts, self.starts = list[Part](), list[int]()
+        self.parts, self.starts = list[KeptConnection](), list[int]()
         # What each call says, and each reply.
         self.asking, self.answering = Texts(self.spool), Texts(self.spool)
         # By the address of the server, since other servers may have equal handles.
@@ -248,7 +248,7 @@ class Kept:
         self.part_of, self.records, self.xids = array('I'), array('I'), array('I')
         self.sizes = array('I')
         self.frames, self.times = array('Q'), array('q')
-        self.again, self.errors = dict[int, list[Sent]](), dict[int, list[str]]()
+        self.again, self.errors = dict[int, list[SentRecord]](), dict[int, list[str]]()
         self.said = list[Sequence[int]]()  # hashes of what the calls of each connection say
         # Calls that were sent again on a later connection, both ways, and when all ended.
         self.later, self.earlier = dict[int, int](), dict[int, int]()
@@ -275,8 +275,8 @@ class Kept:
         paths = self.paths.setdefault(connection.server_end.rpartition(':')[0], Paths())
         has_all = not is_refused and has_all_replies(connection)
         self.starts.append(len(self))
-        self.parts.append(Part(connection.number, connection.client_end, connection.server_end,
-                               paths, is_refused, has_all))
+        self.parts.append(KeptConnection(connection.number, connection.client_end,
+                                         connection.server_end, paths, is_refused, has_all))
         reading = Reading(self, paths)
         call, reply = reading.call, reading.reply
         for line, completion in listed_of(program, connection, is_refused):
@@ -342,9 +342,9 @@ class Kept:
             later = self.later.get(later)
         return later
 
-    def exchange(self, at: int) -> Exchange:
+    def exchange(self, at: int) -> KeptExchange:
         """Returns an exchange by its number."""
-        return Exchange(self, at)
+        return KeptExchange(self, at)
 
     def position(self, at: int | None) -> str | None:
         """Returns the position of an exchange, as `7:3182`."""
@@ -364,9 +364,9 @@ class Kept:
         first = self.firsts[at]
         return (first - 1, *self.further.get(at, ())) if first else ()
 
-    def reply(self, number: int) -> Sent:
-        return Sent(self.reply_records[number], self.reply_frames[number],
-                    self.reply_times[number], self.reply_sizes[number])
+    def reply(self, number: int) -> SentRecord:
+        return SentRecord(self.reply_records[number], self.reply_frames[number],
+                          self.reply_times[number], self.reply_sizes[number])
 
     def in_order(self, by_latency: bool) -> list[int]:
         """Returns the numbers of the exchanges by time, or with the longest latency first."""
@@ -414,7 +414,7 @@ class Reading:
         size, frame, time = completion
         if earlier is not None:
             at = self.owners[earlier]
-            kept.again.setdefault(at, []).append(Sent(int(record), frame, time, size))
+            kept.again.setdefault(at, []).append(SentRecord(int(record), frame, time, size))
             self.owners.append(at)
             return
         self.owners.append(len(kept.records))
@@ -479,6 +479,6 @@ class Reading:
             self.paths.moves.append(Move(frame, asked.handle or '', asked.entry or '',
                                          asked.other or '', asked.other_entry or ''))
             return
-        found = ITEM.findall(text) if procedure == LISTING else HANDLE.findall(text)[:1]
+        found = ITEM.findall(text) if procedure == LISTING else HANDLE_ITEM.findall(text)[:1]
         items: Sequence[Item] = [Item(*item) for item in found if item[0] in ('name', 'fh')]
         self.paths.take_reply(procedure, asked.handle or '', asked.entry or '', items, frame)

@@ -16,11 +16,11 @@ from ..recordings.taken import Completion, TakenConnection
 from ..shared.layouts import RAW
 from ..shared.programs import lines_of_program
 from .answering import Answering
-from .stored import Value, Values
+from .stored import LongValues, Value
 
 ITEM = re.compile(r' ([^=]+)=("[^"]*"|[^ ]*)')
-NUMBERS = re.compile(r' ?mtype=0 rpcvers=2 prog=(\d+) vers=(\d+) proc=(\d+) ')
-REFUSED = 2  # the status of `show` after a fault
+CALLED_NUMBERS = re.compile(r' ?mtype=0 rpcvers=2 prog=(\d+) vers=(\d+) proc=(\d+) ')
+STATUS_AFTER_FAULT = 2  # the status of `show` after a fault
 
 
 class Line(NamedTuple):
@@ -93,7 +93,7 @@ class Message:
     xid: int
     procedure: str
     text: str = ''
-    values: Values | None = field(default=None, repr=False, compare=False)
+    values: LongValues | None = field(default=None, repr=False, compare=False)
     frame: int = 0
     time: int = 0
 
@@ -136,14 +136,14 @@ class Exchange:
         return [self.call, *self.again]
 
 
-def message_of(line: str, values: Values | None = None) -> Message:
+def message_of(line: str, values: LongValues | None = None) -> Message:
     """Returns the message of a line of a listing. Long values are put among `values`."""
     read = line_of(line)
     return Message(read.connection, 'client' if read.is_call else 'server', read.record, read.xid,
                    read.procedure, values.cut(read.text) if values else read.text, values)
 
 
-def messages_of(lines: Iterable[str], values: Values | None = None) -> Iterator[Message]:
+def messages_of(lines: Iterable[str], values: LongValues | None = None) -> Iterator[Message]:
     """Returns the messages of a listing, line by line."""
     return (message_of(line, values) for line in lines)
 
@@ -173,7 +173,7 @@ def name_of_call(name: str, said: str) -> str:
     program and its procedure."""
     if name != RAW.name:
         return name
-    read = NUMBERS.match(said)
+    read = CALLED_NUMBERS.match(said)
     assert read, said[:200]
     program, version, procedure = map(int, read.groups())
     return call_named(program, version, procedure)
@@ -198,7 +198,7 @@ def listed_of(program: str, connection: TakenConnection,
     calls, replies = connection.client.completions(), connection.server.completions()
     with captured(connection) as capture:
         for line in lines_of_program(program, ['show', '/dev/stdin'],
-                                     REFUSED if is_refused else 0, capture):
+                                     STATUS_AFTER_FAULT if is_refused else 0, capture):
             yield line, next(calls if is_call(line) else replies)
 
 

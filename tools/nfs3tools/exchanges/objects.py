@@ -19,21 +19,21 @@ TEACHING = {*MAKING, MOUNTING, LISTING, RENAMING}  # whose replies say of handle
 DOTS = ('.', '..')  # the folder itself, and the one above it
 UNKNOWN = '?'  # a folder whose path is not known
 # Paths are cut in their middle, so that many deep ones take no more memory than their names do.
-LONGEST, HEAD, GAP = 1_024, 256, '/ .. /'
+LONGEST_PATH, HEAD_OF_PATH, GAP_IN_PATH = 1_024, 256, '/ .. /'
 
 
 def below(folder: str, name: str) -> str:
     """Returns the path of a name in a folder. If it is long, names are left out of its middle."""
     path = f'{folder.rstrip("/")}/{name}'
-    if len(path) <= LONGEST:
+    if len(path) <= LONGEST_PATH:
         return path
-    head, gap, tail = path.partition(GAP)
+    head, gap, tail = path.partition(GAP_IN_PATH)
     if not gap:
-        head = path[:HEAD].rpartition('/')[0]
+        head = path[:HEAD_OF_PATH].rpartition('/')[0]
         tail = path[len(head) + 1:]
-    while len(head) + len(GAP) + len(tail) > LONGEST and '/' in tail:
+    while len(head) + len(GAP_IN_PATH) + len(tail) > LONGEST_PATH and '/' in tail:
         tail = tail.partition('/')[2]
-    return head + GAP + tail
+    return head + GAP_IN_PATH + tail
 
 
 class Origin(NamedTuple):
@@ -44,7 +44,7 @@ class Origin(NamedTuple):
     is_made: bool
 
 
-class Found(NamedTuple):
+class FoundHandle(NamedTuple):
     """A handle that a reply gave of a name in a folder, and the frame that completed it."""
     frame: int
     folder: str
@@ -72,7 +72,7 @@ class Paths:
         # The handle that was last found under a name of a folder, and all that were, with the
         # frame.
         self.placed: dict[tuple[str, str], str] = {}
-        self.found: list[Found] = []
+        self.found: list[FoundHandle] = []
         self.names: Names | None = None  # what objects were called when, once that was asked for
 
     def of(self, handle: str) -> str | None:
@@ -117,7 +117,7 @@ class Paths:
             place = origin.folder, origin.name
             if self.placed.get(place) != handle:
                 self.placed[place] = handle
-                self.found.append(Found(frame, *place, handle))
+                self.found.append(FoundHandle(frame, *place, handle))
         if handle and origin.name not in DOTS and (
                 known is None or origin.is_made and not known.is_made):
             self.origins[handle] = origin
@@ -170,9 +170,9 @@ class Names:
     def replay(self) -> None:
         """Takes all names and moves in the order of their frames."""
         there = dict[tuple[str, str], str]()
-        events: list[Found | Move] = [*self.paths.found, *self.paths.moves]
+        events: list[FoundHandle | Move] = [*self.paths.found, *self.paths.moves]
         for event in sorted(events, key=lambda one: one.frame):
-            if isinstance(event, Found):
+            if isinstance(event, FoundHandle):
                 there[event.folder, event.name] = event.handle
                 continue
             handle = there.pop((event.folder, event.name), None)

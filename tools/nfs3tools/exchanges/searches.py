@@ -19,15 +19,15 @@ FIRST_NAME = re.compile(r' (?:name|dirpath)="([^"]*)"')
 NAME = re.compile(r' name="([^"]*)"')
 NAME_OR_HANDLE = re.compile(r' name="([^"]*)"| fh=([0-9a-f]{1,8})(?![^ ])')
 ALIKE = re.compile(r' (?:prog|vers|proc|name|dirpath|offset)=("[^"]*"|[^ ]+)')
-PART = re.compile(
+REPLY_PART = re.compile(
     r' type=(\d+) mode=(\d+) nlink=(\d+) uid=(\d+) gid=(\d+) size=(\d+) used=\d+ rdev1=(\d+) '
     r'rdev2=(\d+) fsid=(\d+) fileid=(\d+) atime_sec=\d+ atime_nsec=\d+ mtime_sec=\d+ '
     r'mtime_nsec=\d+ ctime_sec=(\d+) ctime_nsec=(\d+)'
     r'| fileid=(\d+) name="([^"]*)"| fh=([0-9a-f]+)| attr=0')
 WRITTEN = re.compile(r' offset=(\d+) count=(\d+) stable=')
 SETTING = re.compile(r' set_(mode|uid|gid|size)=1')
-ACCESS = re.compile(r' access=(\d+)')
-ENTRY = re.compile(r' name="([^"]*)" cookie=(\d+)')
+ACCESS_ITEM = re.compile(r' access=(\d+)')
+NAME_AND_COOKIE = re.compile(r' name="([^"]*)" cookie=(\d+)')
 COOKIE = re.compile(r' cookie=(\d+)')
 VERIFIER = re.compile(r' createverf=([^ ]+)')
 
@@ -63,7 +63,7 @@ class ReplyPart(NamedTuple):
 
 def parts_in(text: str) -> Iterator[ReplyPart]:
     """Iterates over the parts of a reply."""
-    for found in PART.finditer(text):
+    for found in REPLY_PART.finditer(text):
         if found[1]:
             # (one text for equal ones: there may be many answers)
             attributes = SpelledAttributes._make(map(intern, found.group(*range(1, 11))))
@@ -119,13 +119,13 @@ def settings_in(text: str) -> frozenset[str]:
 
 def access_in(text: str) -> str | None:
     """Returns what an ACCESS grants."""
-    found = ACCESS.search(text)
+    found = ACCESS_ITEM.search(text)
     return found[1] if found else None
 
 
 def cookies_of_names_in(text: str) -> Iterator[tuple[str, str]]:
     """Iterates over the names of entries, each with its cookie."""
-    return ((found[1], found[2]) for found in ENTRY.finditer(text))
+    return ((found[1], found[2]) for found in NAME_AND_COOKIE.finditer(text))
 
 
 def cookies_in(text: str) -> list[str]:
@@ -138,6 +138,6 @@ def verifier_in(text: str) -> str | None:
     return found[1] if found else None
 
 
-def values_of(names: Iterable[str]) -> re.Pattern[str]:
+def pattern_of_items(names: Iterable[str]) -> re.Pattern[str]:
     """Returns what finds the names and values of some items, which are no strings."""
     return re.compile(f' ({"|".join(sorted(names))})=([^ \\n"]+)')

@@ -1,6 +1,6 @@
 """Texts and long values of a listing in temporary files.
 
-    values = Values()
+    values = LongValues()
     text = values.cut(' count=4096 data=6162..')    # ' count=4096 data=#0+4096:9f86..'
     values.value('#0+4096:9f86..').read(0, 10)      # the first ten bytes
 """
@@ -13,11 +13,11 @@ from array import array
 from dataclasses import dataclass, field
 from typing import IO, Union
 
-from ..recordings.records import READ_AT_ONCE
+from ..recordings.records import FETCHED_AT_ONCE
 from ..recordings.spool import Spool, Stored
 
-KEPT_AT_MOST = 1_024  # digits of a value that is part of its text
-MARK = '#'  # with which no value of a listing begins
+DIGITS_IN_TEXT = 1_024  # digits of a value that is part of its text
+LONG_MARK = '#'  # with which no value of a listing begins
 
 
 @dataclass(frozen=True)
@@ -65,7 +65,7 @@ def spelled(value: Value) -> str:
     return value.digits if isinstance(value, Long) else value
 
 
-class Values:
+class LongValues:
     """Long values of a listing in a temporary file, which is there as long as one of them is.
     Strings in quotes are none."""
 
@@ -85,11 +85,11 @@ class Values:
         content, begin = bytes.fromhex(digits), self.size
         while self.size < begin + len(content):
             self.size += os.pwrite(self.file.fileno(), content[self.size - begin:], self.size)
-        return f'{MARK}{begin}+{len(content)}:{hashlib.sha256(content).hexdigest()}'
+        return f'{LONG_MARK}{begin}+{len(content)}:{hashlib.sha256(content).hexdigest()}'
 
     def value(self, word: str) -> Value:
         """Returns the value that a word of a text is, or marks."""
-        if not word.startswith(MARK):
+        if not word.startswith(LONG_MARK):
             return word
         place, _, digest = word[1:].partition(':')
         begin, size = map(int, place.split('+'))
@@ -100,10 +100,10 @@ class Values:
 def begin_of_long(text: str) -> int | None:
     """Returns where the long value of some items begins, if there is one. Data and raw bytes are
     long, which are the last item of a message."""
-    if len(text) <= KEPT_AT_MOST:
+    if len(text) <= DIGITS_IN_TEXT:
         return None
     begin = text.rfind('=') + 1
-    return begin if len(text) - begin > KEPT_AT_MOST and text[-1] != '"' else None
+    return begin if len(text) - begin > DIGITS_IN_TEXT and text[-1] != '"' else None
 
 
 def without_long(text: str) -> str:
@@ -128,7 +128,7 @@ class Texts:
         self.waiting.append(text)
         self.size += len(text)
         self.begins.append(self.size)
-        if self.size - self.stored.size > READ_AT_ONCE:
+        if self.size - self.stored.size > FETCHED_AT_ONCE:
             self.store()
 
     def store(self) -> None:
@@ -139,8 +139,8 @@ class Texts:
         begin, end = self.begins[number], self.begins[number + 1]
         if begin < self.at or end - self.at > len(self.block):
             self.store()
-            is_near = 0 <= begin - self.end < READ_AT_ONCE
-            size = max(end - begin, READ_AT_ONCE if is_near else 0)
+            is_near = 0 <= begin - self.end < FETCHED_AT_ONCE
+            size = max(end - begin, FETCHED_AT_ONCE if is_near else 0)
             self.block, self.at = self.stored.read(begin, size), begin
         self.end = end
         return self.block[begin - self.at:end - self.at].decode('latin-1')

@@ -17,19 +17,19 @@ from operator import itemgetter
 from typing import Any, NamedTuple, Union
 
 from ..shared.layouts import BY_NAME, PARTS, RAW, cases_of
-from .answering import STATUS
+from .answering import REPLY_STATUS
 from .in_words import head_of
-from .stored import Long, Values as LongValues
+from .stored import Long, LongValues
 
 Values = dict[str, Any]
 Data = Union[bytes, Long]  # of a READ or a WRITE
 Time = tuple[int, int]  # seconds and nanoseconds
-LIST, DATA = 'list:', ' o:data'
-KEPT_AT_MOST = 1_024  # times that are made once
+LIST, DATA_ITEM = 'list:', ' o:data'
+TIMES_KEPT_AT_MOST = 1_024  # times that are made once
 
 
-@functools.lru_cache(KEPT_AT_MOST)
-def time_of(text: str) -> Time:
+@functools.lru_cache(TIMES_KEPT_AT_MOST)
+def time_in(text: str) -> Time:
     """Returns a time of the listing, as `5 mtime_nsec=0` after `mtime_sec=`."""
     first, _, rest = text.partition(' ')
     return int(first), int(rest.partition('=')[2])
@@ -37,9 +37,9 @@ def time_of(text: str) -> Time:
 
 # Of each kind of item the pattern behind its name, and what makes a value of it.
 NUMBER = r'=(\d+)', int
-KINDS: Mapping[str, tuple[str, Callable[[str], object]]] = {
+ITEM_KINDS: Mapping[str, tuple[str, Callable[[str], object]]] = {
     't': (r'="([^"]*)"', str), **dict.fromkeys(('o', 'x', 'fh'), (r'=(\w*)', str)),
-    **dict.fromkeys(('atime', 'mtime', 'ctime'), (r'_sec=(\d+ \w+=\d+)', time_of))}
+    **dict.fromkeys(('atime', 'mtime', 'ctime'), (r'_sec=(\d+ \w+=\d+)', time_in))}
 
 
 class Layout:
@@ -53,8 +53,8 @@ class Layout:
     def __init__(self, text: str) -> None:
         first, _, rest = text.partition(LIST)
         self.names, self.makers = list[str](), list[Callable[[str], object]]()
-        self.has_data = first.endswith(DATA)
-        self.pattern = re.compile(self.of_part(first.removesuffix(DATA), ''))
+        self.has_data = first.endswith(DATA_ITEM)
+        self.pattern = re.compile(self.of_part(first.removesuffix(DATA_ITEM), ''))
         self.entry = layout_of(rest.split()[0].partition('=')[2]) if rest else None
 
     def of_part(self, part: str, owner: str) -> str:
@@ -66,11 +66,11 @@ class Layout:
         whose, at, item = item.rpartition('@')
         owner += f'{whose}.' if at else ''
         kind, is_item, name = item.partition(':')
-        if not is_item and item not in KINDS:
+        if not is_item and item not in ITEM_KINDS:
             return self.of_part(item, owner)
         if kind == 'opt':
             return f' {name}=(?:0|1{self.of_part(inner, owner)})'
-        pattern, maker = KINDS.get(kind.rstrip('0123456789'), NUMBER)
+        pattern, maker = ITEM_KINDS.get(kind.rstrip('0123456789'), NUMBER)
         self.names.append(owner + (name or item))
         self.makers.append(maker)
         parts = dict.fromkeys(cases_of(inner).values()) if kind == 'case' else ()
@@ -110,7 +110,7 @@ def read_call(procedure: str, said: str, long_values: LongValues) -> Values:
 
 def read_reply(procedure: str, said: str, long_values: LongValues) -> tuple[int | None, Values]:
     """Returns the status and the results of a reply: no status if the call was not accepted."""
-    found = STATUS.match(said)
+    found = REPLY_STATUS.match(said)
     assert found, said[:200]
     if found[1] != '0' or procedure == RAW.name:
         return None, {}

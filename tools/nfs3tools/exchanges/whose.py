@@ -16,7 +16,7 @@ from typing import NamedTuple
 from ..shared.layouts import BY_NAME, Procedure, Spell, Stop, Walk, cases_of, meaning_of
 from .listing import Item, Message
 
-DIRECTORY = '2'  # NF3DIR
+DIRECTORY_TYPE = '2'  # NF3DIR
 SHAPES_AT_MOST = 1 << 10  # that are kept
 ANY = '*'
 
@@ -155,7 +155,7 @@ class Labels:
     def is_of_a_directory(self, at: int) -> bool:
         """Returns whether the item is one of the attributes of a directory."""
         type_at = self.slots[at].type_at
-        return type_at is not None and self.message.items[type_at].value == DIRECTORY
+        return type_at is not None and self.message.items[type_at].value == DIRECTORY_TYPE
 
     def meaning(self, at: int) -> str:
         """The name of the item's number, if it has one."""

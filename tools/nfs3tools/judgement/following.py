@@ -28,31 +28,32 @@ from ..recordings.frames import NANOSECONDS, Frame, NoRecording, Recording, Sour
 from ..recordings.passed_over import notes_of, nothing_in, remarks_of
 from ..recordings.records import Window, end_of_whole, xids
 from ..recordings.segments import Segment, Segments
-from ..recordings.selection import Kept, Options, Selected, count, select
+from ..recordings.selection import KeptRanges, Options, Selected, count, select
 from ..recordings.spool import Spool, Stored
 from ..recordings.streams import Stream
 from ..recordings.taken import (
-    NO_RPC, NotTaken, Taken, TakenStream, left_out_of, ports_of, taken_connection, whole)
+    NO_RPC, NotTaken, Taken, TakenStream, left_out_of, nfs_ports, taken_connection, whole)
 from ..recordings.unpacking import Damaged
-from ..reporting.messages import advice_on, words_of
+from ..reporting.messages import advice_on, error_text
 from ..shared.kinds import MAGICS
 from ..shared.outputs import held
 from ..shared.printed import escaped
 from ..shared.programs import CHECKED, Died, run_program
-from ..shared.screens import Screen, Styled, lines_of
+from ..shared.screens import Screen, Styled, table_lines
 from .unanswered import Unanswered, open_calls
 from .verdict import (
-    HEADS, VERSION, Before, Verdict, colour_of, counts_after, error_of, is_row, object_of,
-    of_covered, row_of, status_of, tell_notes, verdict_of)
+    VERDICTS_VERSION, VERDICT_HEADS, JudgedBefore, Verdict, colour_of, counts_after, error_verdict,
+    is_row, of_covered, status_of, tell_notes, verdict_object, verdict_of, verdict_row)
 
 # Bytes of a section that is judged for the first time, if it has not had its turn before
 FIRST_SIZE = 1 << 16
-SECTION = 8 << 20  # bytes of a section that is forgotten once it is judged
-KEPT_AT_MOST = 8 * SECTION  # bytes of a connection; then it is judged as at the end
+SECTION_SIZE = 8 << 20  # bytes of a section that is forgotten once it is judged
+# Bytes of a connection; then it is judged as at the end
+CONNECTION_BYTES_AT_MOST = 8 * SECTION_SIZE
 # Bytes of calls without a reply that are put before a section, in the temporary file
 CARRIED_AT_MOST = 32 << 20
 CALLS_AT_MOST = 16_384  # the number of these calls
-HELD_BY_ALL = 12 << 20  # bytes behind gaps
+HELD_WHILE_FOLLOWING = 12 << 20  # bytes behind gaps
 # Connections; the one without segments for the longest time is judged as at the end
 OPEN_AT_MOST = 2_048
 REMEMBERED = 1_024  # connections that were judged, whose last segments are no new connection
@@ -61,7 +62,7 @@ WAITING = NANOSECONDS  # from the first new bytes to a turn
 LATE = 10 * NANOSECONDS  # after which the missing bytes of a closed connection do not come any more
 LATE_FRAMES = 10_000  # the same
 LOOK_EVERY = 1_000  # frames
-READ_AT_ONCE = 1 << 16
+TAKEN_AT_ONCE = 1 << 16
 IDLE = 1.0  # seconds without input, after which all that is new is judged
 POLL = 0.1  # seconds between looks at a file that grows
 WIDTHS = (9, 10, 21, 21, 9, 9, 0)  # of the columns, unless the terminal is narrow
@@ -87,7 +88,7 @@ class Growing:
             if self.wakes in ready:
                 return b''
             if ready or wait == POLL:
-                piece = self.piece(min(size, READ_AT_ONCE))
+                piece = self.piece(min(size, TAKEN_AT_ONCE))
                 if piece or not self.is_waited_for:
                     return piece
                 wait = POLL
@@ -148,7 +149,7 @@ class Open:
     """
     connection: Connection
     number: int = 0
-    before: Before = Before()
+    before: JudgedBefore = JudgedBefore()
     carried: Stored | None = None
     known: frozenset[int] = frozenset()
     answered: list[int] = dataclasses.field(default_factory=list)
@@ -194,10 +195,10 @@ class Open:
         """The stream of a section, after the calls that have no reply in earlier ones."""
         if self.carried is None:
             return client
-        return Joined([TakenStream(self.carried, None, whole(self.carried)), client])
+        return JoinedStreams([TakenStream(self.carried, None, whole(self.carried)), client])
 
 
-class Joined:
+class JoinedStreams:
     """Streams one after the other."""
 
     def __init__(self, streams: list[TakenStream]) -> None:
@@ -214,8 +215,9 @@ class Following:
     def __init__(self, recording: str, program: str, options: Options,
                  say: typing.Callable[[Verdict], None]) -> None:
         self.recording, self.program, self.options, self.say = recording, program, options, say
-        self.ports = ports_of(options)
-        self.segments, self.connections = Segments(self.ports), Connections(True, HELD_BY_ALL)
+        self.ports = nfs_ports(options)
+        self.segments = Segments(self.ports)
+        self.connections = Connections(True, HELD_WHILE_FOLLOWING)
         # By their last segments
         self.open: collections.OrderedDict[int, Open] = collections.OrderedDict()
         self.judged: collections.OrderedDict[int, Connection] = collections.OrderedDict()
@@ -256,7 +258,7 @@ class Following:
         grown enough."""
         if not one.number and any(stream.stored.size for stream in one.connection.streams):
             self.give_number(one)
-        if one.size > KEPT_AT_MOST:
+        if one.size > CONNECTION_BYTES_AT_MOST:
             self.end(one.connection.number)
         elif one.size >= one.next_size:
             self.judge(one)
@@ -273,7 +275,7 @@ class Following:
         if not since <= time < since + WAITING:
             one = self.open[number]
             self.judge(one)
-            self.next_turn = time + BETWEEN_TURNS * (1 + one.size // (SECTION // 2))
+            self.next_turn = time + BETWEEN_TURNS * (1 + one.size // (SECTION_SIZE // 2))
 
     def judge_waiting(self) -> None:
         """Judges all connections that have new bytes."""
@@ -300,8 +302,8 @@ class Following:
         """Judges the whole records of a section. A fault is the verdict on the connection, unless
         the call of a reply may come yet."""
         self.waiting.pop(one.connection.number, None)
-        one.next_size = (one.size + SECTION // 8 if one.size >= SECTION
-                         else min(max(2 * one.size, FIRST_SIZE), SECTION))
+        one.next_size = (one.size + SECTION_SIZE // 8 if one.size >= SECTION_SIZE
+                         else min(max(2 * one.size, FIRST_SIZE), SECTION_SIZE))
         is_begun = all(stream.is_begin for stream in one.connection.streams if stream.stored.size)
         if one.lacks or not one.number or not is_begun and one.size < FIRST_SIZE:
             return
@@ -314,7 +316,7 @@ class Following:
         verdict = self.verdict(one, selected)
         if verdict.state != 'refused' and verdict.state != 'error':
             one.doubted = None
-            if one.size >= SECTION and all(map(is_sure_of_end, streams, selected.kept)):
+            if one.size >= SECTION_SIZE and all(map(is_sure_of_end, streams, selected.kept)):
                 self.tell(one, verdict)
                 forget_section(one, selected, verdict, self.connections.spool)
         elif verdict.reason == 'NoCall' and one.doubted != verdict.position:
@@ -332,7 +334,7 @@ class Following:
         """The verdict on what is selected of a section, after what was judged before."""
         begin, taken = time.monotonic(), Taken(self.connections.spool, True, True, self.ports)
         left_out = left_out_of(one.connection, selected,
-                               self.options) if one.before == Before() else None
+                               self.options) if one.before == JudgedBefore() else None
         if left_out:
             return of_covered(self.recording, left_out.covered())
         connection = taken_connection(1, one.connection, selected)
@@ -438,7 +440,7 @@ def streams_of(connection: Connection, selected: Selected) -> tuple[Stream, Stre
     return connection.streams[selected.client], connection.streams[1 - selected.client]
 
 
-def cut_to_whole(stream: Stream, kept: Kept) -> None:
+def cut_to_whole(stream: Stream, kept: KeptRanges) -> None:
     """Leaves out the record that is not whole yet."""
     if kept.ranges:
         begin, end = kept.ranges.pop()
@@ -446,7 +448,7 @@ def cut_to_whole(stream: Stream, kept: Kept) -> None:
         kept.ranges += [(begin, end)] if end > begin else []
 
 
-def is_sure_of_end(stream: Stream, kept: Kept) -> bool:
+def is_sure_of_end(stream: Stream, kept: KeptRanges) -> bool:
     """Whether it is known where the last record of a stream ends."""
     if not stream.runs or not kept.ranges:
         return not stream.runs or stream.is_begin and len(stream.runs) == 1
@@ -470,9 +472,9 @@ def forget_section(one: Open, selected: Selected, verdict: Verdict, spool: Spool
     if one.carried:
         one.carried.close()
     one.carried = carried
-    one.before = Before(verdict.calls or 0, verdict.replies or 0, verdict.missing, len(calls),
-                        verdict.lacks,
-                        one.before.called + called_in(client))
+    one.before = JudgedBefore(verdict.calls or 0, verdict.replies or 0, verdict.missing, len(calls),
+                              verdict.lacks,
+                              one.before.called + called_in(client))
     connection.client, connection.strays = selected.client, []
     for stream, kept in zip(streams, selected.kept):
         if stream.runs:
@@ -504,7 +506,7 @@ class Form(typing.NamedTuple):
     screen: Screen = Screen()
 
 
-class Lines:
+class VerdictLines:
     """Prints a line for each verdict as it comes, and counts them."""
 
     def __init__(self, allowed: Allowed, form: Form) -> None:
@@ -512,16 +514,16 @@ class Lines:
         is_narrow = form.screen.width is not None and form.screen.width < sum(WIDTHS) + ROOM
         self.widths = [0] * len(WIDTHS) if is_narrow else WIDTHS
         if not form.is_quiet and not form.is_json:
-            self.print(Styled(HEADS))
+            self.print(Styled(VERDICT_HEADS))
 
     def say(self, verdict: Verdict) -> None:
         tell_notes([verdict])
         self.counts += counts_after([verdict])
         self.status = self.status or status_of([verdict], self.allowed)
         if self.form.is_json and not (self.form.is_quiet and verdict.state == 'ok'):
-            self.print_object({'row': object_of(verdict)})
+            self.print_object({'row': verdict_object(verdict)})
         elif not self.form.is_json and is_row(verdict, self.form.is_quiet):
-            self.print(Styled(row_of(verdict, self.form.screen), colour_of(verdict)))
+            self.print(Styled(verdict_row(verdict, self.form.screen), colour_of(verdict)))
 
     def end(self) -> None:
         """Prints the sums."""
@@ -532,16 +534,16 @@ class Lines:
 
     def print(self, row: Styled) -> None:
         cells = [cell.ljust(width) for cell, width in zip(row.cells, self.widths)]
-        lines = lines_of([row._replace(cells=cells)], self.form.screen)
+        lines = table_lines([row._replace(cells=cells)], self.form.screen)
         print(*lines, sep='\n', flush=True)
 
     def print_object(self, members: dict[str, object]) -> None:
-        print(json.dumps({'version': VERSION, **members}), flush=True)
+        print(json.dumps({'version': VERDICTS_VERSION, **members}), flush=True)
 
 
 def follow(recording: str, program: str, options: Options, allowed: Allowed, form: Form) -> int:
     """Judges a recording while it is made, and returns the status of the tool."""
-    lines = Lines(allowed, form)
+    lines = VerdictLines(allowed, form)
     following = Following(recording, program, options, lines.say)
     try:
         with contextlib.closing(following.connections.spool), opened_for_following(
@@ -550,7 +552,7 @@ def follow(recording: str, program: str, options: Options, allowed: Allowed, for
             take_all(following,
                      Growing(file.fileno(), wakes, is_waited_for, following.judge_waiting))
     except NotTaken as refused:
-        lines.say(error_of(recording, advice_on(refused, 'verdicts')))
+        lines.say(error_verdict(recording, advice_on(refused, 'verdicts')))
     except Died as died:
         raise Died(f'{escaped(recording)}: {died}') from died
     lines.end()
@@ -564,7 +566,7 @@ def opened_for_following(path: str) -> typing.Iterator[typing.IO[bytes]]:
         try:
             file = stack.enter_context(opened(path))
         except OSError as failed:
-            raise NotTaken(words_of(failed)) from failed
+            raise NotTaken(error_text(failed)) from failed
         yield file
 
 
@@ -588,6 +590,6 @@ def take_all(following: Following, growing: Growing) -> None:
                    *remarks_of(following.segments)]:
         following.say(of_covered(following.recording, remark))
     if recording.damage:
-        following.say(error_of(following.recording, recording.damage))
+        following.say(error_verdict(following.recording, recording.damage))
     elif not following.taken:
-        following.say(error_of(following.recording, nothing_in(following.segments)))
+        following.say(error_verdict(following.recording, nothing_in(following.segments)))

@@ -18,7 +18,7 @@ from typing import NamedTuple
 from ..exchanges.kept import UNTIMED, Kept
 from ..shared.layouts import BY_NAME
 from ..shared.screens import Screen
-from .window import ALL, Window
+from .window import ALL, TimeWindow
 
 NANOSECONDS_OF_A_MILLISECOND = 1_000_000
 
@@ -105,7 +105,7 @@ def sum_of(several: Iterable[Tallies]) -> Tallies:
     return out
 
 
-def in_order(names: Iterable[str]) -> list[str]:
+def procedures_in_order(names: Iterable[str]) -> list[str]:
     """Returns the names of procedures in the order of the RFC; raw ones come last."""
     places = {name: place for place, name in enumerate(BY_NAME)}
     return sorted(names, key=lambda name: (places.get(name, len(places)), name))
@@ -118,7 +118,7 @@ def milliseconds(rank: int | None, screen: Screen = Screen()) -> str:
     return f'{number:.3f}' if screen.width is None else f'{number:,.3f}'
 
 
-def tallies_of(kept: Kept, recording: str, number: int, window: Window = ALL) -> Tallies:
+def tallies_of(kept: Kept, recording: str, number: int, window: TimeWindow = ALL) -> Tallies:
     """Counts the exchanges of a connection that are in a window, by its place among those that are
     kept."""
     tallies: Tallies = {}

@@ -16,8 +16,8 @@ from ..exchanges.kept import host_of
 from ..recordings.records import Window, xids
 from ..recordings.taken import TakenStream
 
-KEPT_AT_MOST = 1 << 16  # calls without a reply; then those so far are forgotten
-Said = tuple[int, int]  # the xid of a call, and a hash of what it says
+UNANSWERED_AT_MOST = 1 << 16  # calls without a reply; then those so far are forgotten
+CallDigest = tuple[int, int]  # the xid of a call, and a hash of what it says
 
 
 class Unanswered:
@@ -25,14 +25,14 @@ class Unanswered:
     connection of the same client and server, and got no reply there either, is counted once."""
 
     def __init__(self) -> None:
-        self.known = defaultdict[tuple[str, str], set[Said]](set)  # by both ends
+        self.known = defaultdict[tuple[str, str], set[CallDigest]](set)  # by both ends
 
-    def number(self, client: str, server: str, found: set[Said]) -> int:
+    def number(self, client: str, server: str, found: set[CallDigest]) -> int:
         """Returns how many of the calls of a connection without a reply were not counted before. Of
         a capture the ends are not known."""
         if not client or not found:
             return len(found)
-        if sum(map(len, self.known.values())) > KEPT_AT_MOST:
+        if sum(map(len, self.known.values())) > UNANSWERED_AT_MOST:
             self.known.clear()
         known = self.known[host_of(client), server]
         new = len(found - known)
@@ -41,7 +41,7 @@ class Unanswered:
 
 
 def open_calls(clients: Sequence[TakenStream], server: TakenStream,
-               answered_before: Collection[int] = ()) -> set[Said]:
+               answered_before: Collection[int] = ()) -> set[CallDigest]:
     """Returns the calls of a client without a reply. What they say is read of these alone, unless
     several calls have one xid."""
     calls, replies = sorted_xids(clients), sorted_xids([server])

@@ -9,7 +9,7 @@ from collections import Counter
 from collections.abc import Iterable, Mapping, Sequence
 
 from ..exchanges.kept import Kept
-from ..exchanges.stored import Values
+from ..exchanges.stored import LongValues
 from ..recordings.coverage import (
     Allowed, Called, Counts, Covered, Word, called_in, counts_of, of_connection)
 from ..recordings.selection import BEGUN_BEFORE, count
@@ -20,12 +20,12 @@ from ..shared.programs import Answer
 from ..shared.screens import Colour, Screen
 
 NOT_ALL_OK = 1
-VERSION = 2  # of the forms of JSON with verdicts; the first was a list of them
-HEADS = ('recording', 'connection', 'client', 'server', 'calls', 'replies', 'verdict')
+VERDICTS_VERSION = 2  # of the forms of JSON with verdicts; the first was a list of them
+VERDICT_HEADS = ('recording', 'connection', 'client', 'server', 'calls', 'replies', 'verdict')
 COVERED = ('in part', 'left out', 'not checked')  # states of what is not judged whole
 State = typing.Literal['ok', 'refused', 'in part', 'left out', 'not checked', 'error', 'note']
-LEFT_OUT = re.compile(r'left out: (\S+) and (\S+): ')
-COUNTS = re.compile(r'ok connections=1 calls=(\d+) replies=(\d+) handles=\d+\n')
+LEFT_OUT_ENDS = re.compile(r'left out: (\S+) and (\S+): ')
+CHECKED_CONNECTION = re.compile(r'ok connections=1 calls=(\d+) replies=(\d+) handles=\d+\n')
 
 
 class Verdict(typing.NamedTuple):
@@ -69,7 +69,7 @@ class Verdict(typing.NamedTuple):
         return self.state in ('ok', 'note')
 
 
-class Before(typing.NamedTuple):
+class JudgedBefore(typing.NamedTuple):
     """What was judged of a connection before the streams that are taken: its calls and replies, the
     bytes missing among them, why it is in part besides, and its calls by kind. `carried` is how
     many of the calls are put before the client's stream again, since their replies are not
@@ -83,11 +83,11 @@ class Before(typing.NamedTuple):
 
 
 def verdict_of(recording: str, taken: Taken, connection: TakenConnection, answer: Answer,
-               before: Before = Before()) -> Verdict:
+               before: JudgedBefore = JudgedBefore()) -> Verdict:
     """What the program's answer on a connection's capture says."""
     verdict = Verdict(recording, connection.number, connection.stream_number,
                       connection.client_end, connection.server_end)
-    counts, fault = COUNTS.fullmatch(answer.out), parse_fault(answer.error)
+    counts, fault = CHECKED_CONNECTION.fullmatch(answer.out), parse_fault(answer.error)
     covered = covered_of(taken, connection, before)
     verdict = verdict._replace(missing=covered.missing, lacks=covered.lacks, raw=covered.called.raw)
     if answer.status == 0 and counts:
@@ -98,7 +98,7 @@ def verdict_of(recording: str, taken: Taken, connection: TakenConnection, answer
                       before.replies + connection.server.count_records())
     verdict = verdict._replace(calls=calls, replies=replies)
     if answer.status != 2 or fault is None or isinstance(fault.place, FilePlace):
-        return verdict._replace(state='error', message=told(answer))
+        return verdict._replace(state='error', message=said_last(answer))
     is_call = fault.place.side == 'client'
     there = fault.place._replace(connection=connection.number,
                                  record=fault.place.record - before.carried * is_call)
@@ -112,7 +112,7 @@ def verdict_of(recording: str, taken: Taken, connection: TakenConnection, answer
                             reason=fault.reason, frames=frames)
 
 
-def covered_of(taken: Taken, connection: TakenConnection, before: Before) -> Covered:
+def covered_of(taken: Taken, connection: TakenConnection, before: JudgedBefore) -> Covered:
     """Returns the word of a connection with what was judged of it before."""
     lacks = tuple(dict.fromkeys((*before.lacks, *connection.lacks)))
     return of_connection(before.called + called_in(connection.client), connection.server_port,
@@ -138,11 +138,11 @@ def of_covered(recording: str, covered: Covered) -> Verdict:
                    shows_calls=covered.shows_calls)
 
 
-def error_of(recording: str, message: str) -> Verdict:
+def error_verdict(recording: str, message: str) -> Verdict:
     return Verdict(recording, state='error', message=message)
 
 
-def told(answer: Answer) -> str:
+def said_last(answer: Answer) -> str:
     """What the program said last."""
     return (answer.error or answer.out).strip() or f'the program ended with status {answer.status}'
 
@@ -159,7 +159,7 @@ def counts_after(verdicts: Iterable[Verdict]) -> Counts:
     return counts._replace(unanswered=sum(verdict.unanswered for verdict in several))
 
 
-def object_of(verdict: Verdict) -> dict[str, object]:
+def verdict_object(verdict: Verdict) -> dict[str, object]:
     """The verdict as an object of JSON."""
     row = verdict._asdict()
     row.update(recording=escaped(verdict.recording), raw=dict(verdict.raw),
@@ -168,15 +168,16 @@ def object_of(verdict: Verdict) -> dict[str, object]:
     return row
 
 
-def members_of(verdicts: Sequence[Verdict]) -> dict[str, object]:
+def verdict_members(verdicts: Sequence[Verdict]) -> dict[str, object]:
     """What all forms of JSON have of verdicts: the counts, and an object for each."""
-    return {'counts': counts_after(verdicts).members(), 'verdicts': [*map(object_of, verdicts)]}
+    return {'counts': counts_after(verdicts).members(),
+            'verdicts': [*map(verdict_object, verdicts)]}
 
 
 # --- Exchanges ---
 
 def kept_in(program: str, taken: Taken, verdicts: Iterable[Verdict],
-            values: Values | None = None, has_texts: bool = True) -> Kept:
+            values: LongValues | None = None, has_texts: bool = True) -> Kept:
     """Returns the exchanges of the connections that were judged, as `Kept` is to keep them.
 
     Raises `Died` and `OSError`.
@@ -207,27 +208,27 @@ def tell_notes(verdicts: Sequence[Verdict]) -> None:
     """Prints on standard error what is missing from recordings, which connections are left out that
     show no call, and whether recordings look like parts of one."""
     for verdict in verdicts:
-        for line in notes_of(verdict):
+        for line in verdict_notes(verdict):
             print(line, file=sys.stderr)
-    parts = parts_in(verdicts)
+    parts = continued_recordings(verdicts)
     if parts:
         print(printable(f'{" and ".join(map(escaped, parts))}: these look like parts of one '
                         'recording; put the pattern in quotes'), file=sys.stderr)
 
 
-def notes_of(verdict: Verdict) -> list[str]:
+def verdict_notes(verdict: Verdict) -> list[str]:
     """Returns what is said of a verdict that has no row, and beside one."""
     lines = [*verdict.notes, *([] if is_row(verdict) else [verdict.message])]
-    return [printable(f'{named(verdict)}: {line}') for line in lines]
+    return [printable(f'{subject_of(verdict)}: {line}') for line in lines]
 
 
-def parts_in(verdicts: Iterable[Verdict]) -> list[str]:
+def continued_recordings(verdicts: Iterable[Verdict]) -> list[str]:
     """Returns two recordings of which one goes on with a connection of the other, if there are
     some: its beginning is missing there."""
     having = dict[frozenset[str], str]()
     begun_before = list[tuple[frozenset[str], str]]()
     for verdict in verdicts:
-        ends = ends_of(verdict)
+        ends = known_ends(verdict)
         if not ends or BEGUN_BEFORE not in verdict.lacks and verdict.state != 'left out':
             having.setdefault(ends, verdict.recording)
         else:
@@ -236,15 +237,15 @@ def parts_in(verdicts: Iterable[Verdict]) -> list[str]:
                  if having.get(ends, name) != name), [])
 
 
-def ends_of(verdict: Verdict) -> frozenset[str]:
+def known_ends(verdict: Verdict) -> frozenset[str]:
     """Returns both ends of a connection, none if they are not known."""
     if verdict.client:
         return frozenset((verdict.client, verdict.server))
-    found = LEFT_OUT.match(verdict.message) if verdict.shows_calls else None
+    found = LEFT_OUT_ENDS.match(verdict.message) if verdict.shows_calls else None
     return frozenset(found.groups()) if found else frozenset()
 
 
-def named(verdict: Verdict) -> str:
+def subject_of(verdict: Verdict) -> str:
     """The recording of a verdict, and its connection if it is on one."""
     name = escaped(verdict.recording)
     return name if verdict.connection is None else f'{name}: connection {verdict.connection}'
@@ -268,7 +269,7 @@ def colour_of(verdict: Verdict) -> Colour:
     return Colour.RED if verdict.state in ('refused', 'error') else Colour.YELLOW
 
 
-def row_of(verdict: Verdict, screen: Screen = Screen()) -> tuple[str, ...]:
+def verdict_row(verdict: Verdict, screen: Screen = Screen()) -> tuple[str, ...]:
     numbers = (verdict.connection, verdict.calls, verdict.replies)
     connection, calls, replies = ('-' if number is None else screen.number(number)
                                   for number in numbers)

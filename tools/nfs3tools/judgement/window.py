@@ -1,6 +1,6 @@
 """A window of time in a recording, as the options --from and --to choose it.
 
-    window = Window(moment('12.5'), moment('10:03:07')).of(taken.begun)
+    window = TimeWindow(moment('12.5'), moment('10:03:07')).of(taken.begun)
     window.has(exchange.time)
 """
 from __future__ import annotations
@@ -31,7 +31,7 @@ class Moment(NamedTuple):
         return found + DAY if found < begun - DAY // 2 else found
 
 
-class Window(NamedTuple):
+class TimeWindow(NamedTuple):
     """From when on, and up to when, calls are chosen."""
     begin: int = -sys.maxsize
     end: int = sys.maxsize
@@ -42,14 +42,14 @@ class Window(NamedTuple):
         return self == ALL or bool(time) and self.begin <= time <= self.end
 
 
-ALL = Window()
+ALL = TimeWindow()
 
 
-def window_of(chosen: argparse.Namespace, begun: int) -> Window:
+def window_of(chosen: argparse.Namespace, begun: int) -> TimeWindow:
     """Returns the window that was chosen, of a recording that begins then."""
     first, last = chosen.begin, chosen.end
-    return Window(ALL.begin if first is None else first.after(begun),
-                  ALL.end if last is None else last.after(begun))
+    return TimeWindow(ALL.begin if first is None else first.after(begun),
+                      ALL.end if last is None else last.after(begun))
 
 
 def moment(word: str) -> Moment:

@@ -9,10 +9,10 @@ from __future__ import annotations
 from ..exchanges.objects import DOTS
 from ..exchanges.values import seconds
 from .alone import BESIDE, broken, broken_by, of_made
-from .objects import HIDDEN, Content, Name, Named, Object, Objects, Part
+from .objects import HIDDEN, FileContent, FilePart, KnownName, NameTarget, Object, Objects
 from .recorded import (
-    END, LISTINGS, NEVER, OF_CONTENT, OF_NAMES, REMOVES, UNCHECKED, Exchange, Recorded)
-from .rules import Finding, Looked, Source
+    END, LISTS, NEVER, OF_CONTENT, OF_NAMES, REMOVES, UNCHECKED, Recorded, RecordedExchange)
+from .rules import Evidence, Looked, RuleFinding
 
 UNSTABLE = 0
 Verifier = tuple[str, str, str]  # its server, what it is, and its digits
@@ -26,12 +26,12 @@ class Across(Objects):
     def __init__(self, recorded: Recorded, looked: Looked, is_whole: bool) -> None:
         super().__init__(looked)
         self.recorded, self.is_whole = recorded, is_whole
-        self.verifiers = dict[str, tuple[Verifier, Source]]()
+        self.verifiers = dict[str, tuple[Verifier, Evidence]]()
         self.moved, self.stood = set[str](), set[str]()
         self.ways = {'WRITE': self.write, 'READ': self.read, 'SETATTR': self.set_size,
                      'CREATE': self.create, 'COMMIT': self.commit}
 
-    def take(self, one: Exchange) -> None:
+    def take(self, one: RecordedExchange) -> None:
         """Takes an exchange whose call was accepted. None before it has a later end."""
         self.shown, several = set(), [told for told in one.told if told.handle]
         for told in several:
@@ -60,10 +60,10 @@ class Across(Objects):
 
     # --- Data ---
 
-    def write(self, one: Exchange, known: Object) -> None:
+    def write(self, one: RecordedExchange, known: Object) -> None:
         """Takes what was written, and that it is not committed."""
         if not one.is_ok:
-            known.content.put(Part(one.first, one.last))
+            known.content.put(FilePart(one.first, one.last))
             return
         self.write_time(one, known)
         verifier = self.verifier_of(one)
@@ -72,14 +72,14 @@ class Across(Objects):
         data, last = one.call['data'], one.first + min(len(one.call['data']), one.reply['count'])
         is_unstable = one.reply['committed'] == UNSTABLE and one.first < last
         # (the frame of the call has the data)
-        part = Part(one.first, last, one.source._replace(frame=one.source.begin),
-                    data if is_alone else None, one.first, verifier if is_unstable else None)
+        part = FilePart(one.first, last, one.source._replace(frame=one.source.begin),
+                        data if is_alone else None, one.first, verifier if is_unstable else None)
         known.content.put(part)
         known.unstable = [left for left in known.unstable
                           if not one.first <= left.begin <= left.end <= last]
         known.unstable += [part] * is_unstable
 
-    def write_time(self, one: Exchange, known: Object) -> None:
+    def write_time(self, one: RecordedExchange, known: Object) -> None:
         """WRITE that moves mtime moves ctime as well."""
         (_, after, before), seen = one.told[0], known.seen
         was, source = before or seen and seen.now, seen and seen.source
@@ -89,7 +89,7 @@ class Across(Objects):
                     f'{seconds(was.mtime)}, and ctime is {seconds(after.ctime)}')
             self.add('write-ctime', one.source, text, source)
 
-    def read(self, one: Exchange, known: Object) -> None:
+    def read(self, one: RecordedExchange, known: Object) -> None:
         """READ returns what was written or read before."""
         looked, data = self.looked, one.reply['data'][:]
         if one.call['fh'] not in self.shown or known.is_blind:
@@ -102,17 +102,17 @@ class Across(Objects):
             text = (f'byte {at:,} is {data[at - one.first]:02x}, {part.source} it was {was:02x}, '
                     'with the same mtime and size')
             self.find(one, known, 'read-data', text, part.source, part.verifier)
-        known.content.put(Part(one.first, one.first + len(data), one.source, one.reply['data'],
-                               one.first))
+        known.content.put(FilePart(one.first, one.first + len(data), one.source, one.reply['data'],
+                                   one.first))
 
-    def set_size(self, one: Exchange, known: Object) -> None:
+    def set_size(self, one: RecordedExchange, known: Object) -> None:
         """SETATTR of a size forgets the bytes behind it."""
         size = one.call.get('set.size')
         if size is not None and one.is_done:
             known.unstable = [left for left in known.unstable if left.begin < size]
-            known.content.put(Part(size if one.is_ok and one.is_quiet() else 0, END))
+            known.content.put(FilePart(size if one.is_ok and one.is_quiet() else 0, END))
 
-    def create(self, one: Exchange, folder: Object) -> None:
+    def create(self, one: RecordedExchange, folder: Object) -> None:
         """UNCHECKED CREATE makes a file if its name is known to have been free, or cuts one."""
         if one.call['how'] != UNCHECKED:
             return
@@ -122,9 +122,9 @@ class Across(Objects):
             self.add(rule, one.source, text)
         if one.call.get('set.size') == 0 and 'fh' in one.reply:
             known = self.at(one, one.reply['fh'])
-            known.content, known.unstable = Content(), []
+            known.content, known.unstable = FileContent(), []
 
-    def commit(self, one: Exchange, known: Object) -> None:
+    def commit(self, one: RecordedExchange, known: Object) -> None:
         """Data whose WRITE ended before are committed, if the verifier is the same."""
         verifier = self.verifier_of(one)
         last = one.last if one.call['count'] else END
@@ -133,7 +133,7 @@ class Across(Objects):
                           or left.source and left.source.end >= one.source.begin
                           or left.verifier != verifier]
 
-    def verifier_of(self, one: Exchange) -> Verifier:
+    def verifier_of(self, one: RecordedExchange) -> Verifier:
         """Returns the verifier of a reply, which stays. Data under one that is another now may be
         lost."""
         verifier = one.server, 'verifier', one.reply['verf']
@@ -147,9 +147,9 @@ class Across(Objects):
 
     # --- Names ---
 
-    def take_names(self, one: Exchange) -> None:
+    def take_names(self, one: RecordedExchange) -> None:
         """Takes what a reply says of names against what is known, and then what the call did."""
-        if one.procedure in LISTINGS and one.is_ok:
+        if one.procedure in LISTS and one.is_ok:
             self.take_listing(one, self.at(one, one.call['fh']))
         if one.procedure in OF_NAMES and one.is_ok:
             # (whether a change of a directory is seen in its ctime)
@@ -162,17 +162,17 @@ class Across(Objects):
             if name not in DOTS and '/' not in name:
                 self.take_name(one, number, self.at(one, handle), name)
 
-    def is_shown(self, one: Exchange, folder: Object) -> bool:
+    def is_shown(self, one: RecordedExchange, folder: Object) -> bool:
         """Whether a reply shows a folder that has been at rest."""
         return one.sent == 1 and folder.seen is not None and folder.key[1] in self.shown
 
-    def find_name(self, one: Exchange, folder: Object, rule: str, name: str, known: Name,
-                  *words: str) -> None:
+    def find_name(self, one: RecordedExchange, folder: Object, rule: str, name: str,
+                  known: KnownName, *words: str) -> None:
         """Adds that a name is not what it was."""
         text = f'{name} is {words[0]}, {known.source} it was {words[1]}'
         self.find(one, folder, rule, text, known.source, one.server)
 
-    def take_name(self, one: Exchange, number: int, folder: Object, name: str) -> None:
+    def take_name(self, one: RecordedExchange, number: int, folder: Object, name: str) -> None:
         handle = str(one.call.get('file.fh') or one.reply.get('fh', ''))
         made = self.known.get((one.server, handle))
         says = one.says_of(number)
@@ -185,11 +185,11 @@ class Across(Objects):
         elif one.is_ok and one.procedure == 'RENAME':
             self.rename(one, number)
         elif one.is_ok and one.procedure != 'LOOKUP':
-            folder.names[name] = Name(one.procedure not in REMOVES and found, one.source)
+            folder.names[name] = KnownName(one.procedure not in REMOVES and found, one.source)
         elif is_known:
-            folder.names[name] = Name(found if says else False, one.source)
+            folder.names[name] = KnownName(found if says else False, one.source)
 
-    def compare(self, one: Exchange, folder: Object, name: str, now: Named) -> None:
+    def compare(self, one: RecordedExchange, folder: Object, name: str, now: NameTarget) -> None:
         """Compares what a reply says of a name with what is known."""
         known = folder.known_of(name)
         if known is None:
@@ -202,7 +202,7 @@ class Across(Objects):
         elif one.procedure == 'LOOKUP' and is_other(now, was):
             self.find_name(one, folder, 'name-object', name, known, *map(fileid_of, (now, was)))
 
-    def rename(self, one: Exchange, number: int) -> None:
+    def rename(self, one: RecordedExchange, number: int) -> None:
         """Moves a name. If both may be links to one object, nothing may have been done."""
         if not number:
             return
@@ -211,13 +211,13 @@ class Across(Objects):
         moved, replaced = before.names.get(name), after.names.get(other)
         if replaced and (not replaced.leads_to
                          or moved and is_other(moved.leads_to, replaced.leads_to)):
-            after.names[other] = Name(moved and moved.leads_to or True, one.source)
-            before.names[name] = Name(False, one.source)
+            after.names[other] = KnownName(moved and moved.leads_to or True, one.source)
+            before.names[name] = KnownName(False, one.source)
         else:
             before.forget_name(name)
             after.forget_name(other)
 
-    def take_listing(self, one: Exchange, folder: Object) -> None:
+    def take_listing(self, one: RecordedExchange, folder: Object) -> None:
         """Takes a part of a listing. The parts of one go on at the last cookie of each other, and
         have one mtime."""
         cookie, (before, folder.listing) = one.call['cookie'], (folder.listing, None)
@@ -238,7 +238,7 @@ class Across(Objects):
         if one.reply['eof'] and folder.listing and seen and not folder.is_blind:
             self.take_whole(one, folder, set(folder.listing[2]))
 
-    def take_whole(self, one: Exchange, folder: Object, there: set[str]) -> None:
+    def take_whole(self, one: RecordedExchange, folder: Object, there: set[str]) -> None:
         """Compares a whole listing with the names that are known, and takes it."""
         self.looked.listings += 1
         for name, known in sorted(folder.names.items()):
@@ -249,11 +249,11 @@ class Across(Objects):
                 self.find_name(one, folder, 'listing', name, known, *words)
         before, folder.whole = folder.names, one.source
         folder.names = {
-            name: Name(name in before and before[name].leads_to or True, one.source)
+            name: KnownName(name in before and before[name].leads_to or True, one.source)
             for name in there - {*DOTS}}
 
 
-def findings_in(recorded: Recorded, looked: Looked, is_whole: bool) -> list[Finding]:
+def findings_in(recorded: Recorded, looked: Looked, is_whole: bool) -> list[RuleFinding]:
     """Puts the rules to the exchanges of a recording, which was judged whole or not."""
     across = Across(recorded, looked, is_whole)
     looked.is_across &= recorded.has_frames
@@ -267,10 +267,10 @@ def findings_in(recorded: Recorded, looked: Looked, is_whole: bool) -> list[Find
     return across.counted()
 
 
-def is_other(one: Named, other: Named) -> bool:
+def is_other(one: NameTarget, other: NameTarget) -> bool:
     """Whether two objects are known by their ids, and are not the same."""
     return isinstance(one, tuple) and isinstance(other, tuple) and one != other
 
 
-def fileid_of(known: Named) -> str:
+def fileid_of(known: NameTarget) -> str:
     return f'of fileid {known[2]}' if isinstance(known, tuple) else 'of an object'

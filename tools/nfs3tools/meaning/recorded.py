@@ -10,35 +10,35 @@ from functools import cached_property
 from typing import NamedTuple
 
 from ..exchanges.kept import Kept, host_of
-from ..exchanges.stored import Values as LongValues
+from ..exchanges.stored import LongValues
 from ..exchanges.values import Attributes, Values, attributes, read_call, read_reply
-from .rules import Source
+from .rules import Evidence
 
-NFS = 'NFSPROC3_'
+NFS_PREFIX = 'NFSPROC3_'
 NEVER = sys.maxsize  # the end of a call that may still be carried out
 END = 1 << 64  # no file is larger
 EVERYWHERE = 0, END
 NO_VALUES: Values = {}
 OF_CONTENT, MAKES = ('WRITE', 'SETATTR'), ('CREATE', 'MKDIR', 'SYMLINK', 'MKNOD')
-REMOVES, LISTINGS = ('REMOVE', 'RMDIR', 'RENAME'), ('READDIR', 'READDIRPLUS')
+REMOVES, LISTS = ('REMOVE', 'RMDIR', 'RENAME'), ('READDIR', 'READDIRPLUS')
 OF_NAMES = (*MAKES, *REMOVES, 'LINK')
-CHANGES = {*OF_CONTENT, *OF_NAMES}
+CHANGING_PROCEDURES = {*OF_CONTENT, *OF_NAMES}
 # Errors after which a part may have been done: IO, NOSPC, DQUOT, SERVERFAULT and JUKEBOX.
 UNSURE = (5, 28, 69, 10006, 10008)
 NOENT, EXIST = 2, 17
-REGULAR, DIRECTORY, LINK = 1, 2, 5
+REGULAR, DIRECTORY, SYMBOLIC_LINK = 1, 2, 5
 UNCHECKED, GUARDED, EXCLUSIVE = 0, 1, 2
-Key = tuple[str, str]  # of an object: its server and its handle
+ObjectKey = tuple[str, str]  # of an object: its server and its handle
 # The objects of which replies have attributes: where the call has the handle, or the reply if there
 # is no place, and the owner of the attributes.
 OWNERS: dict[str, tuple[tuple[str, str], ...]] = {
     **dict.fromkeys(('LOOKUP', *MAKES), (('', 'obj'), ('fh', 'dir'))),
-    **dict.fromkeys(('REMOVE', 'RMDIR', *LISTINGS), (('fh', 'dir'),)),
+    **dict.fromkeys(('REMOVE', 'RMDIR', *LISTS), (('fh', 'dir'),)),
     'RENAME': (('from.fh', 'from-dir'), ('to.fh', 'to-dir')),
     'LINK': (('file.fh', 'file'), ('link.fh', 'dir'))}
 
 
-class Told(NamedTuple):
+class StatedAttributes(NamedTuple):
     """What a reply says of an object: its handle, if it is known, and its attributes now and
     before."""
     handle: str
@@ -46,7 +46,7 @@ class Told(NamedTuple):
     before: Attributes | None
 
 
-class Exchange:
+class RecordedExchange:
     """A call and its first reply.
 
     source: its number, its frames, and the time of the call
@@ -60,17 +60,17 @@ class Exchange:
     def __init__(self, recorded: 'Recorded', number: int) -> None:
         kept, name = recorded.kept, recorded.kept.listed_name(number)
         self.recorded, self.server = recorded, host_of(kept.parts[kept.part_of[number]].server)
-        self.procedure = name.removeprefix(NFS)
+        self.procedure = name.removeprefix(NFS_PREFIX)
         self.call, self.reply = read_call(name, kept.asking[number], recorded.values), NO_VALUES
         self.status: int | None = None
         frame = self.ended = 0
         for reply in kept.replies_of(number)[:1]:
             self.status, self.reply = read_reply(name, kept.answering[reply], recorded.values)
             frame, self.ended = kept.reply_frames[reply], kept.reply_times[reply]
-        self.source = Source(number, kept.frames[number] or NEVER, recorded.end_of(number), frame,
-                             kept.times[number])
+        self.source = Evidence(number, kept.frames[number] or NEVER, recorded.end_of(number), frame,
+                               kept.times[number])
         self.sent = 1 + len(kept.again.get(number, ())) + (number in kept.earlier)
-        self.is_change, self.is_ok = self.procedure in CHANGES, self.status == 0
+        self.is_change, self.is_ok = self.procedure in CHANGING_PROCEDURES, self.status == 0
         self.is_done = self.is_ok or self.status in UNSURE
 
     @property
@@ -83,18 +83,18 @@ class Exchange:
         return int(self.call['offset'] + self.call['count'])
 
     @cached_property
-    def told(self) -> list[Told]:
+    def told(self) -> list[StatedAttributes]:
         """What the reply says of objects."""
-        told = [Told(self.call.get(handle, '') if handle else self.reply.get('fh', ''),
-                     attributes(self.reply, owner + '.after.')
-                     or attributes(self.reply, owner + '.'),
-                     attributes(self.reply, owner + '.before.'))
+        told = [StatedAttributes(self.call.get(handle, '') if handle else self.reply.get('fh', ''),
+                                 attributes(self.reply, owner + '.after.')
+                                 or attributes(self.reply, owner + '.'),
+                                 attributes(self.reply, owner + '.before.'))
                 for handle, owner in OWNERS.get(self.procedure, (('fh', 'obj'),))]
-        return told + [Told(entry.get('fh', ''), attributes(entry), None)
+        return told + [StatedAttributes(entry.get('fh', ''), attributes(entry), None)
                        for entry in self.reply.get('entries', ())]
 
     @property
-    def names(self) -> tuple[Key, ...]:
+    def names(self) -> tuple[ObjectKey, ...]:
         """The folders of the call, each with the name in it: two of RENAME."""
         return tuple((self.call[owner + 'fh'], self.call[owner + 'name'])
                      for owner in ('', 'from.', 'to.', 'link.') if owner + 'name' in self.call)
@@ -114,12 +114,12 @@ class Exchange:
         return self.status in UNSURE or self.sent > 1 or any(
             change.end == NEVER or (handle, name) in change.names for change in self.beside(handle))
 
-    def beside(self, handle: str | None = None) -> Iterator['Change']:
+    def beside(self, handle: str | None = None) -> Iterator['PossibleChange']:
         """Iterates over the other changes of an object that overlap the exchange in time: of that
         of its call, if none is given."""
         own = self.source
         changes = self.recorded.changes.get((self.server, handle or self.call['fh']), [])
-        at = bisect.bisect_right(changes, Change(own.end)) if changes else 0
+        at = bisect.bisect_right(changes, PossibleChange(own.end)) if changes else 0
         while at and changes[at - 1].latest >= own.begin:
             at -= 1
             if changes[at].number != own.number and changes[at].end >= own.begin:
@@ -133,7 +133,7 @@ class Exchange:
         return self.source.begin < NEVER and self.source.end < NEVER and self.is_alone(handle)
 
 
-class Change(NamedTuple):
+class PossibleChange(NamedTuple):
     """A call that may change an object: the frames between which it was carried out, the bytes that
     a WRITE is about, and the folders and names of others. `latest` is the last end of it and of
     those that began before."""
@@ -141,7 +141,7 @@ class Change(NamedTuple):
     end: int = NEVER
     number: int = NEVER
     written: tuple[int, int] = EVERYWHERE
-    names: tuple[Key, ...] = ()
+    names: tuple[ObjectKey, ...] = ()
     latest: int = 0
 
 
@@ -156,10 +156,11 @@ class Recorded:
     def __init__(self, kept: Kept) -> None:
         self.kept, self.has_frames = kept, 0 not in kept.frames
         self.values = kept.values or LongValues()
-        self.insensitive, self.changes = set[str](), defaultdict[Key, list[Change]](list)
+        self.insensitive = set[str]()
+        self.changes = defaultdict[ObjectKey, list[PossibleChange]](list)
         for number in range(len(kept)):
-            procedure = kept.listed_name(number).removeprefix(NFS)
-            if procedure in CHANGES:
+            procedure = kept.listed_name(number).removeprefix(NFS_PREFIX)
+            if procedure in CHANGING_PROCEDURES:
                 self.note_change(self.exchange(number))
             elif procedure == 'PATHCONF' and self.exchange(number).reply.get('case_insensitive'):
                 self.insensitive.add(self.exchange(number).server)
@@ -168,10 +169,10 @@ class Recorded:
             ends: Iterator[int] = itertools.accumulate((one.end for one in changes), max)
             changes[:] = [change._replace(latest=end) for change, end in zip(changes, ends)]
 
-    def note_change(self, one: Exchange) -> None:
+    def note_change(self, one: RecordedExchange) -> None:
         number, begin, end, *_ = one.source
         written = (one.first, one.last) if one.procedure == 'WRITE' else EVERYWHERE
-        change = Change(begin, end, number, written, one.names)
+        change = PossibleChange(begin, end, number, written, one.names)
         for handle in {told.handle for told in one.told if told.handle}:
             self.changes[one.server, handle].append(change)
 
@@ -182,15 +183,15 @@ class Recorded:
             return NEVER
         return self.kept.reply_frames[replies[-1]] or NEVER
 
-    def exchange(self, number: int) -> Exchange:
+    def exchange(self, number: int) -> RecordedExchange:
         """Returns an exchange of NFS by its number."""
-        return Exchange(self, number)
+        return RecordedExchange(self, number)
 
-    def answered(self) -> Iterator[Exchange]:
+    def answered(self) -> Iterator[RecordedExchange]:
         """Iterates over exchanges of NFS whose call was accepted, in the order of their ends."""
         ends = [self.end_of(number) for number in range(len(self.kept))]
         for number in sorted(range(len(ends)), key=ends.__getitem__):
-            if self.kept.firsts[number] and self.kept.listed_name(number).startswith(NFS):
+            if self.kept.firsts[number] and self.kept.listed_name(number).startswith(NFS_PREFIX):
                 one = self.exchange(number)
                 if one.status is not None:
                     yield one

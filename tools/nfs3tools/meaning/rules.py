@@ -23,22 +23,22 @@ class Rule(NamedTuple):
 
 
 CACHE = 'A cache of the server is older than the change, or a change came by another way than NFS.'
-COUNTS = 'The reply is made from other counts than the call has.'
+OTHER_COUNTS = 'The reply is made from other counts than the call has.'
 OLD = 'The reply has attributes of another time or of another object.'
 ASKED = 'The server ignores or changes what was asked for, and answers OK.'
-SIZES = 'The server does not count all of the XDR of its reply.'
-BY_NAME = {row[0]: Rule(*row) for row in (
+UNCOUNTED_XDR = 'The server does not count all of the XDR of its reply.'
+RULES = {row[0]: Rule(*row) for row in (
     ('read-data', '3.3.6',
      'READ returns what was written or read there before, if nothing came between', CACHE),
     ('read-eof', '3.3.6', 'eof of READ is whether offset and count reach the size', OLD),
     ('read-past-end', '3.3.6', 'READ returns no byte beyond the size', OLD),
-    ('read-count-data', '3.3.6', 'the count of READ is the number of its bytes', COUNTS),
-    ('read-count-asked', '3.3.6', 'READ returns no more bytes than were asked for', COUNTS),
+    ('read-count-data', '3.3.6', 'the count of READ is the number of its bytes', OTHER_COUNTS),
+    ('read-count-asked', '3.3.6', 'READ returns no more bytes than were asked for', OTHER_COUNTS),
     ('write-size', '3.3.7', 'after WRITE the file reaches to its last byte', OLD),
     ('write-committed', '3.3.7', 'WRITE is committed at least as stably as was asked for', ASKED),
-    ('write-count-asked', '3.3.7', 'WRITE writes no more bytes than it was given', COUNTS),
+    ('write-count-asked', '3.3.7', 'WRITE writes no more bytes than it was given', OTHER_COUNTS),
     ('write-count-data', '3.3.7', 'the count of WRITE is the number of its bytes',
-     COUNTS, 'client'),
+     OTHER_COUNTS, 'client'),
     ('verifier', '3.3.7', 'the write verifier stays as long as the server runs',
      'The server was started anew.', NOTE),
     ('not-committed', '3.3.21',
@@ -58,7 +58,7 @@ BY_NAME = {row[0]: Rule(*row) for row in (
     ('guard', '3.3.2', 'SETATTR with a guard is done if ctime is the same, and else is NOT_SYNC',
      ASKED),
     ('entries-size', '3.3.16', 'READDIR and READDIRPLUS return no more bytes than were asked for',
-     SIZES),
+     UNCOUNTED_XDR),
     ('entries-none', '3.3.16', 'READDIR and READDIRPLUS return an entry, or eof',
      'The server answers OK if no entry fits, where TOOSMALL is meant.'),
     ('entry-cookies', '3.3.16', 'each entry has a cookie of its own, which is not 0',
@@ -74,12 +74,12 @@ BY_NAME = {row[0]: Rule(*row) for row in (
     ('write-ctime', '2.5', 'WRITE that moves mtime moves ctime as well', ASKED),
     ('dir-type', '3.3.3', 'what names are looked up, made, removed or listed in is a directory',
      OLD),
-    ('access-asked', '3.3.4', 'ACCESS grants only what was asked for', COUNTS),
+    ('access-asked', '3.3.4', 'ACCESS grants only what was asked for', OTHER_COUNTS),
     ('fsinfo', '3.3.19', 'preferred sizes are no more than the largest, and multiples are not 0',
      'The sizes are set by hand, or are those of another file system.'))}
 
 
-class Source(NamedTuple):
+class Evidence(NamedTuple):
     """An exchange that shows something: its number, between which frames it was, the frame that
     shows it, and the time of its call."""
     number: int
@@ -92,13 +92,13 @@ class Source(NamedTuple):
         return f'in frame {self.frame}'
 
 
-class Finding(NamedTuple):
+class RuleFinding(NamedTuple):
     """An exchange that breaks a rule, in which words, and the other one that shows it. It does not
     count if one of `unless` is denied."""
     rule: str
     number: int
     text: str
-    source: Source | None = None
+    source: Evidence | None = None
     unless: tuple[Hashable, ...] = ()
 
 
@@ -135,12 +135,12 @@ class Findings:
     """
 
     def __init__(self, looked: Looked) -> None:
-        self.looked, self.all, self.denied = looked, list[Finding](), set[Hashable]()
+        self.looked, self.all, self.denied = looked, list[RuleFinding](), set[Hashable]()
 
-    def add(self, rule: str, one: Source, text: str, source: Source | None = None,
+    def add(self, rule: str, one: Evidence, text: str, source: Evidence | None = None,
             *unless: Hashable) -> None:
-        self.all.append(Finding(rule, one.number, text, source, unless))
+        self.all.append(RuleFinding(rule, one.number, text, source, unless))
 
-    def counted(self) -> list[Finding]:
+    def counted(self) -> list[RuleFinding]:
         """Returns those that count, once all exchanges are taken."""
         return [one for one in self.all if self.denied.isdisjoint(one.unless)]

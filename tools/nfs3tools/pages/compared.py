@@ -14,26 +14,26 @@ from html import escape
 from itertools import chain, starmap, zip_longest
 from typing import NamedTuple, Optional
 
-from ..comparison.values.classes import told
+from ..comparison.values.classes import mask_text
 from ..comparison.verdict import summary
-from ..comparison.verdict.cover import Row as NotJudged, losses_of
-from ..comparison.verdict.excerpt import Connection, Gap, Row
+from ..comparison.verdict.cover import NotJudged, losses_of
+from ..comparison.verdict.excerpt import ExcerptConnection, ExcerptRow, HiddenCalls
 from ..comparison.verdict.findings import RUNS, Compared, Finding, Run
 from ..comparison.verdict.ignored import Ignored
 from ..comparison.verdict.report import Report
 from ..exchanges.listing import Message
-from ..recordings.coverage import named
+from ..recordings.coverage import named_calls
 from ..recordings.parts import Part
 from ..recordings.selection import count, plural
 from ..recordings.taken import FrameRef
 from ..reporting import telling
-from ..reporting.frames import time_of
+from ..reporting.frames import frame_time
 from . import fields, markup
-from .fields import SIDES, SIGNS
+from .fields import SIGNS, SIGN_CLASSES
 from .glance import phrases
 from .markup import code
 
-SHOWN_AT_MOST = 2_000  # findings
+FINDINGS_ON_PAGE = 2_000  # findings
 # Places of findings that say the same as one: of one, and about so many of all
 OTHERS_AT_MOST, OTHERS_OF_ALL = 300, 20_000
 NOT_JUDGED_AT_MOST = 20  # connections of a run that are named
@@ -41,10 +41,10 @@ PHRASES_AT_MOST = 6  # of what differs, under the title
 MANY = 2_000  # messages whose calls are shown
 BOTH, NO_VALUE = (0, 1), 'nothing'
 NOTHING_BUT = ('the order', 'what is masked')  # differs
-Places = tuple[Optional[str], Optional[str]]
+BothPlaces = tuple[Optional[str], Optional[str]]
 
 
-class Recorded(NamedTuple):
+class RunFiles(NamedTuple):
     """What is known of a run's files: how many bytes they have (None of a pipe), the first and the
     last frame that carries a message (None of a capture), and the parts of a recording that has
     several."""
@@ -53,7 +53,7 @@ class Recorded(NamedTuple):
     parts: Sequence[Part]
 
 
-def places_of(first: Message | None, second: Message | None) -> Places:
+def both_places(first: Message | None, second: Message | None) -> BothPlaces:
     return first.place if first else None, second.place if second else None
 
 
@@ -62,7 +62,7 @@ def message_of_both(both: Sequence[Message | None]) -> Message:
     return next(filter(None, both))
 
 
-def together(row: Row) -> Iterator[tuple[Message | None, Message | None]]:
+def message_pairs(row: ExcerptRow) -> Iterator[tuple[Message | None, Message | None]]:
     """Returns the messages of a row: its calls, and then its replies in their order."""
     first, second = row.first, row.second
     yield first.call if first else None, second.call if second else None
@@ -71,7 +71,7 @@ def together(row: Row) -> Iterator[tuple[Message | None, Message | None]]:
 
 # --- The whole ---
 
-def page(content: Content) -> Iterator[bytes]:
+def compared_page(content: ComparedContent) -> Iterator[bytes]:
     """The page, in pieces."""
     word, names = content.report.word(), ' and '.join(run.name for run in content.runs)
     is_same = word.startswith('same')
@@ -84,7 +84,7 @@ def page(content: Content) -> Iterator[bytes]:
               content.silent(), content.accepted_ones(), content.calls()))
 
 
-def head(content: Content, is_same: bool) -> Iterator[str]:
+def head(content: ComparedContent, is_same: bool) -> Iterator[str]:
     """The verdict in words, or what differs, and what is not compared."""
     covers, said = content.report.covers, ''
     if is_same:
@@ -98,7 +98,7 @@ def head(content: Content, is_same: bool) -> Iterator[str]:
         yield f'<p class=part>Compared in part: {escape(losses)}.</p>'
 
 
-def glance(content: Content) -> Iterator[str]:
+def glance(content: ComparedContent) -> Iterator[str]:
     """What differs, in a few phrases with paths."""
     found = phrases(content.compared)
     said = [f'{escape(before)}{code(path) if path else ""}{escape(after)}'
@@ -110,10 +110,10 @@ def glance(content: Content) -> Iterator[str]:
         yield f'<p class=glance>{" · ".join(said)}</p>'
 
 
-def facts(content: Content) -> Iterator[str]:
+def facts(content: ComparedContent) -> Iterator[str]:
     """Both runs, how their calls are matched, what is masked, and what else does not count."""
     yield ''.join(f'<p>{code(line)}</p>' for line in content.line.splitlines())
-    yield f'<p>{escape(summary.of_compared(content.compared))}.</p>'
+    yield f'<p>{escape(summary.compared_in_words(content.compared))}.</p>'
     yield from markup.table(('', '- first run', '+ second run'), (
         f'<tr><th>{what}</th>{"".join(f"<td>{escape(value)}</td>" for value in values)}</tr>'
         for what, values in rows_of_runs(content)), 'runs')
@@ -122,19 +122,19 @@ def facts(content: Content) -> Iterator[str]:
     yield '</dl>'
 
 
-def rows_of_runs(content: Content) -> Iterator[tuple[str, Sequence[str]]]:
+def rows_of_runs(content: ComparedContent) -> Iterator[tuple[str, Sequence[str]]]:
     """What both runs are, each with a name. What neither of them has is not there."""
     for both in zip(*(facts_of(content, at) for at in BOTH)):
         if any(value != nothing for _, value, nothing in both):
             yield both[0][0], [value for _, value, _ in both]
 
 
-def facts_of(content: Content, at: int) -> Iterator[tuple[str, str, str]]:
+def facts_of(content: ComparedContent, at: int) -> Iterator[tuple[str, str, str]]:
     """Iterates over what a run is: a name, what it has, and what that is if it has nothing."""
     compared, one, size = content.compared, content.recorded[at], content.report.sizes[at]
     yield 'name', content.runs[at].name, ''
     yield 'file', 'size not known' if one.size is None else count(one.size, 'byte'), ''
-    yield from ((what, f'{time_of(frame)}, frame {frame.number}' if frame else 'no frames',
+    yield from ((what, f'{frame_time(frame)}, frame {frame.number}' if frame else 'no frames',
                  'no frames') for what, frame in zip(('first frame', 'last frame'),
                                                      one.ends or (None, None)))
     yield from ((what, f'{number:,}', '') for what, number in (
@@ -143,15 +143,15 @@ def facts_of(content: Content, at: int) -> Iterator[tuple[str, str, str]]:
         cover, counts = content.report.covers[at], content.report.covers[at].counts()
         yield 'missing', count(cover.missing, 'byte'), count(0, 'byte')
         yield from ((what, f'{number:,}', '') for what, number in counts.numbers().items())
-        yield 'raw', named(counts.raw) or NO_VALUE, NO_VALUE
-        yield 'not judged as a whole', more_of([*map(said_of, cover.rows())]), NO_VALUE
+        yield 'raw', named_calls(counts.raw) or NO_VALUE, NO_VALUE
+        yield 'not judged as a whole', more_of([*map(not_judged_text, cover.rows())]), NO_VALUE
     yield 'only in this run', count(compared.lonely[at], 'call'), count(0, 'call')
     left_out = (f'{number:,} {summary.short(name)}'
                 for name, number in sorted(compared.left_out[at].items()))
     yield 'calls left out', ', '.join(left_out) or NO_VALUE, NO_VALUE
 
 
-def said_of(row: NotJudged) -> str:
+def not_judged_text(row: NotJudged) -> str:
     number = f'connection {row.connection}: ' if row.connection is not None else ''
     return f'{number}{row.ends}{": " if row.ends else ""}{row.word}: {row.reason}'
 
@@ -162,15 +162,16 @@ def more_of(some: Sequence[str]) -> str:
     return '; '.join(some[:NOT_JUDGED_AT_MOST]) + more if some else NO_VALUE
 
 
-def words_of_masks(content: Content) -> Iterator[tuple[str, str]]:
+def words_of_masks(content: ComparedContent) -> Iterator[tuple[str, str]]:
     """What does not count, as HTML."""
-    yield 'masked', (f'{code(told(content.report.mask).replace(",", ", "))}. '
+    yield 'masked', (f'{code(mask_text(content.report.mask).replace(",", ", "))}. '
                      'Xids, file handles and write verifiers are renamed one to one.')
     if content.compared.silent:
         yield 'left out', ('Calls that only ask, which one run alone has, answers that an order '
                            'explains, and calls that were sent again.')
     if content.ignored:
-        often = f': {telling.told(content.left_out.most_common())}' if content.left_out else ''
+        often = (f': {telling.fields_text(content.left_out.most_common())}'
+                 if content.left_out else '')
         yield 'ignored', f'{", ".join(code(str(one)) for one in content.ignored)}{escape(often)}.'
 
 
@@ -196,7 +197,7 @@ def keys_of(finding: Finding) -> list[tuple[str, str]]:
 
 
 @dataclass
-class Content:
+class ComparedContent:
     """What a page is made of: what is printed of the verdict, the report, the comparison, the
     fields that are left out of it and how often each differs, and both runs. Findings that say the
     same are one, and have a number from 1 on."""
@@ -206,21 +207,21 @@ class Content:
     ignored: Sequence[Ignored]
     left_out: Counter[tuple[str, str]]
     runs: Sequence[Run]
-    recorded: Sequence[Recorded]
+    recorded: Sequence[RunFiles]
 
     def __post_init__(self) -> None:
         self.framings, self.beside = [run.frames for run in self.runs], self.compared.beside
-        self.groups = telling.folded(self.compared.findings)
-        self.shown = self.groups[:SHOWN_AT_MOST]
+        self.groups = telling.groups_alike(self.compared.findings)
+        self.shown = self.groups[:FINDINGS_ON_PAGE]
         self.others_at_most = min(OTHERS_AT_MOST, OTHERS_OF_ALL // max(1, len(self.shown)))
 
     @cached_property
-    def found(self) -> dict[Places, list[tuple[int, Finding]]]:
+    def found(self) -> dict[BothPlaces, list[tuple[int, Finding]]]:
         """By the places of two messages: what is found there, with its numbers."""
-        out = defaultdict[Places, list[tuple[int, Finding]]](list)
+        out = defaultdict[BothPlaces, list[tuple[int, Finding]]](list)
         for number, finding in self.numbered():
             if finding.kind != 'order':
-                out[places_of(finding.first, finding.second)].append((number, finding))
+                out[both_places(finding.first, finding.second)].append((number, finding))
         return {**out}
 
     def numbered(self) -> Iterator[tuple[int, Finding]]:
@@ -229,12 +230,12 @@ class Content:
                 for finding in group)
 
     @cached_property
-    def anchors(self) -> dict[Places, int]:
+    def anchors(self) -> dict[BothPlaces, int]:
         """By the places of two messages: the number of their row."""
         rows = (row for connection in self.beside.connections for row in connection.rows
-                if isinstance(row, Row))
-        return {places_of(*both): number for number, row in enumerate(rows, 1)
-                for both in together(row)}
+                if isinstance(row, ExcerptRow))
+        return {both_places(*both): number for number, row in enumerate(rows, 1)
+                for both in message_pairs(row)}
 
     # --- Fields ---
 
@@ -271,7 +272,7 @@ class Content:
     def findings(self) -> Iterator[str]:
         """How many differences there are, and each; those that say the same as one."""
         articles = chain.from_iterable(starmap(self.article, enumerate(self.shown, 1)))
-        more, total = sum(map(len, self.groups[SHOWN_AT_MOST:])), len(self.compared.findings)
+        more, total = sum(map(len, self.groups[FINDINGS_ON_PAGE:])), len(self.compared.findings)
         last = (f'<p id=more>.. and {count(more, "message")} more. <code>--json FILE</code> '
                 'writes all.</p>')
         if not total:
@@ -296,13 +297,13 @@ class Content:
                f'<h3><a href=#f{number}>{number}</a> {self.title(group)}</h3>')
         for at, message in zip(BOTH, (finding.first, finding.second)):
             if message and finding.kind != 'order':
-                yield (f'<div class=place><span class="sign {SIDES[at]}">{SIGNS[at]}</span>'
+                yield (f'<div class=place><span class="sign {SIGN_CLASSES[at]}">{SIGNS[at]}</span>'
                        f'<span>{self.place(message, at)}</span></div>')
         if finding.remark:
             yield f'<p>{escape(finding.remark)}</p>'
         if is_of_fields(finding):
-            yield from fields.change_of(finding)
-        anchor = self.anchors.get(places_of(finding.first, finding.second))
+            yield from fields.signed_values(finding)
+        anchor = self.anchors.get(both_places(finding.first, finding.second))
         if anchor:
             yield f'<p><a href=#r{anchor}>among the calls around it</a></p>'
         if len(group) > 1:
@@ -329,7 +330,7 @@ class Content:
     def place(self, message: Message, side: int) -> str:
         """Where a message is, its frames, and a display filter for all of them to copy, as HTML."""
         framing, parts = self.framings[side], self.recorded[side].parts
-        return (f'{message.place}{telling.frames_of(message, framing)}'
+        return (f'{message.place}{telling.frames_text(message, framing)}'
                 + markup.filters(parts, framing(message)))
 
     def others(self, group: Sequence[Finding]) -> Iterator[str]:
@@ -340,9 +341,9 @@ class Content:
             ['<ol start=2>'], map(self.other, group[1:1 + self.others_at_most]), [f'</ol>{more}']))
 
     def other(self, finding: Finding) -> str:
-        places = telling.places_of(finding.first, finding.second, *self.framings)
+        places = telling.places_text(finding.first, finding.second, *self.framings)
         path = f'{code(finding.path)}: ' if finding.path else ''
-        anchor = self.anchors.get(places_of(finding.first, finding.second))
+        anchor = self.anchors.get(both_places(finding.first, finding.second))
         return f'<li>{path}{f"<a href=#r{anchor}>{places}</a>" if anchor else places}</li>'
 
     # --- What is left out ---
@@ -374,8 +375,8 @@ class Content:
             yield ('<p class=quiet>In the order of the first run. '
                    'A click opens the fields of a call and its replies.</p>')
         for connection in self.beside.connections:
-            yield f'<div class=connection><h3>{heading_of(connection)}</h3>'
-            yield from chain.from_iterable(self.row(row, connection) if isinstance(row, Row)
+            yield f'<div class=connection><h3>{connection_heading(connection)}</h3>'
+            yield from chain.from_iterable(self.row(row, connection) if isinstance(row, ExcerptRow)
                                            else gap(row) for row in connection.rows)
             yield '</div>'
         if self.beside.others:
@@ -386,27 +387,27 @@ class Content:
             yield (f'<p class=gap>{count(self.beside.cut, "call")} more '
                    f'{plural(self.beside.cut, "is", "are")} only in the second run</p>')
 
-    def row(self, row: Row, connection: Connection) -> Iterator[str]:
+    def row(self, row: ExcerptRow, connection: ExcerptConnection) -> Iterator[str]:
         """An exchange of both runs: what it is, where, and its fields on a click."""
-        messages, (mark, said) = list(together(row)), self.mark(row)
+        messages, (mark, said) = list(message_pairs(row)), self.mark(row)
         calls, own = messages[0], (connection.first, connection.second)
         # (the place of a call is short if it is on the connection that is named above)
         places = ' | '.join(
             (f'record {call.record}' if call.connection == number else call.place)
-            + telling.frames_of(call, framing)
+            + telling.frames_text(call, framing)
             for call, number, framing in zip(calls, own, self.framings) if call)
         yield (f'<details class="row{" told" if mark != "=" else ""}" '
-               f'id=r{self.anchors[places_of(*calls)]}>'
+               f'id=r{self.anchors[both_places(*calls)]}>'
                f'<summary><b class=mark>{mark}</b> {message_of_both(calls).procedure}'
                f'{f" {code(row.path)}" if row.path else ""} '
                f'<span class=quiet>{places}</span>{said}</summary>')
         yield from chain.from_iterable(starmap(self.message, messages))
         yield '</details>'
 
-    def mark(self, row: Row) -> tuple[str, str]:
+    def mark(self, row: ExcerptRow) -> tuple[str, str]:
         """Returns a sign for what a row is, and what is said of it, as HTML."""
-        numbers = sorted({number for both in together(row)
-                          for number, _ in self.found.get(places_of(*both), ())})
+        numbers = sorted({number for both in message_pairs(row)
+                          for number, _ in self.found.get(both_places(*both), ())})
         links = ', '.join(f'<a href=#f{number}>finding {number}</a>' for number in numbers
                           if number <= len(self.shown))
         if row.first is None or row.second is None:
@@ -419,22 +420,22 @@ class Content:
     def message(self, first: Message | None, second: Message | None) -> Iterator[str]:
         """A message of both runs: where it is, and its fields."""
         # (the frames of the call are in the line of its row)
-        places = ' | '.join(one.place + ('' if one.is_call else telling.frames_of(one, framing))
+        places = ' | '.join(one.place + ('' if one.is_call else telling.frames_text(one, framing))
                             for one, framing in zip((first, second), self.framings) if one)
         what = 'call' if message_of_both((first, second)).is_call else 'reply'
         yield f'<h4>{what}: {places}</h4>'
-        found = self.found.get(places_of(first, second), ())
+        found = self.found.get(both_places(first, second), ())
         yield from fields.of_messages(first, second, next(
             (finding for _, finding in found if is_of_fields(finding)), None))
 
 
-def heading_of(connection: Connection) -> str:
+def connection_heading(connection: ExcerptConnection) -> str:
     both = connection.first, connection.second
     of_one = f' of the {RUNS[connection.first is None]} run' if None in both else ''
     return ' | '.join(f'connection {number}' for number in both if number is not None) + of_one
 
 
-def gap(some: Gap, where: str = '') -> Iterator[str]:
+def gap(some: HiddenCalls, where: str = '') -> Iterator[str]:
     """A line for calls that are not shown."""
     words = [(some.equal, count(some.equal, 'equal call')),
              (some.told,

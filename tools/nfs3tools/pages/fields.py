@@ -9,7 +9,7 @@ from itertools import groupby, zip_longest
 from typing import NamedTuple
 
 from ..comparison.values import long_values
-from ..comparison.values.long_values import bytes_of, is_long, spelled
+from ..comparison.values.long_values import bytes_of, is_long, spelled_bytes
 from ..comparison.verdict.arguments import LAST_OF_HEAD
 from ..comparison.verdict.differences import Difference
 from ..comparison.verdict.findings import Finding
@@ -20,11 +20,11 @@ from ..reporting import telling
 from . import markup
 
 DIFFERENCES_AT_MOST = 200  # of a message
-FIELDS_AT_MOST = 6_000  # characters of a message's fields
+FIELD_CHARACTERS_AT_MOST = 6_000  # characters of a message's fields
 GLUE = '\u00a0'  # a space after a sign at which no line ends
-SIGNS, SIDES = ('-', '+'), ('minus', 'plus')
+SIGNS, SIGN_CLASSES = ('-', '+'), ('minus', 'plus')
 OPAQUE = ('data', 'rest')  # items whose values are hexadecimal also if they are short
-DOTS = '..'
+ELLIPSIS = '..'
 READABLE = 0.75  # of the bytes of a text, at least
 NO_LETTER = '\u00b7'  # stands for a byte that is none
 LAST_OF_REPLY = 'accept_stat'  # RFC 5531, section 9
@@ -32,7 +32,7 @@ LAST_OF_REPLY = 'accept_stat'  # RFC 5531, section 9
 
 # --- What differs ---
 
-def change_of(finding: Finding) -> Iterator[str]:
+def signed_values(finding: Finding) -> Iterator[str]:
     """The values of both runs, each with its sign, or the arguments of a call that one run alone
     has."""
     if finding.kind == 'only' and not any(telling.of_arguments(finding)):
@@ -40,28 +40,28 @@ def change_of(finding: Finding) -> Iterator[str]:
         return
     yield '<div class=change>'
     for difference in finding.differences[:DIFFERENCES_AT_MOST]:
-        yield from of_difference(difference)
-    yield from map(line_of, telling.of_arguments(finding))
+        yield from marked_difference(difference)
+    yield from map(signed_line, telling.of_arguments(finding))
     if len(finding.differences) > DIFFERENCES_AT_MOST:
         yield f'<div>.. and {len(finding.differences) - DIFFERENCES_AT_MOST:,} more fields</div>'
     yield '</div>'
 
 
-def of_difference(difference: Difference) -> Iterator[str]:
+def marked_difference(difference: Difference) -> Iterator[str]:
     """The lines of a difference, with the bytes marked that differ."""
-    lines = [line.strip() for line in telling.of_difference(difference)]
+    lines = [line.strip() for line in telling.difference_lines(difference)]
     values, remark = marked_values(difference), telling.remark_on(difference)
     if not values or len(lines) != len(values):
-        yield from map(line_of, lines)
+        yield from map(signed_line, lines)
         return
-    for sign, side, value in zip(SIGNS, SIDES, values):
+    for sign, side, value in zip(SIGNS, SIGN_CLASSES, values):
         more = f' <span class=quiet># {escape(remark)}</span>' if remark and sign == '+' else ''
         yield f'<div class={side}>{sign}{GLUE}{escape(difference.label)}={value}{more}</div>'
 
 
-def line_of(line: str) -> str:
+def signed_line(line: str) -> str:
     """A line that has a sign before it."""
-    look = markup.class_of(SIDES[SIGNS.index(line[0])] if line[0] in SIGNS else '')
+    look = markup.class_of(SIGN_CLASSES[SIGNS.index(line[0])] if line[0] in SIGNS else '')
     return f'<div{look}>{line[0]}{GLUE}{escape(line[2:])}</div>'
 
 
@@ -73,7 +73,7 @@ def marked_values(difference: Difference) -> list[str]:
                                                               str(difference.second or ''))
     if difference.is_equal or not has_bytes(difference):
         return []
-    pieces = [content_of(value) for value in values]
+    pieces = [shown_bytes(value) for value in values]
     is_text = values[0].strip('.').startswith('"')
     has_text = not is_text and all(map(is_readable, pieces))
     return [of_value(value, own, other, is_text) + (
@@ -83,8 +83,9 @@ def marked_values(difference: Difference) -> list[str]:
 
 def of_value(value: str, own: bytes, other: bytes, is_text: bool) -> str:
     """Returns a value as it is printed."""
-    before, after = (DOTS * is_cut for is_cut in (value.startswith(DOTS), value.endswith(DOTS)))
-    inner = f'"{marked(own, other, spelled)}"' if is_text else marked(own, other, bytes.hex)
+    before, after = (ELLIPSIS * is_cut for is_cut in (value.startswith(ELLIPSIS),
+                                                      value.endswith(ELLIPSIS)))
+    inner = f'"{marked(own, other, spelled_bytes)}"' if is_text else marked(own, other, bytes.hex)
     return before + inner + after
 
 
@@ -97,9 +98,9 @@ def has_bytes(difference: Difference) -> bool:
         value is not None and str(value).startswith('"') and not is_long(value) for value in both)
 
 
-def content_of(value: str) -> bytes:
+def shown_bytes(value: str) -> bytes:
     """The bytes of a value as it is printed, of which some may be left out at its ends."""
-    return bytes_of(value.removeprefix(DOTS).removesuffix(DOTS))
+    return bytes_of(value.removeprefix(ELLIPSIS).removesuffix(ELLIPSIS))
 
 
 def is_readable(content: bytes) -> bool:
@@ -111,10 +112,10 @@ def is_readable(content: bytes) -> bool:
 def marked(own: bytes, other: bytes, spell: Callable[[bytes], str]) -> str:
     """Returns bytes as they are spelled, with those marked that are not in the other value."""
     return ''.join(f'<mark>{escape(spell(piece))}</mark>' if differs else escape(spell(piece))
-                   for differs, piece in pieces_of(own, other))
+                   for differs, piece in differing_pieces(own, other))
 
 
-def pieces_of(own: bytes, other: bytes) -> Iterator[tuple[bool, bytes]]:
+def differing_pieces(own: bytes, other: bytes) -> Iterator[tuple[bool, bytes]]:
     """Returns the bytes that follow one another and are all in the other value, at their places, or
     all not."""
     pairs = (pair for pair in zip_longest(own, other) if pair[0] is not None)
@@ -128,7 +129,7 @@ def letters(content: bytes) -> str:
 
 # --- All fields ---
 
-class Line(NamedTuple):
+class FieldLine(NamedTuple):
     """A line of a field: whether it is of the head of RPC, whether it is not the same in both runs,
     its label, and all of it."""
     is_of_head: bool
@@ -144,43 +145,44 @@ def of_messages(first: Message | None, second: Message | None,
     if finding:
         told.update(one.label for one in finding.differences)
         told.update(one.label for one in finding.arguments)
-        yield from change_of(finding)
-    lines = [line for line in lines_of(first, second)
+        yield from signed_values(finding)
+    lines = [line for line in field_lines(first, second)
              if not (line.differs and line.label in told)]
-    own = cut([line.text for line in lines if not line.is_of_head])
+    own = first_lines([line.text for line in lines if not line.is_of_head])
     yield markup.block('div', own, 'fields')
     head = [line.text for line in lines if line.is_of_head]
     if head:
         yield from markup.folded('head', 'head of RPC', [markup.block('div', head, 'fields')])
 
 
-def lines_of(first: Message | None, second: Message | None) -> Iterator[Line]:
+def field_lines(first: Message | None, second: Message | None) -> Iterator[FieldLine]:
     """The fields of a message of both runs. If they have not the same fields, those of the second
     come after those of the first."""
     if first and second and names_of(first) == names_of(second):
-        both = zip(values_of(first), values_of(second), first.items, second.items)
+        both = zip(labelled_values(first), labelled_values(second), first.items, second.items)
         for (is_head, label, one), (_, _, other), *items in both:
             here, there = (item.value for item in items)
             value = one if here == there else parting_of(here, there) or f'{one} | {other}'
-            yield Line(is_head, here != there, label, f'{label}={value}')
+            yield FieldLine(is_head, here != there, label, f'{label}={value}')
         return
     for sign, message in zip(SIGNS, (first, second)):
         if message:
-            yield from (Line(is_head, True, label, f'{sign}{GLUE}{label}={value}')
-                        for is_head, label, value in values_of(message))
+            yield from (FieldLine(is_head, True, label, f'{sign}{GLUE}{label}={value}')
+                        for is_head, label, value in labelled_values(message))
 
 
 def names_of(message: Message) -> list[str]:
     return [item.name for item in message.items]
 
 
-def values_of(message: Message) -> Iterator[tuple[bool, str, str]]:
+def labelled_values(message: Message) -> Iterator[tuple[bool, str, str]]:
     """Returns of a message's items whether they are of the head of RPC, their labels, and their
     values as they are printed, with their names if they have some."""
     labels, last = Labels(message), LAST_OF_HEAD if message.is_call else LAST_OF_REPLY
     end = next((at for at, item in enumerate(message.items) if item.name == last), -1)
     for at, item in enumerate(message.items):
-        yield at <= end, labels.label(at), telling.named(item.name, item.value, labels.meaning(at))
+        value = telling.value_with_meaning(item.name, item.value, labels.meaning(at))
+        yield at <= end, labels.label(at), value
 
 
 def parting_of(first: Value, second: Value) -> str:
@@ -188,16 +190,16 @@ def parting_of(first: Value, second: Value) -> str:
     cut off may be all that differs."""
     if telling.shortened(first) == first and telling.shortened(second) == second:
         return ''
-    parting = long_values.apart(first, second)
-    return f'{parting.shown[0]} | {parting.shown[1]} ({long_values.told(parting)})'
+    parting = long_values.parting_between(first, second)
+    return f'{parting.shown[0]} | {parting.shown[1]} ({long_values.parting_in_words(parting)})'
 
 
-def cut(lines: Sequence[str]) -> Iterator[str]:
+def first_lines(lines: Sequence[str]) -> Iterator[str]:
     """Returns lines up to some characters, and then how many are left."""
     size = 0
     for number, line in enumerate(lines):
         size += len(line)
-        if size > FIELDS_AT_MOST:
+        if size > FIELD_CHARACTERS_AT_MOST:
             yield f'.. and {len(lines) - number:,} more'
             return
         yield line

@@ -17,8 +17,8 @@ from ..comparison.verdict.summary import short
 from ..recordings.selection import count, plural
 from ..reporting.telling import is_of_equal_values
 
-FIELDS_AT_MOST = 3  # of a phrase, and arguments
-LONGEST = 40  # characters of a value
+FIELDS_IN_PHRASE = 3  # of a phrase, and arguments
+LONGEST_SHOWN = 40  # characters of a value
 ELSEWHERE = ' on another connection'
 DATA, ONLY, CONNECTION, FIELDS, REPLIES, ORDER, EQUAL = range(7)  # the order of phrases
 Group = Sequence[Finding]  # of one phrase
@@ -42,25 +42,25 @@ class Phrase(NamedTuple):
 def phrases(compared: Compared) -> list[Phrase]:
     """Returns what differs, data first."""
     groups = defaultdict[Kind, list[Finding]](list)
-    for finding in chain.from_iterable(map(parts_of, compared.findings)):
-        groups[kind_of(finding)].append(finding)
+    for finding in chain.from_iterable(map(data_and_rest, compared.findings)):
+        groups[phrase_kind(finding)].append(finding)
     # (those of one kind stay in the order of the first run)
     order = sorted(groups.items(), key=lambda one: one[0].order)
     return [kind.maker(some, kind) for kind, some in order]
 
 
-def parts_of(finding: Finding) -> list[Finding]:
+def data_and_rest(finding: Finding) -> list[Finding]:
     """Returns what differs in the data of a message, and what differs besides, by themselves."""
     parts = [tuple(one for one in finding.differences if (one.name == 'data') is is_data)
              for is_data in (True, False)]
     return [replace(finding, differences=part) for part in parts] if all(parts) else [finding]
 
 
-def kind_of(finding: Finding) -> Kind:
+def phrase_kind(finding: Finding) -> Kind:
     """Returns what findings of one phrase have in common."""
     run, name = finding.run, finding.message.procedure
     if any(one.name == 'data' for one in finding.differences):
-        return Kind(DATA, of_data, (finding.path,))
+        return Kind(DATA, data_phrase, (finding.path,))
     if finding.kind == 'only':
         return Kind(ONLY, of_only, (run, name))
     if finding.kind == 'connection':
@@ -84,7 +84,7 @@ def counted_phrase(some: Group, kind: Kind) -> Phrase:
     return Phrase(f'{before}{count(len(some), what)}{after}')
 
 
-def of_data(some: Group, _: Kind) -> Phrase:
+def data_phrase(some: Group, _: Kind) -> Phrase:
     """How many bytes of a file differ. They are counted if all messages show the same bytes."""
     # (of two values of one size, whose offset in the file is known)
     bytes_of_each = {(one.apart.offset, one.apart.differing) if one.apart
@@ -107,19 +107,20 @@ def of_only(some: Group, _: Kind) -> Phrase:
     if len(some) > 1:
         return Phrase(f'{words}: ', paths[0], and_others(some))
     asked = [f' {one.name} {one.meaning or one.value}'
-             for one in some[0].arguments if not one.is_of_path and len(str(one.value)) <= LONGEST]
-    more = ' ..' if len(asked) > FIELDS_AT_MOST else ''
-    return Phrase(f'{words}: ', paths[0], ''.join(asked[:FIELDS_AT_MOST]) + more)
+             for one in some[0].arguments
+             if not one.is_of_path and len(str(one.value)) <= LONGEST_SHOWN]
+    more = ' ..' if len(asked) > FIELDS_IN_PHRASE else ''
+    return Phrase(f'{words}: ', paths[0], ''.join(asked[:FIELDS_IN_PHRASE]) + more)
 
 
 def of_fields(some: Group, kind: Kind) -> Phrase:
     """Which fields differ, and of one field that always differs alike its values."""
     paths, (fields, is_call) = paths_of(some), kind.common
-    what = ', '.join(fields[:FIELDS_AT_MOST]) + ', ..' * (len(fields) > FIELDS_AT_MOST)
+    what = ', '.join(fields[:FIELDS_IN_PHRASE]) + ', ..' * (len(fields) > FIELDS_IN_PHRASE)
     if kind.order == REPLIES:
         what = 'another number of replies'
-    values = values_of(some)
-    after = f'{f": {values}" if values else ""} ({messages_of(some, is_call)})'
+    values = both_values(some)
+    after = f'{f": {values}" if values else ""} ({counted_messages(some, is_call)})'
     if not paths:
         return Phrase(what, '', after)
     if len(paths) > 1:
@@ -127,7 +128,7 @@ def of_fields(some: Group, kind: Kind) -> Phrase:
     return Phrase(f'{what} of ', paths[0], and_others(some) + after)
 
 
-def messages_of(some: Group, is_call: bool) -> str:
+def counted_messages(some: Group, is_call: bool) -> str:
     """How many messages they are, and of which procedures."""
     procedures = list(dict.fromkeys(short(one.message.procedure) for one in some))
     number, names = len(some), ', '.join(procedures)
@@ -137,7 +138,7 @@ def messages_of(some: Group, is_call: bool) -> str:
             else f'{number:,} {names} {plural(number, "reply", "replies")}')
 
 
-def values_of(some: Group) -> str:
+def both_values(some: Group) -> str:
     """Returns both values of a field, if it is the only one and they are the same in all
     findings."""
     all_of_it = {(one.first, one.second) for finding in some for one in finding.differences}
@@ -148,7 +149,7 @@ def values_of(some: Group) -> str:
         return ''
     first, second = (meaning or str(value)
                      for value, meaning in zip((one.first, one.second), one.meanings))
-    return f'{first} → {second}' if len(first + second) <= 2 * LONGEST else ''
+    return f'{first} → {second}' if len(first + second) <= 2 * LONGEST_SHOWN else ''
 
 
 def and_others(some: Group) -> str:

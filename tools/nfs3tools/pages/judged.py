@@ -16,8 +16,8 @@ from ..captures.explained import tell_record
 from ..captures.located import Within
 from ..exchanges.kept import Kept
 from ..judgement.verdict import (
-    HEADS, Verdict, counts_after, is_row, named, notes_of, row_of, status_of)
-from ..recordings.coverage import Allowed, Counts, named as named_calls
+    VERDICT_HEADS, Verdict, counts_after, is_row, status_of, subject_of, verdict_notes, verdict_row)
+from ..recordings.coverage import Allowed, Counts, named_calls
 from ..recordings.parts import Part
 from ..recordings.selection import count, plural
 from ..recordings.taken import Taken
@@ -26,18 +26,19 @@ from ..shared.printed import escaped, printable
 from ..shared.screens import Styled
 from . import markup
 from .markup import class_of
-from .time_line import FORMS, TimeLine, line_of, of_time_line
+from .time_line import FORMS, TimeLine, of_time_line, time_line_of
 
 # How words of verdicts look: good, judged in part, at fault.
-GOOD, PART, BAD = 'plus', 'part', 'minus'
-LOOKS = {'ok': GOOD, 'in part': PART, 'left out': PART, 'not checked': PART, 'refused': BAD,
-         'error': BAD}
-COUNTED = (('in part', PART), ('left out', PART), ('not checked', PART), ('errors', BAD))
-FAULTS_AT_MOST, FAULTS_OF_EACH = 500, 200  # on a page, and of a recording
+GOOD, PARTIAL, BAD = 'plus', 'part', 'minus'
+LOOKS = {'ok': GOOD, 'in part': PARTIAL, 'left out': PARTIAL, 'not checked': PARTIAL,
+         'refused': BAD, 'error': BAD}
+LOOKS_OF_COUNTS = (('in part', PARTIAL), ('left out', PARTIAL), ('not checked', PARTIAL),
+                   ('errors', BAD))
+FAULTS_IN_RECORDING, FAULTS_OF_EACH = 500, 200  # on a page, and of a recording
 LINES_AT_MOST = 200  # of a message
 
 
-class Fault(NamedTuple):
+class ExplainedFault(NamedTuple):
     """A verdict on a connection that is refused: what `tools/explain` says of its position, and all
     fields of the message."""
     verdict: Verdict
@@ -49,7 +50,7 @@ class Seen(NamedTuple):
     """A recording: its name, its verdicts, and what a page shows besides, if there is to be one."""
     recording: str
     verdicts: list[Verdict]
-    faults: Sequence[Fault] = ()
+    faults: Sequence[ExplainedFault] = ()
     line: TimeLine | None = None
     parts: Sequence[Part] = ()
 
@@ -62,11 +63,11 @@ def verdicts_in(seen: Iterable[Seen]) -> list[Verdict]:
 def seen_in(kept: Kept, taken: Taken, recording: str, verdicts: list[Verdict]) -> Seen:
     """Returns what is shown of a recording, by the exchanges of its connections."""
     refused = [verdict for verdict in verdicts if verdict.state == 'refused']
-    faults = [fault_of(taken, verdict) for verdict in refused[:FAULTS_OF_EACH]]
-    return Seen(recording, verdicts, faults, line_of(kept, taken.begun), tuple(taken.parts))
+    faults = [explained_fault(taken, verdict) for verdict in refused[:FAULTS_OF_EACH]]
+    return Seen(recording, verdicts, faults, time_line_of(kept, taken.begun), tuple(taken.parts))
 
 
-class Table(NamedTuple):
+class ShownTable(NamedTuple):
     """A table below its title: its heads, and its rows as HTML. One of cards has its rows one below
     the other in a narrow window, and a wide one can be moved sideways there. Valid rows are folded
     below the others."""
@@ -77,8 +78,8 @@ class Table(NamedTuple):
     valid: Sequence[str] = ()
 
 
-def page(seen: Sequence[Seen], allowed: Allowed, tables: Sequence[Table],
-         of_each: Sequence[Sequence[Table]] = ()) -> Iterator[bytes]:
+def judged_page(seen: Sequence[Seen], allowed: Allowed, tables: Sequence[ShownTable],
+                of_each: Sequence[Sequence[ShownTable]] = ()) -> Iterator[bytes]:
     """The page, in pieces, of recordings, what does not change the status, and the tables of all of
     them and of each."""
     counts, names = counts_after(verdicts_in(seen)), [escaped(one.recording) for one in seen]
@@ -94,7 +95,7 @@ def page(seen: Sequence[Seen], allowed: Allowed, tables: Sequence[Table],
 
 
 def of_notes(seen: Sequence[Seen]) -> Iterator[str]:
-    notes = [line for verdict in verdicts_in(seen) for line in notes_of(verdict)]
+    notes = [line for verdict in verdicts_in(seen) for line in verdict_notes(verdict)]
     return markup.section('Notes', markup.paragraphs(notes)) if notes else iter(())
 
 
@@ -120,12 +121,12 @@ def of_counts(counts: Counts) -> Iterator[str]:
     """The counts, each with its word."""
     look = BAD if counts.refused else GOOD if counts.ok else ''
     detail = f' ({counts.ok:,} valid, {counts.refused:,} refused)'
-    yield f'<ul class=counts>{of_count(counts.judged, "judged" + detail, look)}'
-    for word, one in COUNTED:
-        yield of_count(counts.numbers()[word], word, one)
+    yield f'<ul class=counts>{count_element(counts.judged, "judged" + detail, look)}'
+    for word, one in LOOKS_OF_COUNTS:
+        yield count_element(counts.numbers()[word], word, one)
     if counts.unanswered:
         calls = plural(counts.unanswered, 'call', 'calls')
-        yield of_count(counts.unanswered, f'{calls} without a reply', PART)
+        yield count_element(counts.unanswered, f'{calls} without a reply', PARTIAL)
     yield '</ul>'
 
 
@@ -144,14 +145,14 @@ def of_status(counts: Counts, status: int, allowed: Allowed) -> Iterator[str]:
     yield '</p>'
 
 
-def of_count(number: int, words: str, look: str) -> str:
+def count_element(number: int, words: str, look: str) -> str:
     """A count. One of nothing has no colour."""
     return f'<li{class_of(look) if number else ""}><b>{number:,}</b> {escape(words)}</li>'
 
 
 # --- Tables ---
 
-def of_table(table: Table, level: str) -> str:
+def of_table(table: ShownTable, level: str) -> str:
     shown, valid = (f'<div class={table.look}>{"".join(markup.table(table.heads, rows))}</div>'
                     for rows in (table.rows, table.valid))
     folded = markup.folded('valid', count(len(table.valid), 'connection') + ' ok', [valid],
@@ -161,11 +162,11 @@ def of_table(table: Table, level: str) -> str:
                     *(folded if table.valid else ())])
 
 
-def as_printed(title: str, rows: Sequence[Styled], numbers: Container[int]) -> Table:
+def as_printed(title: str, rows: Sequence[Styled], numbers: Container[int]) -> ShownTable:
     """Returns a table of rows that are printed, that of the heads first. The columns of these
     numbers are set to the right."""
     heads, *others = (row.cells for row in rows)
-    return Table(title, heads, [row_of_cells(cells, numbers) for cells in others])
+    return ShownTable(title, heads, [row_of_cells(cells, numbers) for cells in others])
 
 
 def row_of_cells(cells: Sequence[str], numbers: Container[int], heads: Sequence[str] = (),
@@ -180,19 +181,20 @@ def row_of_cells(cells: Sequence[str], numbers: Container[int], heads: Sequence[
     return f'<tr class=row>{"".join(inner)}</tr>'
 
 
-def table_of(seen: Sequence[Seen]) -> Table:
+def table_of(seen: Sequence[Seen]) -> ShownTable:
     """The table of `tools/verdicts`, whose faults lead to what is said of them. What is refused or
     could not be read comes first, and what is ok is folded."""
     numbers, verdicts = range(4, 6), [*filter(is_row, verdicts_in(seen))]
-    links = {id(fault.verdict): f'#f{number}' for number, fault, _ in numbered(seen)}
+    links = {id(fault.verdict): f'#f{number}' for number, fault, _ in numbered_faults(seen)}
 
     def rows(some: Iterable[Verdict]) -> list[str]:
-        return [row_of_cells(row_of(verdict._replace(message=said_of(verdict))), numbers, HEADS,
-                             look_of(verdict), links.get(id(verdict), '')) for verdict in some]
+        return [row_of_cells(verdict_row(verdict._replace(message=said_of(verdict))), numbers,
+                             VERDICT_HEADS, look_of(verdict), links.get(id(verdict), ''))
+                for verdict in some]
     wrong = sorted((verdict for verdict in verdicts if verdict.state != 'ok'),
                    key=lambda verdict: LOOKS[verdict.state] != BAD)
     valid = rows(verdict for verdict in verdicts if verdict.state == 'ok')
-    return Table('Connections', HEADS, rows(wrong), 'cards', valid)
+    return ShownTable('Connections', VERDICT_HEADS, rows(wrong), 'cards', valid)
 
 
 def look_of(verdict: Verdict) -> str:
@@ -216,17 +218,17 @@ def said_of(verdict: Verdict) -> str:
     return '; '.join(filter(None, ['' if is_raw(verdict) else 'ok', raw])) or 'no calls'
 
 
-def numbered(seen: Sequence[Seen]) -> list[tuple[int, Fault, Seen]]:
+def numbered_faults(seen: Sequence[Seen]) -> list[tuple[int, ExplainedFault, Seen]]:
     """Returns the faults that are shown, with their numbers and recordings."""
     faults = [(fault, one) for one in seen for fault in one.faults]
-    return [(number, *both) for number, both in enumerate(faults[:FAULTS_AT_MOST], 1)]
+    return [(number, *both) for number, both in enumerate(faults[:FAULTS_IN_RECORDING], 1)]
 
 
 # --- Faults ---
 
-def fault_of(taken: Taken, verdict: Verdict) -> Fault:
+def explained_fault(taken: Taken, verdict: Verdict) -> ExplainedFault:
     """Explains a fault, if its position is in a record."""
-    item, message, within = Lines(), Lines(), Within(taken.spool, None, taken)
+    item, message, within = FirstLines(), FirstLines(), Within(taken.spool, None, taken)
     with contextlib.suppress(NoPlace):
         place = parse_place(f'connection {verdict.connection} {verdict.position}')
         if isinstance(place, Place):
@@ -234,10 +236,10 @@ def fault_of(taken: Taken, verdict: Verdict) -> Fault:
             tell_record(found, place, verdict.reason, item.take)
             if place.byte is not None:
                 tell_record(found, place._replace(byte=None), None, message.take)
-    return Fault(verdict, item.all(), message.all())
+    return ExplainedFault(verdict, item.all(), message.all())
 
 
-class Lines(list[str]):
+class FirstLines(list[str]):
     """The first lines of what is told, and how many are left."""
     more = 0
 
@@ -253,7 +255,7 @@ class Lines(list[str]):
 
 def of_faults(seen: Sequence[Seen]) -> Iterator[str]:
     """What is refused: where, why, in which frames, and the fields of the message."""
-    shown = numbered(seen)
+    shown = numbered_faults(seen)
     more = sum(verdict.state == 'refused' for one in seen for verdict in one.verdicts) - len(shown)
     last = [f'<p id=more>.. and {count(more, "fault")} more.</p>'] if more else []
     if shown:
@@ -262,8 +264,8 @@ def of_faults(seen: Sequence[Seen]) -> Iterator[str]:
             chain(chain.from_iterable(starmap(of_fault, shown)), last), ' id=faults')
 
 
-def of_fault(number: int, fault: Fault, seen: Seen) -> Iterator[str]:
-    verdict, name = fault.verdict, escape(printable(named(fault.verdict)))
+def of_fault(number: int, fault: ExplainedFault, seen: Seen) -> Iterator[str]:
+    verdict, name = fault.verdict, escape(printable(subject_of(fault.verdict)))
     yield f'<article id=f{number}><h3><a href=#f{number}>{number}</a> {name}</h3>'
     filters = markup.filters(seen.parts, [frame.number for frame in verdict.frames])
     yield f'<p class=minus>{escape(printable(verdict.message))}{filters}</p>'
@@ -278,7 +280,7 @@ def of_fault(number: int, fault: Fault, seen: Seen) -> Iterator[str]:
 
 # --- Recordings ---
 
-def of_recording(seen: Seen, tables: Sequence[Table], has_counts: bool) -> Iterator[str]:
+def of_recording(seen: Seen, tables: Sequence[ShownTable], has_counts: bool) -> Iterator[str]:
     """The time line of a recording, its own counts if that is asked for, and its tables: that of
     all its connections, and those of each folded."""
     shown = [of_table(table, 'h3') for table in tables]

@@ -2,7 +2,7 @@
 Errors have another form and another colour.
 
     with contextlib.closing(kept_in(program, taken, verdicts)) as kept:
-        print(*of_time_line(line_of(kept, taken.begun)))
+        print(*of_time_line(time_line_of(kept, taken.begun)))
 
 Places from left to right are parts of the width in per cent, so the line is as wide as its page,
 and its texts keep their size.
@@ -14,17 +14,17 @@ from collections.abc import Iterable, Iterator, Sequence
 from html import escape
 from typing import NamedTuple
 
-from ..exchanges.kept import Exchange, Kept, call_of
+from ..exchanges.kept import Kept, KeptExchange, call_text
 from ..judgement.tallies import milliseconds
-from ..judgement.window import ALL, Window
+from ..judgement.window import ALL, TimeWindow
 from ..recordings.selection import count, plural
 from .markup import paragraphs
 
-COLUMNS = 1_000  # of pixels, into which dots are sorted
+PIXEL_COLUMNS = 1_000  # of pixels, into which dots are sorted
 DOTS_AT_MOST = 2_000  # of which none is left out
 ERRORS_AT_MOST = 10_000
 WORDS_AT_MOST = 240  # characters of a dot's title
-HEIGHT, TOP, BOTTOM = 330, 44, 290  # of the line, and of the scale in it
+HEIGHT, SCALE_TOP, SCALE_BOTTOM = 330, 44, 290  # of the line, and of the scale in it
 LANE = 18  # the height of calls without a latency
 TICKS_AT_MOST = 6
 NO_LATENCIES = (1_000, 1_000_000)  # nanoseconds, on a scale without any
@@ -70,10 +70,10 @@ def of_time_line(line: TimeLine) -> Iterator[str]:
         yield ('<p class=quiet><svg class=key><use href=#good x=8 y=8 /></svg> answered '
                '<svg class=key><use href=#bad x=8 y=8 /></svg> an error, or no reply '
                '<svg class=key><use href=#open x=8 y=8 /></svg> no reply recorded</p>')
-    yield from paragraphs(words_of(line), 'quiet')
+    yield from paragraphs(drawn_in_words(line), 'quiet')
 
 
-def words_of(line: TimeLine) -> Iterator[str]:
+def drawn_in_words(line: TimeLine) -> Iterator[str]:
     """How many calls are drawn, and which are left out."""
     drawn = len(line.dots)
     if line.untimed:
@@ -110,7 +110,7 @@ class Scale:
         if latency is None:
             return LANE
         part = (math.log10(latency) - self.low) / (self.high - self.low) if latency > 0 else 0.0
-        return round(BOTTOM - part * (BOTTOM - TOP), 1)
+        return round(SCALE_BOTTOM - part * (SCALE_BOTTOM - SCALE_TOP), 1)
 
     def dot(self, dot: Dot) -> str:
         form = 'bad' if dot.is_error else 'good' if dot.latency is not None else 'open'
@@ -119,22 +119,22 @@ class Scale:
 
     def axes(self) -> Iterator[str]:
         """A line and a label for each decade, for times, and for calls without a latency."""
-        yield text_of(-8, LANE + 4, 'no reply', 'end')
+        yield svg_text(-8, LANE + 4, 'no reply', 'end')
         yield f'<line x2=100% y1={LANE} y2={LANE} class=lane />'
         for decade in range(self.low, self.high + 1):
             height, (power, unit) = self.down(10 ** decade), unit_of(decade)
             yield f'<line x2=100% y1={height:g} y2={height:g} />'
-            yield text_of(-8, height + 4, f'{10 ** (decade - power):,} {unit}', 'end')
+            yield svg_text(-8, height + 4, f'{10 ** (decade - power):,} {unit}', 'end')
         power, unit = unit_of(math.floor(math.log10(self.end)))
         for time in ticks(self.end):
             at = self.across(time)
-            yield (f'<line x1={at} x2={at} y1={TOP} y2={BOTTOM + 5} />'
-                   f'{text_of(at, BOTTOM + 20, f"{time / 10 ** power:g} {unit}", "middle")}')
-        yield text_of('100%', HEIGHT - 4, 'time from the first frame', 'end')
-        yield text_of(-60, HEIGHT - 4, 'latency, log scale', 'start')
+            yield (f'<line x1={at} x2={at} y1={SCALE_TOP} y2={SCALE_BOTTOM + 5} />'
+                   f'{svg_text(at, SCALE_BOTTOM + 20, f"{time / 10 ** power:g} {unit}", "middle")}')
+        yield svg_text('100%', HEIGHT - 4, 'time from the first frame', 'end')
+        yield svg_text(-60, HEIGHT - 4, 'latency, log scale', 'start')
 
 
-def text_of(across: float | str, down: float, words: str, anchor: str) -> str:
+def svg_text(across: float | str, down: float, words: str, anchor: str) -> str:
     return f'<text x={across} y={down:g} text-anchor={anchor}>{escape(words)}</text>'
 
 
@@ -152,7 +152,7 @@ def ticks(end: int) -> Iterator[int]:
 
 # --- Dots ---
 
-def line_of(kept: Kept, begun: int, window: Window = ALL) -> TimeLine:
+def time_line_of(kept: Kept, begun: int, window: TimeWindow = ALL) -> TimeLine:
     """Returns the time line of the calls of a window that have a time: all of them if they are few,
     or else the errors, those without a reply, and the slowest of each column."""
     own = [at for at in range(len(kept)) if window.has(kept.times[at])]
@@ -170,16 +170,16 @@ def slowest(kept: Kept, timed: Sequence[int], begun: int, end: int) -> Iterable[
     """Returns the call with the longest latency of each column, the first of several."""
     found = dict[int, int]()
     for at in timed:
-        column = (kept.times[at] - begun) * COLUMNS // (end + 1)
+        column = (kept.times[at] - begun) * PIXEL_COLUMNS // (end + 1)
         if kept.latency(at) > kept.latency(found.setdefault(column, at)):
             found[column] = at
     return found.values()
 
 
-def dot_of(one: Exchange, begun: int) -> Dot:
+def dot_of(one: KeptExchange, begun: int) -> Dot:
     """Returns the dot of a call, of which its call, its answer and where it is are said."""
     call, answer = (words if len(words) <= WORDS_AT_MOST else f'{words[:WORDS_AT_MOST]}..'
-                    for words in (' '.join(call_of(one).split()), one.answer))
+                    for words in (' '.join(call_text(one).split()), one.answer))
     latency = 'no latency' if one.latency is None else f'{milliseconds(one.latency)} ms'
     where = f'connection {one.part.number} client record {one.record}, frame {one.frame}'
     return Dot(one.time - begun, one.latency, one.is_error, f'{call}: {answer}; {where}, {latency}')

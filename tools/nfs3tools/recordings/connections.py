@@ -4,9 +4,9 @@ from __future__ import annotations
 from collections import deque
 from collections.abc import Callable, Iterator, Sequence
 
-from .segments import ACK, FIN, RST, SYN, Segment, ends_of, turned
+from .segments import ACK, FIN, RST, SYN, Segment, ends_of, reversed_key
 from .spool import Frames, Spool
-from .streams import HELD_BY_ALL, NUMBERS, Budget, Stream
+from .streams import HELD_BY_ALL, SEQUENCE_SPACE, Budget, Stream
 
 STRAYS_AT_MOST = 10  # frames of a connection that are reported
 
@@ -83,10 +83,10 @@ class Connection:
     def is_other(self, side: int, segment: Segment) -> bool:
         """Whether a segment with SYN begins another connection of the same ends."""
         own, other = self.streams[side], self.streams[1 - side]
-        first = (segment.sequence + 1) % NUMBERS
+        first = (segment.sequence + 1) % SEQUENCE_SPACE
         if own.first is None:
             answers = not segment.flags & ACK or not other.is_begin or (
-                (segment.acknowledged - (other.first or 0)) % NUMBERS <= other.next)
+                (segment.acknowledged - (other.first or 0)) % SEQUENCE_SPACE <= other.next)
             return self.is_judged or self.is_stray or not answers
         if own.first == first:
             return bool(own.opened_by) and self.is_closed and not segment.flags & ACK
@@ -96,13 +96,13 @@ class Connection:
         """How far the numbers of a segment are from those that are expected of its end and of the
         other, if these are known."""
         own, other = self.streams[side].expected, self.streams[1 - side].expected
-        return (None if own is None else apart(segment.sequence, own),
+        return (None if own is None else distance(segment.sequence, own),
                 None if other is None or not segment.flags & ACK
-                else apart(segment.acknowledged, other))
+                else distance(segment.acknowledged, other))
 
     def repeats_syn(self, side: int, segment: Segment) -> bool:
         """Whether SYN has the number before the first byte of its end."""
-        return self.streams[side].first == (segment.sequence + 1) % NUMBERS
+        return self.streams[side].first == (segment.sequence + 1) % SEQUENCE_SPACE
 
     def take(self, side: int, segment: Segment, number: int, time: int) -> None:
         _, sequence, acknowledged, flags, payload, missing, differing = segment
@@ -171,13 +171,13 @@ class Connection:
         self.after += own.new_in(position, segment.payload)
         self.after += max(0, position + size - max(own.next, position + len(segment.payload)))
         own.next = max(own.next, position + size)
-        own.expected = (own.first + own.next) % NUMBERS
+        own.expected = (own.first + own.next) % SEQUENCE_SPACE
 
 
-def apart(first: int, second: int) -> int:
+def distance(first: int, second: int) -> int:
     """How far two sequence numbers are apart, which wrap."""
-    ahead = (first - second) % NUMBERS
-    return min(ahead, NUMBERS - ahead)
+    ahead = (first - second) % SEQUENCE_SPACE
+    return min(ahead, SEQUENCE_SPACE - ahead)
 
 
 class Connections:
@@ -215,7 +215,7 @@ class Connections:
 
     def answered(self, key: bytes) -> Connection | None:
         """Returns the connection of which this is the first segment of the other direction."""
-        found = self.newest.get(turned(key))
+        found = self.newest.get(reversed_key(key))
         if found is not None:
             self.newest[key] = found
         return found
@@ -250,14 +250,14 @@ class Connections:
             connection.older = older if is_kept else older.older
             older.older = None if is_kept else older.older
         self.count += 1
-        self.newest.pop(turned(key), None)
+        self.newest.pop(reversed_key(key), None)
         self.newest[key] = connection
         return connection
 
     def forget(self, connection: Connection) -> None:
         """Segments of the same ends are those of another connection from now on."""
         self.all.pop(connection.number, None)
-        for key in (connection.key, turned(connection.key)):
+        for key in (connection.key, reversed_key(connection.key)):
             newest = self.newest.get(key)
             if newest is connection:
                 del self.newest[key]
@@ -285,7 +285,7 @@ def is_of_stray(connection: Connection) -> bool:
     if not connection.is_stray or connection.first_payload is not None or older is None:
         return False
     older.note_stray(f'frame {connection.begun_by}: a SYN that fits no connection')
-    for key, stream in zip((connection.key, turned(connection.key)), connection.streams):
+    for key, stream in zip((connection.key, reversed_key(connection.key)), connection.streams):
         shown = older.streams[older.side_of(key)]
         if stream.far is not None or stream.gap_at_end():
             shown.far, shown.far_by = shown.next, stream.far_by or stream.known_by

@@ -26,7 +26,7 @@ class Streamed(typing.Protocol):
         """Iterates over all bytes in order, in blocks of 65,536 and a last one."""
 
 
-Pair = tuple[Streamed, Streamed]
+StreamPair = tuple[Streamed, Streamed]
 # Of the client and of the server; None is not stored
 Streams = tuple[typing.Optional[Stored], typing.Optional[Stored]]
 
@@ -105,7 +105,7 @@ class Container:
 
 # --- Writing ---
 
-def capture_of(connections: typing.Iterable[Pair]) -> typing.Iterator[bytes]:
+def capture_of(connections: typing.Iterable[StreamPair]) -> typing.Iterator[bytes]:
     """Iterates over the bytes of a capture of version 1, in which each chunk has 65,536 bytes but
     the last of a stream."""
     yield MAGICS[0]
@@ -118,7 +118,7 @@ def capture_of(connections: typing.Iterable[Pair]) -> typing.Iterator[bytes]:
     yield word(0)
 
 
-def place_in(connections: typing.Iterable[Pair], byte: int) -> tuple[int, int, int] | None:
+def place_in(connections: typing.Iterable[StreamPair], byte: int) -> tuple[int, int, int] | None:
     """Where a byte of that capture comes from: the connection's index, 0 for the client's stream or
     1, and the byte of the stream. None for a byte of the magic, a word, or after the end."""
     at = len(MAGICS[0])

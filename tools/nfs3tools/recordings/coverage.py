@@ -25,13 +25,13 @@ from .records import Window, body_of, extents
 Word = typing.Literal['judged', 'in part', 'left out', 'not checked']
 NFS_PORTS = frozenset({2049, 20048})  # NFS, and MOUNT as Linux has it
 PORT_MAPPER = 111
-HEAD = struct.Struct('>5I')  # mtype, rpcvers, program, version, procedure
-HEAD_AT, HEAD_END = 4, 4 + HEAD.size  # after the xid
+HEAD_WORDS = struct.Struct('>5I')  # mtype, rpcvers, program, version, procedure
+HEAD_AT, HEAD_END = 4, 4 + HEAD_WORDS.size  # after the xid
 
 # The procedures of other programs by their numbers, for what is printed.
 PORTMAP, NLM, NFSACL = 100000, 100021, 100227
-PROGRAMS = {NFS: 'NFS', MOUNT: 'MOUNT', PORTMAP: 'PORTMAP', NLM: 'NLM', NFSACL: 'NFSACL',
-            100011: 'RQUOTA', 100024: 'NSM'}
+RPC_PROGRAMS = {NFS: 'NFS', MOUNT: 'MOUNT', PORTMAP: 'PORTMAP', NLM: 'NLM', NFSACL: 'NFSACL',
+                100011: 'RQUOTA', 100024: 'NSM'}
 RPCBIND = ('NULL', 'SET', 'UNSET', 'GETADDR', 'DUMP', 'BCAST', 'GETTIME', 'UADDR2TADDR',
            'TADDR2UADDR', 'GETVERSADDR', 'INDIRECT',
            'GETADDRLIST', 'GETSTAT')
@@ -63,8 +63,8 @@ class Called(typing.NamedTuple):
 
     def __add__(self, other: 'Called') -> 'Called':  # type: ignore[override]
         return Called(self.calls + other.calls, self.typed + other.typed,
-                      together(self.unchecked, other.unchecked),
-                      together(self.raw, other.raw))
+                      summed(self.unchecked, other.unchecked),
+                      summed(self.raw, other.raw))
 
 
 class Covered(typing.NamedTuple):
@@ -126,13 +126,13 @@ class Counts(typing.NamedTuple):
         numbers = {name: getattr(self, name) + getattr(other, name) for name in self._fields
                    if name not in ('raw', 'unanswered')}
         known = [one.unanswered for one in (self, other) if one.unanswered is not None]
-        return Counts(**numbers, raw=together(self.raw, other.raw),
+        return Counts(**numbers, raw=summed(self.raw, other.raw),
                       unanswered=sum(known) if known else None)
 
     def words(self) -> str:
         """The sum as all tools print it."""
         bare = f' ({self.without_calls} without a call)' if self.without_calls else ''
-        raw = f'; {named(self.raw)} raw' if self.raw else ''
+        raw = f'; {named_calls(self.raw)} raw' if self.raw else ''
         calls = 'call' if self.unanswered == 1 else 'calls'
         silent = f'; {self.unanswered:,} {calls} without a reply' if self.unanswered else ''
         return (f'{self.judged} judged ({self.ok} ok, {self.refused} refused), '
@@ -152,13 +152,13 @@ class Counts(typing.NamedTuple):
         return {**self.numbers(), 'raw': dict(self.raw)}
 
 
-Counted = typing.Union[Word, typing.Literal['ok', 'refused', 'error', 'note']]
+CountedWord = typing.Union[Word, typing.Literal['ok', 'refused', 'error', 'note']]
 
 
-def counts_of(several: Iterable[tuple[Counted, bool, Mapping[str, int]]]) -> Counts:
+def counts_of(several: Iterable[tuple[CountedWord, bool, Mapping[str, int]]]) -> Counts:
     """Returns the sum of several, each its word (`ok` or `refused` in place of `judged`), whether
     calls may be in it, and the calls of other programs."""
-    words, bare, raw = collections.Counter[Counted](), 0, collections.Counter[str]()
+    words, bare, raw = collections.Counter[CountedWord](), 0, collections.Counter[str]()
     for word, shows_calls, calls in several:
         words[word] += 1
         bare += not shows_calls
@@ -168,11 +168,11 @@ def counts_of(several: Iterable[tuple[Counted, bool, Mapping[str, int]]]) -> Cou
                   words['error'], bare, raw)
 
 
-def together(first: Mapping[str, int], second: Mapping[str, int]) -> Mapping[str, int]:
+def summed(first: Mapping[str, int], second: Mapping[str, int]) -> Mapping[str, int]:
     return collections.Counter(first) + collections.Counter(second)
 
 
-def named(calls: Mapping[str, int]) -> str:
+def named_calls(calls: Mapping[str, int]) -> str:
     """Calls by name, the most frequent first."""
     return ', '.join(f'{number:,} {name}'
                      for name, number in sorted(calls.items(), key=lambda one: (-one[1], one[0])))
@@ -192,8 +192,8 @@ def called_in(stream: Sized) -> Called:
     """Counts the calls in a stream of records. It reads the heads of their messages and nothing
     more."""
     heads = heads_in(stream)
-    calls = {HEAD.unpack(head)[2:]: number for head, number in heads.items()
-             if len(head) == HEAD.size and HEAD.unpack(head)[:2] == (0, 2)}
+    calls = {HEAD_WORDS.unpack(head)[2:]: number for head, number in heads.items()
+             if len(head) == HEAD_WORDS.size and HEAD_WORDS.unpack(head)[:2] == (0, 2)}
     typed, unchecked, raw = 0, collections.Counter[str](), collections.Counter[str]()
     for (program, version, procedure), number in calls.items():
         if procedure_of(program, version, procedure) is not RAW:
@@ -220,8 +220,8 @@ def heads_in(stream: Sized) -> collections.Counter[bytes]:
 
 def version_named(program: int, version: int, procedure: int) -> str:
     """The name of a call of NFS or MOUNT that has no type."""
-    return f'{PROGRAMS[program]} version {version}' + (f' procedure {procedure}' if version == 3
-                                                       else '')
+    return f'{RPC_PROGRAMS[program]} version {version}' + (f' procedure {procedure}' if version == 3
+                                                           else '')
 
 
 def call_named(program: int, version: int, procedure: int) -> str:
@@ -229,7 +229,7 @@ def call_named(program: int, version: int, procedure: int) -> str:
     procedures = PROCEDURES.get((program, version), ())
     there = (procedures[procedure] if procedure < len(procedures)
              else f'version {version} procedure {procedure}')
-    return f'{PROGRAMS.get(program, f"program {program}")} {there}'
+    return f'{RPC_PROGRAMS.get(program, f"program {program}")} {there}'
 
 
 # --- Connections ---
@@ -249,11 +249,11 @@ def of_connection(called: Called, server_port: int | None, ports: frozenset[int]
 def not_checked(called: Called, is_of_nfs: bool) -> str:
     """Why a connection is not checked; '' if it is."""
     if called.unchecked:
-        what = (named(called.unchecked) if len(called.unchecked) > 1
+        what = (named_calls(called.unchecked) if len(called.unchecked) > 1
                 else next(iter(called.unchecked)))
         return f'{sum(called.unchecked.values()):,} of {called.calls:,} calls ({what})'
     if is_of_nfs and not called.typed:
-        return 'no call of NFS or MOUNT version 3' + (f' ({named(called.raw)})' if called.raw
+        return 'no call of NFS or MOUNT version 3' + (f' ({named_calls(called.raw)})' if called.raw
                                                       else '')
     return ''
 

@@ -12,12 +12,12 @@ from collections.abc import Iterable, Iterator, Sequence
 from ..shared.kinds import PCAP
 from ..shared.outputs import Refused
 from .frames import NANOSECONDS, Frame, Recording, Source, opened
-from .parts import files_of, in_order
+from .parts import files_of, parts_in_order
 from .segments import Segments
 
 SNAP_LENGTH = 1 << 18  # of tcpdump
 MICROSECOND = 1_000
-MAGICS = {scale: magic for magic, (order, scale) in PCAP.items() if order == '<'}
+PCAP_MAGICS = {scale: magic for magic, (order, scale) in PCAP.items() if order == '<'}
 
 
 def frames_of(path: str, numbers: Iterable[int]) -> list[Frame]:
@@ -27,18 +27,18 @@ def frames_of(path: str, numbers: Iterable[int]) -> list[Frame]:
     Raises `OSError` if a file cannot be read.
     """
     wanted = set(numbers)
-    frames = [frame for frame in numbered(path) if frame.number in wanted]
+    frames = [frame for frame in numbered_frames(path) if frame.number in wanted]
     if all(Segments().segment(frame) is not None for frame in frames):
         return frames
     wanted |= fragments_before(path, wanted)
-    return [frame for frame in numbered(path) if frame.number in wanted]
+    return [frame for frame in numbered_frames(path) if frame.number in wanted]
 
 
-def numbered(path: str) -> Iterator[Frame]:
+def numbered_frames(path: str) -> Iterator[Frame]:
     """Iterates over all frames of a recording that was taken before, with their numbers through all
     its parts."""
     before = 0
-    for file in in_order(files_of(path)):
+    for file in parts_in_order(files_of(path)):
         with opened(file) as content:
             recording = Recording(Source(content))
             for frame in recording.frames():
@@ -48,8 +48,9 @@ def numbered(path: str) -> Iterator[Frame]:
 
 def fragments_before(path: str, wanted: set[int]) -> set[int]:
     """Returns the frames with the other fragments of the datagrams that these frames completed."""
-    segments, pieces, found = Named(), collections.defaultdict[bytes, list[int]](list), set[int]()
-    for frame in numbered(path):
+    segments, found = NamedSegments(), set[int]()
+    pieces = collections.defaultdict[bytes, list[int]](list)
+    for frame in numbered_frames(path):
         segments.name = b''
         is_whole = segments.segment(frame) is not None
         if segments.name:
@@ -59,7 +60,7 @@ def fragments_before(path: str, wanted: set[int]) -> set[int]:
     return found
 
 
-class Named(Segments):
+class NamedSegments(Segments):
     """Notes the name of the datagram of which the last frame had a fragment."""
     name = b''
 
@@ -82,7 +83,8 @@ def pcap_of(frames: Sequence[Frame]) -> Iterator[bytes]:
         raise Refused('a frame has a time that a pcap cannot have')
     unit = 1 if any(frame.time % MICROSECOND for frame in frames) else MICROSECOND
     longest = max([SNAP_LENGTH, *(len(frame.data) for frame in frames)])
-    yield MAGICS[unit] + struct.pack('<HHiIII', 2, 4, 0, 0, longest, links.pop() if links else 1)
+    yield PCAP_MAGICS[unit] + struct.pack('<HHiIII', 2, 4, 0, 0, longest,
+                                          links.pop() if links else 1)
     for frame in frames:
         seconds, rest = divmod(frame.time, NANOSECONDS)
         yield struct.pack('<4I', seconds, rest // unit, len(frame.data), frame.length) + frame.data

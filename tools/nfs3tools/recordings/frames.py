@@ -9,9 +9,10 @@ import typing
 from ..shared.kinds import LONGEST_MAGIC, PACKED_BY, PCAP, SECTION
 from .unpacking import READ_AT_ONCE, CutShort, Damaged, Piped, Readable, position_of, unpacked
 
-LONGEST = 1 << 24  # bytes of a frame or block; a greater length is damage, and is never allocated
+# Bytes of a frame or block; a greater length is damage, and is never allocated
+LONGEST_BLOCK = 1 << 24
 NANOSECONDS = 1_000_000_000
-ENDS_INSIDE = 'the recording ends inside a frame'
+ENDS_INSIDE_FRAME = 'the recording ends inside a frame'
 
 SECTION_HEADER, INTERFACE, OBSOLETE_PACKET, SIMPLE_PACKET, ENHANCED_PACKET = 0x0a0d0d0a, 1, 2, 3, 6
 TIME_UNIT, TIME_OFFSET = 9, 14  # options of an interface: if_tsresol, if_tsoffset
@@ -129,7 +130,7 @@ class Recording:
         try:
             yield from self.of_pcap() if self.magic[:4] in PCAP else self.of_pcapng()
         except CutShort as cut:
-            self.cut = f'{ENDS_INSIDE} (frame {self.count + 1}): {cut}'
+            self.cut = f'{ENDS_INSIDE_FRAME} (frame {self.count + 1}): {cut}'
         except Damaged as damaged:
             self.damage = f'the recording is damaged after frame {self.count}: {damaged}'
 
@@ -137,7 +138,7 @@ class Recording:
         """Takes exactly so many bytes, or notes that the recording is cut short."""
         piece = self.source.take(size)
         if len(piece) < size:
-            self.cut = f'{ENDS_INSIDE} (frame {self.count + 1})'
+            self.cut = f'{ENDS_INSIDE_FRAME} (frame {self.count + 1})'
             return None
         return piece
 
@@ -157,7 +158,7 @@ class Recording:
             if head is None:
                 return
             seconds, fraction, kept, length = fields.unpack(head)
-            if kept > LONGEST:
+            if kept > LONGEST_BLOCK:
                 raise Damaged(f'frame {self.count + 1} claims {kept} bytes')
             data = self.piece(kept)
             if data is None:
@@ -206,7 +207,8 @@ class Recording:
         if len(head) < 12:
             return self.piece(12)
         kind, size = struct.unpack_from(order + '2I', head)
-        if size % 4 or size < (28 if kind == SECTION_HEADER else 12) or size > LONGEST + 4_096:
+        least = 28 if kind == SECTION_HEADER else 12
+        if size % 4 or not least <= size <= LONGEST_BLOCK + 4_096:
             raise Damaged(f'a block claims {size} bytes, at byte {self.source.at}')
         block = self.piece(size)
         if block and struct.unpack_from(order + 'I', block, size - 4)[0] != size:
@@ -230,14 +232,14 @@ def order_of(head: bytes) -> str:
     return orders.get(head[8:], '<')
 
 
-def fields_of(order: str, layout: str, body: bytes) -> tuple[int, ...]:
+def block_numbers(order: str, layout: str, body: bytes) -> tuple[int, ...]:
     if len(body) < struct.calcsize(order + layout):
         raise Damaged('a block is too short')
     return struct.unpack_from(order + layout, body)
 
 
 def interface_of(order: str, body: bytes) -> Interface:
-    link, _, kept = fields_of(order, 'HHI', body)
+    link, _, kept = block_numbers(order, 'HHI', body)
     units, offset, at = 1_000_000, 0, 8
     while at + 4 <= len(body):
         code, size = struct.unpack_from(order + 'HH', body, at)
@@ -265,13 +267,13 @@ def packet(number: int, time: int, link: int, content: bytes, kept: int, length:
 
 
 def enhanced(order: str, body: bytes, interfaces: list[Interface], number: int) -> Frame:
-    index, high, low, kept, length = fields_of(order, '5I', body)
+    index, high, low, kept, length = block_numbers(order, '5I', body)
     interface = interface_at(interfaces, index)
     return packet(number, interface.time(high, low), interface.link, body[20:], kept, length)
 
 
 def obsolete(order: str, body: bytes, interfaces: list[Interface], number: int) -> Frame:
-    index, _, high, low, kept, length = fields_of(order, 'HH4I', body)
+    index, _, high, low, kept, length = block_numbers(order, 'HH4I', body)
     interface = interface_at(interfaces, index)
     return packet(number, interface.time(high, low), interface.link, body[20:], kept, length)
 
@@ -279,7 +281,7 @@ def obsolete(order: str, body: bytes, interfaces: list[Interface], number: int) 
 def simple(order: str, body: bytes, interfaces: list[Interface], number: int) -> Frame:
     """A frame of the first interface, without a time. What was kept of it is not said but by the
     interface."""
-    length, = fields_of(order, 'I', body)
+    length, = block_numbers(order, 'I', body)
     interface = interface_at(interfaces, 0)
     kept = min(length, interface.kept or length, len(body) - 4)
     return packet(number, 0, interface.link, body[4:], kept, length)

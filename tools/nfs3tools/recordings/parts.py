@@ -58,7 +58,7 @@ def may_be_recording(path: str) -> bool:
     return True
 
 
-def in_order(files: list[str]) -> list[str]:
+def parts_in_order(files: list[str]) -> list[str]:
     """Returns parts in the order of the times of their first frames, and of their numbers if these
     are equal.
 

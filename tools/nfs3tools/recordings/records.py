@@ -10,14 +10,15 @@ import typing
 from ..shared.places import Side
 
 LONGEST_BODY = 1 << 24
-READ_AT_ONCE = 1 << 16
+FETCHED_AT_ONCE = 1 << 16
 LAST_FRAGMENT = 1 << 31  # RFC 5531, section 11
 SEARCHED_AT_ONCE = 1 << 20
 MARKS_AT_MOST = 1_000_000  # that are read in search of the first record of a run
 REMEMBERED_AT_MOST = 300_000  # places from which records do not reach the end
 ENOUGH_RECORDS = 3  # that a place needs if the records from it do not reach the end of the run
 
-FLAVORS = {0, 1, 2, 3, 6, 7}  # AUTH_NONE, AUTH_SYS, AUTH_SHORT, AUTH_DH, RPCSEC_GSS, AUTH_TLS
+# AUTH_NONE, AUTH_SYS, AUTH_SHORT, AUTH_DH, RPCSEC_GSS, AUTH_TLS
+FLAVOR_NUMBERS = {0, 1, 2, 3, 6, 7}
 LONGEST_AUTH = 400
 HEAD_OF_CALL, HEAD_OF_REPLY = 40, 20  # bytes of the shortest call and reply
 LONGEST_HEAD = 28 + LONGEST_AUTH  # bytes up to the accept_stat of a reply, with the mark
@@ -29,10 +30,10 @@ FLAVOR = rb'\0\0\0[\0-\x03\x06\x07]\0\0[\0\x01].'
 CALL = re.compile(rb'\0\0\0\0\0\0\0\x02....\0\0\0.\0\0..' + FLAVOR, re.DOTALL)
 REPLY = re.compile(rb'\0\0\0\x01\0\0\0(?:\0' + FLAVOR + rb'|\x01\0\0\0[\0\x01])', re.DOTALL)
 BEFORE_PATTERN = 8  # bytes: the mark and the xid
-MARK = struct.Struct('>I')
+RECORD_MARK = struct.Struct('>I')
 
 
-class Bytes(typing.Protocol):
+class ReadableBytes(typing.Protocol):
     """Bytes that can be read from anywhere."""
 
     def read(self, begin: int, size: int) -> bytes:
@@ -42,14 +43,14 @@ class Bytes(typing.Protocol):
 class Window:
     """Reads small pieces of bytes, which are fetched in large ones."""
 
-    def __init__(self, stored: Bytes) -> None:
+    def __init__(self, stored: ReadableBytes) -> None:
         self.stored, self.block, self.begin = stored, b'', 0
 
     def read(self, at: int, size: int) -> bytes:
         """Returns the bytes from `at` on: `size` of them, or fewer at the end."""
         offset = at - self.begin
         if offset < 0 or offset + size > len(self.block):
-            self.block, self.begin, offset = self.stored.read(at, max(READ_AT_ONCE, size)), at, 0
+            self.block, self.begin, offset = self.stored.read(at, max(FETCHED_AT_ONCE, size)), at, 0
         return self.block[offset:offset + size]
 
     def word(self, at: int) -> int:
@@ -95,7 +96,7 @@ def extents(window: Window, begin: int, end: int) -> typing.Iterator[Extent]:
 def plain_extents(window: Window, begin: int, end: int) -> typing.Iterator[Extent]:
     """The same of records that are whole and of one fragment, as most are, and whose marks are in
     the block that was fetched last. This is where the time goes."""
-    block, unpack, make = window.block, MARK.unpack_from, Extent._make
+    block, unpack, make = window.block, RECORD_MARK.unpack_from, Extent._make
     shift, last = window.begin, window.begin + len(block) - 4
     while shift <= begin <= last:
         size = unpack(block, begin - shift)[0] - 0x80000000
@@ -123,16 +124,16 @@ def has_head(head: bytes, side: Side) -> bool:
         mtype, rpcvers, _, version, procedure, flavor, size = struct.unpack_from(
             '>7I', head.ljust(36, b'\xff'), 8)
         return ((mtype, rpcvers) == (0, 2) and version < 256 and procedure < 65_536
-                and flavor in FLAVORS and size <= LONGEST_AUTH)
+                and flavor in FLAVOR_NUMBERS and size <= LONGEST_AUTH)
     mtype, status, flavor, size = struct.unpack_from('>4I', head, 8)
     if (mtype, status) == (1, 1):
         return bool(flavor <= 1)
     at = 24 + size + -size % 4
-    return ((mtype, status) == (1, 0) and flavor in FLAVORS and size <= LONGEST_AUTH
+    return ((mtype, status) == (1, 0) and flavor in FLAVOR_NUMBERS and size <= LONGEST_AUTH
             and int.from_bytes(head[at:at + 4], 'big') <= 5)
 
 
-class Walk(typing.NamedTuple):
+class RecordChain(typing.NamedTuple):
     """The records that follow one another from a place: how many are whole, whether they reach the
     end of the run, and whether the first has one fragment."""
     begin: int
@@ -155,7 +156,7 @@ class Search:
     the program to judge.
     """
 
-    def __init__(self, stored: Bytes, side: Side, begin: int, end: int) -> None:
+    def __init__(self, stored: ReadableBytes, side: Side, begin: int, end: int) -> None:
         self.window, self.side, self.begin, self.end = Window(stored), side, begin, end
         self.marks = 0
         self.failed: set[int] = set()  # places from which records do not reach the end
@@ -167,7 +168,7 @@ class Search:
         If there is no place that counts, it is that with the most records, of three or more: then
         the run has a fault.
         """
-        best = Walk(self.end, 0, False, False)
+        best = RecordChain(self.end, 0, False, False)
         for begin in self.places():
             best = max(best, self.walk(begin), key=lambda walk: walk.rank)
             if best.reaches_end and best.is_single or self.marks > MARKS_AT_MOST:
@@ -186,7 +187,7 @@ class Search:
                 found = pattern.search(block, found.start() + 1)
             at += SEARCHED_AT_ONCE
 
-    def walk(self, begin: int) -> Walk:
+    def walk(self, begin: int) -> RecordChain:
         """Follows the records from a place on."""
         at, records, is_doubted, is_single, passed = begin, 0, False, False, array.array('Q')
         shortest = HEAD_OF_CALL if self.side == 'client' else HEAD_OF_REPLY
@@ -203,7 +204,7 @@ class Search:
         reaches_end = at >= self.end and records > 0
         if not reaches_end and len(self.failed) < REMEMBERED_AT_MOST:
             self.failed.update(passed[:REMEMBERED_AT_MOST])
-        return Walk(begin, records, reaches_end, is_single)
+        return RecordChain(begin, records, reaches_end, is_single)
 
     def is_hopeless(self, at: int) -> bool:
         """Whether a record of several fragments without a head begins there; its fragments need not

@@ -34,8 +34,8 @@ LONGEST_NAME_4 = 11  # bytes that name a datagram of IPv4: identification, proto
 
 # The names of what is no segment of TCP, by the kind of Ethernet, by the protocol of IP and by the
 # port of UDP. What may have segments in it has a star.
-KINDS = {0x0806: 'ARP', 0x88cc: 'LLDP', DISCOVERY: 'PPPoE', PPPOE: 'PPPoE*', 0x8847: 'MPLS*',
-         0x8848: 'MPLS*', 0x88e5: 'MACsec*', 0x88be: 'ERSPAN*', 0x22eb: 'ERSPAN*'}
+ETHERTYPES = {0x0806: 'ARP', 0x88cc: 'LLDP', DISCOVERY: 'PPPoE', PPPOE: 'PPPoE*', 0x8847: 'MPLS*',
+              0x8848: 'MPLS*', 0x88e5: 'MACsec*', 0x88be: 'ERSPAN*', 0x22eb: 'ERSPAN*'}
 PROTOCOLS = {1: 'ICMP', 2: 'IGMP', 58: 'ICMP', IP_IN_IP: 'IP in IP*', UDP: 'UDP',
              IPV6_IN_IP: 'IP in IP*', GRE: 'GRE*', 50: 'ESP*',
              AUTHENTICATION: 'AH*', 97: 'EtherIP*', 108: 'IPComp*', 115: 'L2TP*', 132: 'SCTP',
@@ -82,7 +82,7 @@ class Segment(typing.NamedTuple):
                 or int.from_bytes(self.key[-2:], 'big') in ports)
 
 
-def turned(key: bytes) -> bytes:
+def reversed_key(key: bytes) -> bytes:
     """The key of the segments of the other direction."""
     size = len(key) // 2 - 2
     return key[size:2 * size] + key[:size] + key[-2:] + key[-4:-2]
@@ -409,7 +409,7 @@ def kind_named(kind: int) -> str:
     """The name of what a link layer or a tunnel carries, if that is neither IPv4 nor IPv6."""
     if kind in (ANY_IP, IPV4, IPV6):
         return 'an unknown version of IP*'
-    return KINDS.get(kind, f'the kind 0x{kind:04x}' if kind >= FIRST_KIND else 'IEEE 802.3')
+    return ETHERTYPES.get(kind, f'the kind 0x{kind:04x}' if kind >= FIRST_KIND else 'IEEE 802.3')
 
 
 def is_snap(kind: int, data: bytes, at: int) -> bool:

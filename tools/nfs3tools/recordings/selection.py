@@ -11,9 +11,9 @@ from .records import Search, Window, end_of_whole, xids
 from .streams import Gap, Stream
 
 SERVER_PORTS = {'2049', '20048', '111'}  # NFS, MOUNT as Linux has it, and the port mapper
-REPLY = 1  # mtype
+MTYPE_OF_REPLY = 1  # mtype
 BEGUN_BEFORE = 'its beginning is not in the recording'
-ENDS_INSIDE = 'the recording ends inside a record'
+ENDS_INSIDE_RECORD = 'the recording ends inside a record'
 RESET_INSIDE = 'the other end reset it inside a record'
 
 
@@ -28,7 +28,7 @@ class Options(typing.NamedTuple):
 
 
 @dataclasses.dataclass
-class Kept:
+class KeptRanges:
     """The ranges of a stream's stored bytes that are kept, whether any of its bytes are not, how
     many the recording lacks, what is said of it, and why it is in part, other than for bytes that
     the recording lacks."""
@@ -48,7 +48,7 @@ class Selected(typing.NamedTuple):
     both streams."""
     client: int
     why: str
-    kept: tuple[Kept, Kept]
+    kept: tuple[KeptRanges, KeptRanges]
 
     @property
     def missing(self) -> int:
@@ -65,17 +65,17 @@ class Selected(typing.NamedTuple):
         return [note for kept in self.kept for note in kept.notes]
 
 
-class Part(typing.NamedTuple):
+class StoredRun(typing.NamedTuple):
     """A run of stored bytes, and the gap after it."""
     begin: int
     end: int
     gap_after: Gap | None
 
 
-def parts_of(stream: Stream) -> list[Part]:
+def stored_runs(stream: Stream) -> list[StoredRun]:
     ends = [run.begin for run in stream.runs[1:]] + [stream.stored.size]
     gaps = [run.gap for run in stream.runs[1:]] + [stream.gap_at_end()]
-    return [Part(run.begin, end, gap) for run, end, gap in zip(stream.runs, ends, gaps)]
+    return [StoredRun(run.begin, end, gap) for run, end, gap in zip(stream.runs, ends, gaps)]
 
 
 def gaps_of(stream: Stream) -> list[Gap]:
@@ -104,7 +104,7 @@ def select(connection: Connection, known: typing.Iterable[int] = (),
     return Selected(client, why, (calls, replies))
 
 
-def add_uncertain(stream: Stream, kept: Kept, side: Side) -> None:
+def add_uncertain(stream: Stream, kept: KeptRanges, side: Side) -> None:
     """Adds what is said of bytes that are recorded and not taken, and of others that may be
     missing."""
     if stream.conflicts:
@@ -130,7 +130,7 @@ def cut_by(connection: Connection, end: int) -> str:
     reset the connection."""
     if connection.streams[end].end is not None or connection.is_reset_by(end):
         return ''
-    return RESET_INSIDE if connection.is_reset_by(1 - end) else ENDS_INSIDE
+    return RESET_INSIDE if connection.is_reset_by(1 - end) else ENDS_INSIDE_RECORD
 
 
 def client_of(connection: Connection) -> tuple[int, str]:
@@ -160,13 +160,13 @@ def is_of_rpc(connection: Connection, ports: frozenset[int]) -> bool:
 def has_calls(stream: Stream) -> bool:
     """Whether calls follow one another in a run of the stream."""
     return any(Search(stream.stored, 'client', part.begin, part.end).first() is not None
-               for part in parts_of(stream))
+               for part in stored_runs(stream))
 
 
-def keep_records(stream: Stream, side: Side, cut: str) -> Kept:
+def keep_records(stream: Stream, side: Side, cut: str) -> KeptRanges:
     """Keeps of each run of a stream what follows from the first record on. `cut` is why a record at
     its end that is cut is none of its sender's fault."""
-    kept, gaps, parts = Kept(missing=missing_of(stream)), gaps_of(stream), parts_of(stream)
+    kept, gaps, parts = KeptRanges(missing=missing_of(stream)), gaps_of(stream), stored_runs(stream)
     kept.lacks, left_out = bool(gaps) or stream.lacks or not stream.is_begin, 0
     if stream.stored.size and not stream.is_begin:
         kept.reasons.append(BEGUN_BEFORE)
@@ -193,7 +193,8 @@ def keep_records(stream: Stream, side: Side, cut: str) -> Kept:
     return kept
 
 
-def keep_up_to_whole(stream: Stream, part: Part, side: Side, kept: Kept, cut: str) -> int:
+def keep_up_to_whole(stream: Stream, part: StoredRun, side: Side, kept: KeptRanges,
+                     cut: str) -> int:
     """Keeps a run, up to the end of its last whole record if bytes are missing after it, or if
     `cut` says why it is cut. Returns how many bytes that leaves out."""
     is_whole = part.gap_after or cut
@@ -210,7 +211,7 @@ def keep_up_to_whole(stream: Stream, part: Part, side: Side, kept: Kept, cut: st
     return dropped
 
 
-def leave_out_replies(streams: tuple[Stream, Stream], calls: Kept, replies: Kept,
+def leave_out_replies(streams: tuple[Stream, Stream], calls: KeptRanges, replies: KeptRanges,
                       before: typing.Iterable[int]) -> None:
     """Leaves out the replies whose calls are not kept and were not kept before."""
     window = Window(streams[0].stored)
@@ -234,7 +235,7 @@ def with_calls(window: Window, begin: int, end: int,
     are."""
     ranges, left_out = list[tuple[int, int]](), 0
     for extent, xid, mtype in xids(window, begin, end):
-        if mtype == REPLY and xid not in known and not extent.is_too_long:
+        if mtype == MTYPE_OF_REPLY and xid not in known and not extent.is_too_long:
             left_out += 1
         elif ranges and ranges[-1][1] == extent.begin:
             ranges[-1] = ranges[-1][0], extent.end
@@ -253,13 +254,13 @@ def count(number: int, one: str) -> str:
     return f'{number:,} {plural(number, one, one + "s")}'
 
 
-def told_of(gap: Gap) -> str:
+def gap_text(gap: Gap) -> str:
     return (f'{count(gap.size, "byte")} {plural(gap.size, "is", "are")} missing from the '
             f'recording after the first {gap.position:,}, before frame {gap.frame}')
 
 
 def told_of_all(gaps: list[Gap]) -> str:
     if len(gaps) == 1:
-        return told_of(gaps[0])
-    return (f'{told_of(gaps[0])}, and {sum(gap.size for gap in gaps[1:]):,} more '
+        return gap_text(gaps[0])
+    return (f'{gap_text(gaps[0])}, and {sum(gap.size for gap in gaps[1:]):,} more '
             f'in {count(len(gaps) - 1, "place")}')

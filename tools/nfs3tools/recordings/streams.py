@@ -14,9 +14,9 @@ HELD_BY_ALL = 64 << 20  # the same of all streams together
 LIKELY_AT_MOST = 64 << 20
 IN_FLIGHT_AT_MOST = 1 << 30  # bytes that were sent and not acknowledged (RFC 7323, section 2.3)
 # Bytes before those that are forgotten, with which others that come again are compared
-COMPARED_AT_MOST = 4 << 20
+KEPT_TO_COMPARE = 4 << 20
 TAIL = 4 << 10  # bytes of a connection that was judged, for the same
-NUMBERS = 1 << 32  # of sequence
+SEQUENCE_SPACE = 1 << 32  # of sequence
 
 
 class Budget:
@@ -34,7 +34,7 @@ class Gap(typing.NamedTuple):
     frame: int
 
 
-class Run(typing.NamedTuple):
+class Stretch(typing.NamedTuple):
     """Bytes without a gap, up to the next run: where they begin among the stored bytes, the gap
     before them, and their position."""
     begin: int
@@ -70,7 +70,7 @@ class Stream:
         self.expected: int | None = None  # its sequence number
         self.acknowledged: int | None = None  # the sequence number that was acknowledged last
         self.acked = 0  # bytes that were taken were acknowledged up to there
-        self.runs: list[Run] = []
+        self.runs: list[Stretch] = []
         self.held = Held()
         self.end: int | None = None  # the position of FIN
         self.beyond = Held()  # what came at or after it
@@ -90,7 +90,7 @@ class Stream:
         what was acknowledged."""
         low = max(min(self.acked, self.next), self.next - IN_FLIGHT_AT_MOST) - LIKELY_AT_MOST
         first = self.first if self.first is not None else self.heard
-        return low + (sequence - (first or 0) - low) % NUMBERS
+        return low + (sequence - (first or 0) - low) % SEQUENCE_SPACE
 
     def begins_at(self, sequence: int) -> None:
         """The sequence number of the first byte is known."""
@@ -103,30 +103,30 @@ class Stream:
         if self.heard is not None:
             self.known_end = max(0, self.known_end - self.position(sequence))
             self.far = self.heard = None
-        self.first = self.expected = sequence % NUMBERS
+        self.first = self.expected = sequence % SEQUENCE_SPACE
 
     def begun_late(self, sequence: int, number: int) -> None:
         """The same by SYN, which may be recorded after some bytes."""
-        before = 0 if self.first is None else (self.first - sequence) % NUMBERS
+        before = 0 if self.first is None else (self.first - sequence) % SEQUENCE_SPACE
         if self.first is None or not before:
             self.begins_at(sequence)
             self.is_begin |= not self.begin
         elif self.may_begin_at(sequence) and not self.begin:
-            self.first, self.is_begin = sequence % NUMBERS, True
+            self.first, self.is_begin = sequence % SEQUENCE_SPACE, True
             self.move(before, number)
 
     def may_begin_at(self, sequence: int) -> bool:
         """Whether SYN with this number may be that of the stream, though it comes after bytes."""
         return (not self.is_begin and self.first is not None
-                and (self.first - sequence) % NUMBERS <= LIKELY_AT_MOST)
+                and (self.first - sequence) % SEQUENCE_SPACE <= LIKELY_AT_MOST)
 
     def move(self, before: int, number: int) -> None:
         """Bytes are missing before the first that was known."""
         if self.runs:
             gap = Gap(0, before, number)
-            self.runs = [Run(run.begin,
-                             run.gap and run.gap._replace(position=run.gap.position + before),
-                             run.position + before)
+            self.runs = [Stretch(run.begin,
+                                 run.gap and run.gap._replace(position=run.gap.position + before),
+                                 run.position + before)
                          for run in self.runs]
             self.runs[0] = self.runs[0]._replace(gap=gap)
             self.next += before
@@ -136,7 +136,7 @@ class Stream:
         self.known_end += before if self.known_end else 0
         self.end, self.far, self.far_fin = (None if at is None else at + before
                                             for at in (self.end, self.far, self.far_fin))
-        self.expected = ((self.first or 0) + self.next) % NUMBERS
+        self.expected = ((self.first or 0) + self.next) % SEQUENCE_SPACE
 
     def shows(self, end: int, number: int) -> None:
         """A frame shows that bytes were sent up to a position. FIN is acknowledged as one more. An
@@ -248,7 +248,7 @@ class Stream:
     def append(self, payload: bytes, number: int, time: int) -> None:
         if payload:
             if not self.runs:
-                self.runs.append(Run(0, None, self.next))
+                self.runs.append(Stretch(0, None, self.next))
             if self.frames is not None:
                 self.frames.append(self.stored.size, number, time)
             self.stored.append(payload)
@@ -319,8 +319,8 @@ class Stream:
     def give_up_gap(self) -> None:
         """Goes on after the bytes that are missing."""
         begin = self.held.begins[0]
-        self.runs.append(Run(self.stored.size,
-                             Gap(self.next, begin - self.next, self.held.pieces[0][1]), begin))
+        self.runs.append(Stretch(self.stored.size,
+                                 Gap(self.next, begin - self.next, self.held.pieces[0][1]), begin))
         self.next = begin
         self.drain()  # which appends bytes, so that the sequence number that is expected follows
 
@@ -338,11 +338,12 @@ class Stream:
         others are compared."""
         passed = [run for run in self.runs if run.begin <= begin]
         self.lacks |= not self.is_begin or any(run.gap for run in passed)
-        last = passed[-1] if passed else Run(begin, None, self.next)
+        last = passed[-1] if passed else Stretch(begin, None, self.next)
         together = self.compared if len(passed) <= 1 and not last.gap else last.begin
-        self.runs = [Run(begin, None, last.position + begin - last.begin), *self.runs[len(passed):]]
+        self.runs = [Stretch(begin, None, last.position + begin - last.begin),
+                     *self.runs[len(passed):]]
         self.begin, self.is_begin = begin, True
-        self.compared = max(together, begin - COMPARED_AT_MOST)
+        self.compared = max(together, begin - KEPT_TO_COMPARE)
         self.stored.drop(self.compared)
         if self.frames is not None:
             self.frames.drop(begin)

@@ -37,13 +37,13 @@ from .container import (
 from .coverage import NFS_PORTS, PORT_MAPPER, Covered, called_in, of_connection
 from .frames import NoRecording, Recording, Source, opened
 from .keys import Keys
-from .parts import Part, files_of, in_order, pattern_beside, skipped_of
+from .parts import Part, files_of, parts_in_order, pattern_beside, skipped_of
 from .passed_over import notes_of, nothing_in, remarks_of
 from .records import Extent, Window, body_of, extent_of, extents, fragments
 from .segments import Segments
 from .selection import Options, Selected, count, is_of_rpc, missing_of, select
 from .spool import Brought, Frames, Spool, Stored
-from .streams import NUMBERS, Run
+from .streams import SEQUENCE_SPACE, Stretch
 from .unpacking import READ_AT_ONCE, Damaged, Readable
 
 FRAMES_A_STEP = 1_000
@@ -88,7 +88,7 @@ class TakenStream:
     __slots__ = 'stored', 'noted', 'ranges', 'begins', 'size', 'index', 'runs', 'first'
 
     def __init__(self, stored: Stored, frames: Frames | None, ranges: list[tuple[int, int]],
-                 runs: Sequence[Run] = (), first: int = 0) -> None:
+                 runs: Sequence[Stretch] = (), first: int = 0) -> None:
         self.stored, self.noted, self.ranges = stored, frames, ranges
         self.runs, self.first = runs, first
         self.begins = list(itertools.accumulate((end - begin for begin, end in ranges), initial=0))
@@ -121,7 +121,7 @@ class TakenStream:
         for low, high in self.ranges_of(begin, end):
             at = bisect.bisect_right(Keys(self.runs, lambda run: run.begin), low) - 1
             position = self.runs[at].position + low - self.runs[at].begin
-            yield (self.first + position) % NUMBERS, high - low
+            yield (self.first + position) % SEQUENCE_SPACE, high - low
 
     def blocks(self) -> typing.Iterator[bytes]:
         """Iterates over all bytes in order, in blocks of 65,536 and a last one."""
@@ -348,7 +348,7 @@ class Taken:
             index, side, at = found
             return self.connections[index].stream(SIDES[side]).frames(at, at + 1)
         stream, extent = self.record_at(place)
-        return stream.frames(*bytes_of(stream, extent, place))
+        return stream.frames(*range_of_place(stream, extent, place))
 
     def record_at(self, place: Place) -> tuple[TakenStream, Extent]:
         """Returns the stream of a record, and where the record is in it. Raises `NoPlace` if there
@@ -383,7 +383,7 @@ class Taken:
         self.spool.close()
 
 
-def bytes_of(stream: TakenStream, extent: Extent, place: Place) -> tuple[int, int]:
+def range_of_place(stream: TakenStream, extent: Extent, place: Place) -> tuple[int, int]:
     """The bytes of a stream that a place names: the whole record, or the byte of its body."""
     if place.byte is None:
         return extent.begin, extent.end
@@ -449,7 +449,7 @@ def take_parts(files: list[str], options: Options, keeps_frames: bool, progress:
     """Takes several files as the parts of one recording."""
     taking, size, before = Taking(options, keeps_frames, progress), size_of(files), 0
     try:
-        for path in in_order(files):
+        for path in parts_in_order(files):
             with contextlib.ExitStack() as stack:
                 source, chosen = opened_for(path, options, stack)
                 taking.taken.parts.append(Part(path, taking.count))
@@ -528,7 +528,7 @@ class Taking:
 
     def __init__(self, options: Options, keeps_frames: bool, progress: Progress) -> None:
         self.options, self.connections, self.progress = options, Connections(keeps_frames), progress
-        self.taken = Taken(self.connections.spool, True, keeps_frames, ports_of(options))
+        self.taken = Taken(self.connections.spool, True, keeps_frames, nfs_ports(options))
         self.segments = Segments(self.taken.ports)
         self.count = 0  # frames
 
@@ -567,7 +567,7 @@ class Taking:
         return self.taken
 
 
-def ports_of(options: Options) -> frozenset[int]:
+def nfs_ports(options: Options) -> frozenset[int]:
     """The ports of NFS: those that were chosen, or else the usual ones."""
     return (options.ports or NFS_PORTS) - {PORT_MAPPER}
 

@@ -9,12 +9,12 @@ from collections.abc import Iterable, Mapping, Sequence
 
 from .frames import Frame
 from .segments import FIN, LINKS, SYN, TCP, Segment, Segments, network_layer
-from .streams import NUMBERS
+from .streams import SEQUENCE_SPACE
 
 SEQUENCE_AT, FLAGS_AT, CHECKSUM_AT = 4, 13, 16  # in a header of TCP
 IPV6_SIZE = 40  # bytes of a header without extensions
-LONGEST = 0xffff  # bytes of a datagram that has its length in its header
-Bytes = tuple[int, int]  # the sequence number of the first, and how many
+LONGEST_DATAGRAM = 0xffff  # bytes of a datagram that has its length in its header
+SequenceRange = tuple[int, int]  # the sequence number of the first, and how many
 
 
 class Layers(Segments):
@@ -47,7 +47,7 @@ def is_before(data: bytes, at: int, tcp_at: int) -> bool:
 
 
 def trimmed(frames: Iterable[Frame],
-            wanted: Mapping[int, Sequence[Bytes]]) -> tuple[list[Frame], list[int]]:
+            wanted: Mapping[int, Sequence[SequenceRange]]) -> tuple[list[Frame], list[int]]:
     """Returns frames without the bytes before the first and after the last of those that are wanted
     of each, by its number. The second are the numbers of those that cannot be trimmed."""
     layers, found, whole = Layers(), list[Frame](), list[int]()
@@ -62,7 +62,7 @@ def trimmed(frames: Iterable[Frame],
 
 
 def with_bytes(frame: Frame, segment: Segment, layers: Layers,
-               wanted: Iterable[Bytes]) -> Frame | None:
+               wanted: Iterable[SequenceRange]) -> Frame | None:
     """Returns a frame with the bytes that are wanted of its segment, and what is between them;
     `None` if it cannot be trimmed."""
     pieces = [piece for piece in (within(segment, *one) for one in wanted) if piece[0] < piece[1]]
@@ -80,7 +80,8 @@ def with_bytes(frame: Frame, segment: Segment, layers: Layers,
 def within(segment: Segment, sequence: int, size: int) -> tuple[int, int]:
     """Returns where bytes begin and end in the payload of a segment; they are none if they end
     before they begin."""
-    begin = (sequence - segment.sequence + NUMBERS // 2) % NUMBERS - NUMBERS // 2
+    half = SEQUENCE_SPACE // 2
+    begin = (sequence - segment.sequence + half) % SEQUENCE_SPACE - half
     return max(0, begin), min(len(segment.payload), begin + size)
 
 
@@ -89,13 +90,13 @@ def with_payload(data: bytes, at: int, tcp_at: int, segment: Segment, begin: int
     """Returns a frame with a part of its payload, whose header of IP is at `at`."""
     payload_at = tcp_at + (data[tcp_at + 12] >> 4) * 4
     header = bytearray(data[tcp_at:payload_at])
-    struct.pack_into('>I', header, SEQUENCE_AT, (segment.sequence + begin) % NUMBERS)
+    struct.pack_into('>I', header, SEQUENCE_AT, (segment.sequence + begin) % SEQUENCE_SPACE)
     if end < len(segment.payload):
         header[FLAGS_AT] &= ~FIN
     content = bytes(header) + segment.payload[begin:end]
     outer = bytearray(data[at:tcp_at])
     size = len(outer) + len(content)
-    if size > LONGEST:  # as of a card that cuts segments itself, which says no length then
+    if size > LONGEST_DATAGRAM:  # as of a card that cuts segments itself, which says no length then
         size = 0
     if outer[0] >> 4 == 4:
         struct.pack_into('>H', outer, 2, size)

@@ -18,7 +18,7 @@ from ..shared.programs import begun, died, text_of
 
 READ_AT_ONCE = 1 << 20
 FIRST_STEP = 1 << 9  # compressed bytes of a member of gzip that are decompressed at first
-STEP = 1 << 12  # the same of any others: what they decompress to is lost if they are damaged
+USUAL_STEP = 1 << 12  # the same of any others: what they decompress to is lost if they are damaged
 PREMATURE = 'premature'  # is said by zstd of a file that ends too early
 MOST_MEMORY = 128 << 20  # of the decompressor of xz; that of `xz -9` takes 65 MiB
 
@@ -62,7 +62,7 @@ class Packed:
         """Whether another stream follows, perhaps after zeros. If anything else does, the file is
         damaged."""
         while self.peek(1) == b'\0':
-            rest = self.peek(STEP)
+            rest = self.peek(USUAL_STEP)
             self.at += len(rest) - len(rest.lstrip(b'\0'))
         found = self.peek(len(magic))
         if found and found != magic:
@@ -157,7 +157,7 @@ class Unpacked(Packed):
         """The next bytes, of which there may be none yet."""
         piece = b''
         if self.decompressor.needs_input:
-            piece = self.peek(1) and self.packed[self.at:self.at + STEP]
+            piece = self.peek(1) and self.packed[self.at:self.at + USUAL_STEP]
             self.at += len(piece)
             if not piece:
                 self.damage = CutShort('the compressed file is cut short')

@@ -11,11 +11,11 @@ from ..recordings.taken import FrameRef, Taken
 from ..shared.places import FilePlace, Place
 from ..shared.printed import escaped
 
-SHOWN_AT_MOST = 12  # frames of which the time is printed
+TIMED_FRAMES_AT_MOST = 12  # frames of which the time is printed
 
 
-def lines_of(taken: Taken, place: Place | FilePlace,
-             frames: list[FrameRef]) -> typing.Iterator[str]:
+def place_lines(taken: Taken, place: Place | FilePlace,
+                frames: list[FrameRef]) -> typing.Iterator[str]:
     """Iterates over what is printed."""
     if isinstance(place, Place):
         connection = taken.connections[place.connection - 1]
@@ -23,16 +23,16 @@ def lines_of(taken: Taken, place: Place | FilePlace,
                f'tcp.stream == {connection.stream_number}')
     else:
         yield str(place)
-    for frame in frames[:SHOWN_AT_MOST]:
-        yield f'frame {frame.number}, {time_of(frame)}'
-    if len(frames) > SHOWN_AT_MOST:
-        yield (f'and {len(frames) - SHOWN_AT_MOST} more, the last of them '
-               f'frame {frames[-1].number}, {time_of(frames[-1])}')
+    for frame in frames[:TIMED_FRAMES_AT_MOST]:
+        yield f'frame {frame.number}, {frame_time(frame)}'
+    if len(frames) > TIMED_FRAMES_AT_MOST:
+        yield (f'and {len(frames) - TIMED_FRAMES_AT_MOST} more, the last of them '
+               f'frame {frames[-1].number}, {frame_time(frames[-1])}')
     for name, text in filters_of(taken.parts, [frame.number for frame in frames]):
         yield f'{name}: {text}' if name else text
 
 
-def time_of(frame: FrameRef) -> str:
+def frame_time(frame: FrameRef) -> str:
     """The time of a frame as Wireshark prints it in UTC."""
     if not frame.time:
         return 'without a time'

@@ -5,8 +5,8 @@ from collections.abc import Iterable, Mapping
 from xml.etree.ElementTree import Element, SubElement, tostring
 
 # What is counted of a suite.
-COUNTED = {'tests': 'testcase', 'failures': 'testcase/failure', 'errors': 'testcase/error',
-           'skipped': 'testcase/skipped'}
+COUNTED_ELEMENTS = {'tests': 'testcase', 'failures': 'testcase/failure', 'errors': 'testcase/error',
+                    'skipped': 'testcase/skipped'}
 
 
 class Suite:
@@ -30,9 +30,9 @@ class Suite:
             SubElement(case, 'system-out').text = text
         return case
 
-    def written(self, names: Iterable[str] = COUNTED, **attributes: str) -> bytes:
+    def written(self, names: Iterable[str] = COUNTED_ELEMENTS, **attributes: str) -> bytes:
         """Returns all of it, with how many cases there are and passed not."""
         for name in names:
-            self.suite.set(name, str(len(self.suite.findall(COUNTED[name]))))
+            self.suite.set(name, str(len(self.suite.findall(COUNTED_ELEMENTS[name]))))
         self.suite.attrib.update(attributes)
         return bytes(tostring(self.root, encoding='utf-8', xml_declaration=True)) + b'\n'

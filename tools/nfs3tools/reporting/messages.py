@@ -29,8 +29,8 @@ READING = {'from_pcap': '- OUT', 'where': '- POSITION', 'explain': '- POSITION',
            'verdicts': '-', 'procedures': '-', 'calls': '-', 'meaning': '-',
            'cut': '- POSITION OUT'}
 OPTION = re.compile(r' \[-[^]]*\]')  # in a usage
-STATUS = 'The status is 0'  # begins what is said of it
-NEEDED = re.compile(r'argument (\S+): expected one argument')
+STATUS_TEXT = 'The status is 0'  # begins what is said of it
+WITHOUT_VALUE = re.compile(r'argument (\S+): expected one argument')
 PAGES = Path(__file__).resolve().parents[2] / 'man'
 
 
@@ -40,7 +40,7 @@ def run(name: str, main: typing.Callable[[list[str]], int]) -> int:
     streams."""
     try:
         end_by_signals()
-        status = status_of(name, main)
+        status = status_of_tool(name, main)
         ignore_signals()
     except KeyboardInterrupt:
         status = INTERRUPTED
@@ -48,7 +48,7 @@ def run(name: str, main: typing.Callable[[list[str]], int]) -> int:
     return status
 
 
-def status_of(name: str, main: typing.Callable[[list[str]], int]) -> int:
+def status_of_tool(name: str, main: typing.Callable[[list[str]], int]) -> int:
     closed = [named for named, stream in (('standard output', sys.stdout),
                                           ('standard error', sys.stderr)) if stream is None]
     occupy_closed_streams()
@@ -65,7 +65,7 @@ def status_of(name: str, main: typing.Callable[[list[str]], int]) -> int:
     except BrokenPipeError:
         return FAILED
     except OSError as failed:
-        return ended(name, words_of(failed), FAILED)
+        return ended(name, error_text(failed), FAILED)
     except Died as died:
         return ended(name, str(died), FAILED)
     except MemoryError:
@@ -145,7 +145,7 @@ def ignore_signals() -> None:
 
 # --- Messages ---
 
-def words_of(failed: OSError) -> str:
+def error_text(failed: OSError) -> str:
     """What failed, with the name of the file if there is one."""
     words = failed.strerror or str(failed)
     return (f'{escaped(os.fsdecode(failed.filename))}: {words}'
@@ -169,7 +169,7 @@ class Parser(argparse.ArgumentParser):
     def error(self, message: str) -> typing.NoReturn:
         """Prints the usage as one line, which leaves the options to the help, and what is wrong. Of
         a word that is taken for an option, since it begins with a hyphen, that is all."""
-        needed = NEEDED.fullmatch(message)
+        needed = WITHOUT_VALUE.fullmatch(message)
         option = needed[1].split('/')[-1] if needed else ''
         word = next((after for one, after in zip(sys.argv, sys.argv[1:]) if one == option), '')
         if word.startswith('-'):
@@ -207,12 +207,12 @@ def parser_of(text: str | None, name: str) -> argparse.ArgumentParser:
 def help_of(text: str, name: str) -> str:
     """Returns what a tool does, how it is called, its status, and where the rest is: in its manual
     page. Without one it is the whole text."""
-    if STATUS not in text:
+    if STATUS_TEXT not in text:
         return text
     what, lines, *_ = text.strip('\n').split('\n\n')
-    status = STATUS + text.partition(STATUS)[2].partition('\n\n')[0]
+    status = STATUS_TEXT + text.partition(STATUS_TEXT)[2].partition('\n\n')[0]
     usages = '\n'.join(map(fitted, re.sub(r'\n {5,}', ' ', lines).split('\n')))
-    more = fitted(f'The manual page has more: {page_of(name)}')
+    more = fitted(f'The manual page has more: {manual_of(name)}')
     return '\n\n'.join([fitted(what), usages, fitted(status), more])
 
 
@@ -225,7 +225,7 @@ def fitted(text: str) -> str:
                          break_long_words=False)
 
 
-def page_of(name: str) -> str:
+def manual_of(name: str) -> str:
     """Returns where the manual page of a tool is. A Python package has none."""
     if not is_installed():
         return f'man -l {shlex.quote(str(PAGES / name))}.1'
@@ -238,11 +238,11 @@ def add_options(parser: argparse.ArgumentParser) -> None:
     """The options of which connections are taken."""
     parser.add_argument('--filter', metavar='FILTER', help='takes the connections for which a '
                         'display filter of Wireshark is true')
-    parser.add_argument('--port', metavar='PORT,..', type=ports_of, default=frozenset(),
+    parser.add_argument('--port', metavar='PORT,..', type=port_numbers, default=frozenset(),
                         help='takes the connections that have one of these ports')
 
 
-def ports_of(word: str) -> frozenset[int]:
+def port_numbers(word: str) -> frozenset[int]:
     """The ports that a word names, as `2049,20048`."""
     ports = frozenset(int(port) for port in word.split(',') if port.isascii() and port.isdigit())
     if len(word.split(',')) != len(ports) or not all(0 < port < 1 << 16 for port in ports):
@@ -290,7 +290,7 @@ def options_of(chosen: argparse.Namespace) -> Options:
     return Options(chosen.filter, chosen.port)
 
 
-def lines_of(taken: Taken, has_taken: bool = True) -> list[str]:
+def recording_lines(taken: Taken, has_taken: bool = True) -> list[str]:
     """What is said of a recording: a line for each connection that is taken, if that is asked for,
     or left out, and for what is missing."""
     lines = [*taken.notes]
@@ -303,7 +303,7 @@ def lines_of(taken: Taken, has_taken: bool = True) -> list[str]:
             + [f'{remark.word}: {remark.reason}' for remark in taken.remarks])
 
 
-def tell(taken: Taken) -> None:
+def print_recording(taken: Taken) -> None:
     """Prints that on standard error."""
-    for line in lines_of(taken):
+    for line in recording_lines(taken):
         print(line, file=sys.stderr)

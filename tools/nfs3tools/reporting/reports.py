@@ -18,37 +18,38 @@ from ..exchanges.stored import Long, Value
 from ..shared.printed import escaped, printable
 from . import telling
 from .junit import Suite
-from .telling import brief_of, folded, is_summed, of_group, of_silent, shortened
+from .telling import brief_of, groups_alike, is_summed, of_group, of_silent, shortened
 
-VERSION = 1  # of the form of JSON
+REPORT_VERSION = 1  # of the form of JSON
 CASES_AT_MOST = 1_000  # of findings
-FIELDS_AT_MOST = 4  # in the name of a case
-KINDS = {'moved': 'reordered', 'sent again': 'sent again', 'replies': 'another number of replies'}
+FIELDS_IN_CASE_NAME = 4
+KIND_WORDS = {'moved': 'reordered', 'sent again': 'sent again',
+              'replies': 'another number of replies'}
 
 
-def json_of(report: Report, compared: Compared, left_out: Counter[tuple[str, str]],
-            framings: Sequence[Framing]) -> Iterator[bytes]:
+def json_of_comparison(report: Report, compared: Compared, left_out: Counter[tuple[str, str]],
+                       framings: Sequence[Framing]) -> Iterator[bytes]:
     """The comparison, in pieces: an object, each of whose findings is a line. Without findings
     there need be no framings."""
-    covers = [members_of(cover) for cover in report.covers] if report.covers else [{}, {}]
+    covers = [cover_members(cover) for cover in report.covers] if report.covers else [{}, {}]
     runs = zip(report.names, report.sizes, covers, compared.lonely, compared.left_out)
     head = {
-        'version': VERSION, 'verdict': report.word(),
+        'version': REPORT_VERSION, 'verdict': report.word(),
         'position': report.verdict.partition(' at ')[2] or None,
-        'mask': words_of(report.mask),
-        'same_under': report.same_under and words_of(report.same_under),
+        'mask': ways_by_class(report.mask),
+        'same_under': report.same_under and ways_by_class(report.same_under),
         'runs': [{'name': escaped(name), **size._asdict(), **cover, 'only': only,
                   'left_out': dict(left)}
                  for name, size, cover, only, left in runs],
         'order': {'together': compared.exchanges, 'calls': compared.moved, 'replies': compared.late,
                   'connections': compared.late_connections,
                   'on_another_connection': compared.elsewhere},
-        'fields': counts_of(compared.fields()), 'ignored': counts_of(left_out),
+        'fields': field_counts(compared.fields()), 'ignored': field_counts(left_out),
         'left_out': [{'procedure': one.message.procedure, 'path': one.path,
                       'first': of_message(one.first, framings[0]),
                       'second': of_message(one.second, framings[1]),
                       'kind': one.kind, 'why': one.why or None} for one in compared.silent],
-        'accepted': report.accepted and of_accepted(report.accepted, framings)}
+        'accepted': report.accepted and accepted_object(report.accepted, framings)}
     yield json.dumps(head, indent=1).removesuffix('\n}').encode() + b',\n "findings": ['
     for number, finding in enumerate(compared.findings):
         yield b',\n  ' if number else b'\n  '
@@ -56,7 +57,7 @@ def json_of(report: Report, compared: Compared, left_out: Counter[tuple[str, str
     yield b'\n ]\n}\n'
 
 
-def members_of(cover: Cover) -> dict[str, Any]:
+def cover_members(cover: Cover) -> dict[str, Any]:
     """How much of a run is compared: the bytes that are missing, the counts, and what is not judged
     as a whole."""
     return {'missing': cover.missing, 'counts': cover.counts().members(),
@@ -67,24 +68,24 @@ def json_of_parts(marks: str, covers: Sequence[Cover], parts: Sequence[PartRepor
                   framings: Sequence[Framing]) -> Iterator[bytes]:
     """The comparison of parts, in pieces: an object with a list of the parts. What is said of a
     part is an object as of whole runs."""
-    yield json.dumps({'version': VERSION, 'marks': escaped(marks),
-                      'runs': [*map(members_of, covers)]},
+    yield json.dumps({'version': REPORT_VERSION, 'marks': escaped(marks),
+                      'runs': [*map(cover_members, covers)]},
                      indent=1).removesuffix('\n}').encode() + b',\n "parts": ['
     for turn, part in enumerate(parts):
         head = {'name': part.name, 'number': part.number, 'verdict': part.word(), 'only': part.only}
         yield ((b',\n' if turn else b'\n') + json.dumps(head).removesuffix('}').encode()
                + b', "comparison": ')
-        yield from json_of(part.report, part.compared, part.left_out,
-                           framings) if part.report else [b'null\n']
+        yield from json_of_comparison(part.report, part.compared, part.left_out,
+                                      framings) if part.report else [b'null\n']
         yield b'}'
     yield b'\n ]\n}\n'
 
 
-def words_of(mask: Mask) -> dict[str, str]:
+def ways_by_class(mask: Mask) -> dict[str, str]:
     return {name: way.value for name, way in mask.items()}
 
 
-def counts_of(fields: Counter[tuple[str, str]]) -> list[dict[str, Any]]:
+def field_counts(fields: Counter[tuple[str, str]]) -> list[dict[str, Any]]:
     return [{'procedure': procedure, 'field': field, 'count': number}
             for (procedure, field), number in fields.most_common()]
 
@@ -95,12 +96,12 @@ def of_finding(finding: Finding, first: Framing, second: Framing) -> dict[str, A
             'path': finding.path,
             'first': of_message(finding.first, first),
             'second': of_message(finding.second, second), 'remark': finding.remark,
-            'differences': [of_difference(one) for one in finding.differences],
-            'arguments': [{'label': one.label, 'value': cut(one.value),
+            'differences': [difference_object(one) for one in finding.differences],
+            'arguments': [{'label': one.label, 'value': short_value(one.value),
                            'name': one.meaning or None} for one in finding.arguments]}
 
 
-def of_accepted(accepted: Split, framings: Sequence[Framing]) -> dict[str, Any]:
+def accepted_object(accepted: Split, framings: Sequence[Framing]) -> dict[str, Any]:
     return {'count': len(accepted.findings),
             'findings': [of_finding(one, *framings) for one in accepted.findings],
             'no_longer_found': accepted.no_longer_found}
@@ -111,7 +112,7 @@ def of_message(message: Message | None, framing: Framing) -> dict[str, Any] | No
                                          'frames': list(framing(message))}
 
 
-def of_difference(difference: Difference) -> dict[str, Any]:
+def difference_object(difference: Difference) -> dict[str, Any]:
     """The values are as the listing spells them. Long ones are cut, and have a digest of their
     bytes."""
     parting = difference.apart and {
@@ -119,13 +120,13 @@ def of_difference(difference: Difference) -> dict[str, Any]:
         'differing': difference.apart.differing,
         'sizes': difference.apart.sizes, 'shown': difference.apart.shown,
         'sha256': [*map(digest_of, (difference.first, difference.second))]}
-    return {'field': difference.field, 'label': difference.label, 'first': cut(difference.first),
-            'second': cut(difference.second),
+    return {'field': difference.field, 'label': difference.label,
+            'first': short_value(difference.first), 'second': short_value(difference.second),
             'remark': difference.remark, 'names': [name or None for name in difference.meanings],
             'apart': parting}
 
 
-def cut(value: Value | None) -> str | None:
+def short_value(value: Value | None) -> str | None:
     return shortened(value) if isinstance(value, Long) else value
 
 
@@ -172,12 +173,12 @@ def properties_of(covers: Sequence[Cover], accepted: Split | None) -> Iterator[t
         yield 'no longer found', len(accepted.no_longer_found)
 
 
-def junit_of(line: str, report: Report, compared: Compared, framings: Sequence[Framing],
-             is_good: bool) -> bytes:
+def junit_of_comparison(line: str, report: Report, compared: Compared, framings: Sequence[Framing],
+                        is_good: bool) -> bytes:
     """The verdict as a case, which passed if it is good, and else each finding as one that failed.
     Findings that say the same are one. The counts are properties, and each run of which a part is
     refused has a case with an error."""
-    groups = [] if is_good else folded(compared.findings)
+    groups = [] if is_good else groups_alike(compared.findings)
     cases = Cases(report.names, report.covers or (), report.accepted)
     silent = [*telling.of_accepted(report.accepted, framings, True),
               *of_silent(compared, framings, CASES_AT_MOST)]
@@ -210,10 +211,10 @@ def case_name(group: Sequence[Finding]) -> str:
     words = [short(message.procedure) + ('' if message.is_call else ' reply'),
              *({finding.path} - {None} if len(paths) == 1 else ())]
     fields = list(dict.fromkeys(difference.field for difference in finding.differences))
-    words += [', '.join(fields[:FIELDS_AT_MOST]) + (', ..' if len(fields) > FIELDS_AT_MOST
-                                                    else '')] if fields else []
-    return only + ' '.join(filter(None, words)) + (f': {KINDS[finding.kind]}'
-                                                   if finding.kind in KINDS else '')
+    words += [', '.join(fields[:FIELDS_IN_CASE_NAME]) + (', ..' if len(fields) > FIELDS_IN_CASE_NAME
+                                                         else '')] if fields else []
+    return only + ' '.join(filter(None, words)) + (f': {KIND_WORDS[finding.kind]}'
+                                                   if finding.kind in KIND_WORDS else '')
 
 
 def junit_of_parts(names: Sequence[str], covers: Sequence[Cover], losses: str,
@@ -229,7 +230,7 @@ def junit_of_parts(names: Sequence[str], covers: Sequence[Cover], losses: str,
         if part.is_good:
             cases.add(part.label, text=[part.line, *silent])
         else:
-            groups = folded(part.compared.findings)
+            groups = groups_alike(part.compared.findings)
             texts = [line for group in groups[:CASES_AT_MOST]
                      for line in of_group(group, *framings)] + silent
             more = ([f'{len(groups) - CASES_AT_MOST:,} more findings']

@@ -5,14 +5,14 @@ from collections import Counter, defaultdict
 from collections.abc import Iterable, Iterator, Sequence
 
 from ..comparison.values import long_values
-from ..comparison.verdict.accepted import Split, words_of
+from ..comparison.verdict.accepted import Split, entry_text
 from ..comparison.verdict.differences import Difference
 from ..comparison.verdict.findings import Compared, Finding, Framing, Silent
 from ..exchanges.listing import Message
 from ..exchanges.stored import Long, Value
 
 # Why calls of both runs are left out.
-LEFT_OUT = {'explained': 'explained by order', 'sent again': 'sent again'}
+WHY_LEFT_OUT = {'explained': 'explained by order', 'sent again': 'sent again'}
 LONGEST_VALUE, LONGEST_NAME = 128, 1024  # characters, as the listing spells them
 LONGEST_LIST = 4  # frames
 FIELDS_AT_MOST = 12
@@ -30,7 +30,7 @@ def shortened(value: Value) -> str:
     return value if len(value) <= most else f'{value[:most]}.. ({len(value)} characters)'
 
 
-def frames_of(message: Message | None, framing: Framing) -> str:
+def frames_text(message: Message | None, framing: Framing) -> str:
     """Returns the numbers of the frames that carry a message, or nothing of a capture."""
     numbers: Sequence[int] = framing(message) if message else []
     if not numbers:
@@ -39,7 +39,7 @@ def frames_of(message: Message | None, framing: Framing) -> str:
     return f' (frame {some}{" .." if len(numbers) > LONGEST_LIST else ""})'
 
 
-def of_difference(difference: Difference) -> Iterator[str]:
+def difference_lines(difference: Difference) -> Iterator[str]:
     """Two lines, as `diff` has them, and a remark after the second. A value that is equal in both
     runs is one line."""
     remark = f'    # {remark_on(difference)}' if remark_on(difference) else ''
@@ -54,7 +54,7 @@ def of_difference(difference: Difference) -> Iterator[str]:
 
 
 def remark_on(difference: Difference) -> str:
-    parts = [long_values.told(difference.apart)] if difference.apart else []
+    parts = [long_values.parting_in_words(difference.apart)] if difference.apart else []
     return '; '.join([*parts, *filter(None, [difference.remark])])
 
 
@@ -63,11 +63,11 @@ def value_of(difference: Difference, number: int) -> str:
     number 0, or of the second."""
     if difference.apart:
         return difference.apart.shown[number]
-    return named(difference.name, (difference.first, difference.second)[number] or '',
-                 difference.meanings[number])
+    return value_with_meaning(difference.name, (difference.first, difference.second)[number] or '',
+                              difference.meanings[number])
 
 
-def named(name: str, value: Value, meaning: str) -> str:
+def value_with_meaning(name: str, value: Value, meaning: str) -> str:
     """Returns the value of an item with what it is called, if it has a name. A mode is known by its
     octal digits, which come first."""
     if name == 'mode' and meaning:
@@ -81,10 +81,10 @@ def of_arguments(finding: Finding) -> Iterator[str]:
     for argument in finding.arguments:
         if not argument.is_of_path or finding.path is None:
             yield (f'{sign} {argument.label}='
-                   f'{named(argument.name, argument.value, argument.meaning)}')
+                   f'{value_with_meaning(argument.name, argument.value, argument.meaning)}')
 
 
-def folded(findings: Iterable[Finding]) -> list[list[Finding]]:
+def groups_alike(findings: Iterable[Finding]) -> list[list[Finding]]:
     """Returns the findings in groups that say the same of one procedure, each with its first
     finding's place among the others."""
     groups: dict[object, list[Finding]] = {}
@@ -136,29 +136,29 @@ def what_of(findings: Sequence[Finding]) -> str:
     return f'{what}{path}, first' if len(paths) == 1 else f'{what}{known}, first{path}'
 
 
-def heading_of(findings: Sequence[Finding], first: Framing, second: Framing) -> str:
+def group_heading(findings: Sequence[Finding], first: Framing, second: Framing) -> str:
     """Which messages they are, and the places of the first in both runs."""
     finding = findings[0]
     one, other, message, run = finding.first, finding.second, finding.message, finding.run
     if finding.kind == 'order':
         return f'connection {message.connection}'
     if one and other:
-        return f'{what_of(findings)}: {places_of(one, other, first, second)}'
+        return f'{what_of(findings)}: {places_text(one, other, first, second)}'
     if finding.kind == 'connection':
         return f'only in the {run} run: connection {message.connection}'
     return (f'only in the {run} run: {what_of(findings)}: '
-            f'{message.place}{frames_of(message, first if one else second)}')
+            f'{message.place}{frames_text(message, first if one else second)}')
 
 
 def of_group(findings: Sequence[Finding], first: Framing, second: Framing) -> Iterator[str]:
     if is_summed(findings):
         yield brief_of(findings, first, second)
         return
-    yield heading_of(findings, first, second)
+    yield group_heading(findings, first, second)
     if findings[0].remark:
         yield f'  {findings[0].remark}'
     for difference in findings[0].differences:
-        yield from of_difference(difference)
+        yield from difference_lines(difference)
     yield from (f'  {line}' for line in of_arguments(findings[0]))
 
 
@@ -168,16 +168,17 @@ def brief_of(findings: Sequence[Finding], first: Framing, second: Framing) -> st
     if is_summed(findings):
         fields = Counter((one.message.procedure, difference.field) for one in findings
                          for difference in one.differences)
-        return f'{heading_of(findings, first, second)}: {told(fields.most_common(FIELDS_AT_MOST))}'
+        return (f'{group_heading(findings, first, second)}: '
+                f'{fields_text(fields.most_common(FIELDS_AT_MOST))}')
     said = [*([finding.remark] if finding.remark else []),
             *map(brief_difference, finding.differences),
             *(line.replace(' ', '', 1) for line in of_arguments(finding))]
-    return ': '.join([heading_of(findings, first, second), *(['; '.join(said)] if said else [])])
+    return ': '.join([group_heading(findings, first, second), *(['; '.join(said)] if said else [])])
 
 
 def brief_difference(difference: Difference) -> str:
     """A difference in a part of a line. If one run alone has the item, it is as in
-    `of_difference`."""
+    `difference_lines`."""
     if difference.second is None:
         return f'-{difference.label}={value_of(difference, 0)}'
     if difference.first is None:
@@ -197,7 +198,7 @@ def of_silent(compared: Compared, framings: Sequence[Framing], most: int | None)
         groups[number if most is None else key].append(call)
     for some in list(groups.values())[:most]:
         yield (f'left out{of_whom(some[0])}: {silent_of(some)}: '
-               f'{places_of(some[0].first, some[0].second, first, second)}{why_of(some[0])}')
+               f'{places_text(some[0].first, some[0].second, first, second)}{why_of(some[0])}')
     if most is not None and len(groups) > most:
         yield f'.. and {len(groups) - most:,} more left out (--all prints them)'
 
@@ -211,7 +212,7 @@ def of_whom(call: Silent) -> str:
 def silent_of(some: Sequence[Silent]) -> str:
     """Returns which calls are left out, of one procedure and path."""
     call, path = some[0], f' {some[0].path}' if some[0].path else ''
-    kind = '' if call.kind == 'only' else f', {LEFT_OUT[call.kind]}'
+    kind = '' if call.kind == 'only' else f', {WHY_LEFT_OUT[call.kind]}'
     return f'{len(some):,} {call.message.procedure}{path}{kind}{", first" if len(some) > 1 else ""}'
 
 
@@ -220,9 +221,9 @@ def why_of(call: Silent) -> str:
     return f', by {call.why}' if call.kind == 'explained' else f', {call.why}' * bool(call.why)
 
 
-def places_of(one: Message | None, other: Message | None, first: Framing, second: Framing) -> str:
+def places_text(one: Message | None, other: Message | None, first: Framing, second: Framing) -> str:
     """Returns the places of messages in both runs, with their frames."""
-    return ' | '.join(f'{message.place}{frames_of(message, framing)}'
+    return ' | '.join(f'{message.place}{frames_text(message, framing)}'
                       for message, framing in ((one, first), (other, second)) if message)
 
 
@@ -233,17 +234,18 @@ def of_compared(compared: Compared, first: Framing, second: Framing, most: int |
     itself, and each in a line if that is asked for. Then which fields differ how often, and which
     were left out."""
     groups = [[finding]
-              for finding in compared.findings] if most is None else folded(compared.findings)
+              for finding in compared.findings] if most is None else groups_alike(compared.findings)
     for group in groups[:most]:
         yield from [brief_of(group, first, second)] if is_brief else of_group(group, first, second)
     if most is not None and len(groups) > most:
         yield f'.. and {len(groups) - most:,} more (--all prints them)'
     fields = compared.fields()
     if fields:
+        some = fields_text(fields.most_common(FIELDS_AT_MOST))
         more = ', ..' if len(fields) > FIELDS_AT_MOST else ''
-        yield f'fields that differ, and how often: {told(fields.most_common(FIELDS_AT_MOST))}{more}'
+        yield f'fields that differ, and how often: {some}{more}'
     if left_out:
-        yield f'left out by --ignore, and how often: {told(left_out.most_common())}'
+        yield f'left out by --ignore, and how often: {fields_text(left_out.most_common())}'
     elif not compared.findings:
         yield ('no field of matched messages differs; '
                'only which messages share a value, or empty connections, can')
@@ -259,8 +261,8 @@ def of_accepted(accepted: Split | None, framings: Sequence[Framing],
         first, second = framings
         yield from (f'accepted: {brief_of([one], first, second)}' for one in accepted.findings)
     yield f'{len(accepted.findings):,} accepted'
-    yield from (f'no longer found: {words_of(entry)}' for entry in accepted.no_longer_found)
+    yield from (f'no longer found: {entry_text(entry)}' for entry in accepted.no_longer_found)
 
 
-def told(fields: Iterable[tuple[tuple[str, str], int]]) -> str:
+def fields_text(fields: Iterable[tuple[tuple[str, str], int]]) -> str:
     return ', '.join(f'{name} of {procedure} {count:,}' for (procedure, name), count in fields)

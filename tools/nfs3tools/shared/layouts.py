@@ -295,7 +295,7 @@ def cases_of(inner: str) -> dict[int, str]:
 
 # --- Bytes ---
 
-class Item(NamedTuple):
+class PlacedItem(NamedTuple):
     """An item of a message: its bytes, its name, its value as a text (of a long one the beginning),
     what may stand there, whether it has all its bytes, and the name of its number, if that has
     one."""
@@ -316,15 +316,15 @@ class Body(Protocol):
     def __getitem__(self, part: slice, /) -> bytes: ...
 
 
-class Message(Walk):
+class BodyReader(Walk):
     """Reads the items of a body up to its end, or to the first that is at fault. They are passed to
     `tell`, or kept in `items`. The value of an item is that of its first bytes, `most` at most."""
 
-    def __init__(self, body: Body, tell: Callable[[Item], object] | None = None,
+    def __init__(self, body: Body, tell: Callable[[PlacedItem], object] | None = None,
                  most: int = 1 << 32) -> None:
         super().__init__(None)
         self.body, self.at, self.end, self.most = body, 0, len(body), most
-        self.items: list[Item] = []
+        self.items: list[PlacedItem] = []
         self.tell = tell or self.items.append
 
     def taken(self, size: int, name: str, allowed: str, spell: Spell,
@@ -334,8 +334,8 @@ class Message(Walk):
         begin, self.at = self.at, min(self.at + size, self.end)
         piece = self.body[begin:min(self.at, begin + self.most)]
         value, is_whole = spell(piece), self.at - begin == size
-        self.tell(Item(begin, self.at, name, value, allowed, is_whole,
-                       meaning(value) if meaning and is_whole else ''))
+        self.tell(PlacedItem(begin, self.at, name, value, allowed, is_whole,
+                             meaning(value) if meaning and is_whole else ''))
         if not is_whole:
             raise Stop
         return piece

@@ -19,8 +19,8 @@ from .kinds import MAGICS, PACKED_BY, PCAP, SECTION
 from .printed import escaped
 
 STANDARD_OUTPUT = '-'
-PART = '.nfs3canon-'  # begins the name of a file that is being written
-AT_ONCE = 1 << 16  # bytes that are written
+UNFINISHED = '.nfs3canon-'  # begins the name of a file that is being written
+BYTES_AT_ONCE = 1 << 16  # bytes that are written
 ACCESS_LIST = 'system.posix_acl_access'  # an extended attribute
 OWNER_ALONE, EVERYBODY, PERMISSIONS, WRITERS = 0o600, 0o666, 0o777, 0o222
 OF_OWNER = 0o700  # the bits of the owner
@@ -42,7 +42,7 @@ def write_file(path: str, blocks: Iterable[bytes], inputs: Iterable[str] = (),
 
     Raises `Refused`, and `OSError`; then what has the name is as it was.
     """
-    with named(path):
+    with failures_named(path):
         found = check_output(path, inputs, replaces)
         if is_replaced(found):
             write_beside(os.path.realpath(path), blocks, found=found)
@@ -72,21 +72,22 @@ def write_temporary(path: str, blocks: Iterable[bytes]) -> None:
     not be safe on the disk. Raises `OSError`."""
     number = os.open(path, os.O_WRONLY | os.O_CREAT | os.O_TRUNC, OWNER_ALONE)
     try:
-        with named(path):
+        with failures_named(path):
             write_all(number, blocks)
     finally:
         os.close(number)
 
 
 @contextlib.contextmanager
-def named(path: str) -> Iterator[None]:
+def failures_named(path: str) -> Iterator[None]:
     """A failure has the name of the output, and not that of a part of it."""
     try:
         yield
     except BrokenPipeError:
         raise
     except OSError as failed:
-        is_own = failed.filename in (None, os.path.realpath(path)) or PART in str(failed.filename)
+        is_own = (failed.filename in (None, os.path.realpath(path))
+                  or UNFINISHED in str(failed.filename))
         own = 'standard output' if path == STANDARD_OUTPUT else path
         raise OSError(failed.errno, failed.strerror or str(failed),
                       own if is_own else failed.filename) from failed
@@ -110,7 +111,7 @@ def check_output(path: str, inputs: Iterable[str] = (),
     if stat.S_ISREG(found.st_mode):
         if any(is_read_from(one, found) for one in inputs):
             raise Refused(f'{escaped(path)} is an input, and is not replaced')
-        kind = None if path == STANDARD_OUTPUT else kind_of(path)
+        kind = None if path == STANDARD_OUTPUT else kind_of_file(path)
         if kind and kind not in replaces:
             raise Refused(f'{escaped(path)} is {kind}, and is not replaced')
         if not found.st_mode & WRITERS:
@@ -139,7 +140,7 @@ def try_outputs(paths: Iterable[str | None], inputs: Iterable[str] = (),
             raise Refused(f'{escaped(outputs[first])} and {escaped(path)} are one file, '
                           'and each output needs its own')
         if is_replaced(found):
-            with named(path), part_beside(os.path.realpath(path), OWNER_ALONE):
+            with failures_named(path), part_beside(os.path.realpath(path), OWNER_ALONE):
                 pass
 
 
@@ -193,7 +194,7 @@ def is_standard_output(found: os.stat_result) -> bool:
         return False
 
 
-def kind_of(path: str) -> str | None:
+def kind_of_file(path: str) -> str | None:
     """Returns what a regular file begins as, if that is not to be replaced."""
     with open(path, 'rb') as file:
         begin = file.read(8)
@@ -210,7 +211,7 @@ def write_all(number: int, blocks: Iterable[bytes]) -> None:
     gathered = bytearray()
     for block in blocks:
         gathered += block
-        if len(gathered) >= AT_ONCE:
+        if len(gathered) >= BYTES_AT_ONCE:
             write_whole(number, gathered)
             gathered = bytearray()
     write_whole(number, gathered)
@@ -239,7 +240,7 @@ def held() -> Iterator[None]:
 def part_beside(target: str, mode: int) -> Iterator[tuple[str, int]]:
     """A new file in the folder of a path: its path, and the number under which it is open. In the
     end nothing has its name, whatever fails and whichever signals come."""
-    part, number = os.path.join(os.path.dirname(target), PART + secrets.token_hex(8)), -1
+    part, number = os.path.join(os.path.dirname(target), UNFINISHED + secrets.token_hex(8)), -1
     try:
         number = os.open(part, os.O_WRONLY | os.O_CREAT | os.O_EXCL, mode)
         yield part, number

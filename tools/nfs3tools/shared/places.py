@@ -54,7 +54,7 @@ class Fault(typing.NamedTuple):
 PLACE = re.compile(r'(?:first: |second: |differ at )?'
                    r'(?:connection (\d{1,18}) (client|server) record (\d{1,18})'
                    r'(?: byte (\d{1,18}))?|file (\d{1,18}))(?:: (\w+))?')
-COUNTED = re.compile(r'(\d{1,18}):(\d{1,18})(?: frame \d{1,18})?')
+COUNTED_CALL = re.compile(r'(\d{1,18}):(\d{1,18})(?: frame \d{1,18})?')
 LISTED = re.compile(r'(\d{1,18}) (client|server) (\d{1,18})(?: xid=.*)?')
 FRAME = re.compile(r'frame (\d{1,18})')
 EXAMPLE = "as in 'connection 1 server record 7 byte 24'"
@@ -72,19 +72,19 @@ def parse_place(text: str) -> Place | FilePlace | FramePlace:
     """
     for line in map(str.strip, text.splitlines()):
         listed, found, frame = LISTED.fullmatch(line), PLACE.fullmatch(line), FRAME.fullmatch(line)
-        counted = COUNTED.fullmatch(line)
+        counted = COUNTED_CALL.fullmatch(line)
         if counted:
             return Place(int(counted[1]), 'client', int(counted[2]))
         if listed:
             return Place(int(listed[1]), side_of(listed[2]), int(listed[3]))
         if found:
-            return place_of(found)
+            return matched_place(found)
         if frame:
             return FramePlace(int(frame[1]))
     raise NoPlace(f'no position: {text.strip()[:200]} ({EXAMPLE})')
 
 
-def place_of(found: re.Match[str]) -> Place | FilePlace:
+def matched_place(found: re.Match[str]) -> Place | FilePlace:
     if found[5] is not None:
         return FilePlace(int(found[5]))
     return Place(int(found[1]), side_of(found[2]), int(found[3]),
@@ -94,7 +94,8 @@ def place_of(found: re.Match[str]) -> Place | FilePlace:
 def parse_fault(text: str) -> Fault | None:
     """Reads a line of `check` that refuses a capture; returns `None` for any other line."""
     lines = (PLACE.fullmatch(line.strip()) for line in text.splitlines())
-    return next((Fault(place_of(found), found[6]) for found in lines if found and found[6]), None)
+    return next((Fault(matched_place(found), found[6]) for found in lines if found and found[6]),
+                None)
 
 
 def side_of(word: str) -> Side:

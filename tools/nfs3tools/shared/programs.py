@@ -21,7 +21,7 @@ COMMANDS = ('check', 'same', 'show')
 PIPE_SIZE = 1 << 16  # of Linux
 NOT_FOUND = ('nfs3canon is missing: it is neither beside the tools nor on the PATH; '
              '`tools/install` in a clone of nfs3canon installs it')
-Stream = typing.Union[typing.IO[bytes], int]
+Redirection = typing.Union[typing.IO[bytes], int]
 # Of a program itself; a shell and a loader have those above for one that cannot run
 MOST_STATUS = 125
 
@@ -140,7 +140,7 @@ def run_side_by_side(commands: typing.Sequence[list[str]],
 
 
 def lines_of_program(program: str, words: list[str], expected: int = 0,
-                     stdin: Stream = subprocess.DEVNULL) -> typing.Iterator[str]:
+                     stdin: Redirection = subprocess.DEVNULL) -> typing.Iterator[str]:
     """Iterates over the lines that a program prints.
 
     Raises `Died` after the last of them unless its status is the one that is expected.
@@ -157,8 +157,8 @@ def lines_of_program(program: str, words: list[str], expected: int = 0,
             raise died([program, *words], process.returncode, text_of(error))
 
 
-def begun(command: list[str], stdin: Stream, stdout: Stream,
-          stderr: Stream) -> 'subprocess.Popen[bytes]':
+def begun(command: list[str], stdin: Redirection, stdout: Redirection,
+          stderr: Redirection) -> 'subprocess.Popen[bytes]':
     """Raises `Died` if the program cannot be started, as when memory is short."""
     try:
         return subprocess.Popen(command, bufsize=PIPE_SIZE, stdin=stdin, stdout=stdout,

@@ -88,7 +88,8 @@ def is_as_wide(rows: Sequence[Styled], width: int) -> bool:
     return all(len(line) <= width for line in columns([row.cells for row in rows]))
 
 
-def lines_of(rows: Sequence[Styled], screen: Screen, right: Container[int] = ()) -> Iterator[str]:
+def table_lines(rows: Sequence[Styled], screen: Screen,
+                right: Container[int] = ()) -> Iterator[str]:
     """Returns the lines of a table, as `columns` does. On a terminal the last cell is wrapped, or
     below its row if too little is left for it."""
     last = [row.cells[-1] for row in rows]
@@ -114,9 +115,9 @@ def wrapped_lines(rows: Sequence[Styled], heads: Sequence[str], screen: Screen) 
 
 def panels(rows: Sequence[Styled], screen: Screen, right: Container[int] = (),
            text: int = 0) -> Iterator[str]:
-    """Returns the lines of a table as `lines_of` does. If it is too wide for the terminal, it has
-    panels below each other, each with the first column and as many of the others as fit. If `text`
-    is given, the first panel has so many columns, of which the last is the coloured text."""
+    """Returns the lines of a table as `table_lines` does. If it is too wide for the terminal, it
+    has panels below each other, each with the first column and as many of the others as fit. If
+    `text` is given, the first panel has so many columns, of which the last is the coloured text."""
     is_narrow = screen.width is not None and not is_as_wide(rows, screen.width)
     first = text if is_narrow else 0
     found = panels_of([[*row.cells[:1], *row.cells[first or 1:]] for row in rows], screen.width)
@@ -128,8 +129,8 @@ def panels(rows: Sequence[Styled], screen: Screen, right: Container[int] = (),
         is_last = numbers[-1] == last
         some = [Styled([row.cells[number] for number in numbers], row.colour if is_last else None)
                 for row in rows]
-        yield from lines_of(some if is_last else padded(some, numbers[-1] in right), screen,
-                            [at for at, number in enumerate(numbers) if number in right])
+        yield from table_lines(some if is_last else padded(some, numbers[-1] in right), screen,
+                               [at for at, number in enumerate(numbers) if number in right])
 
 
 def padded(rows: Sequence[Styled], is_right: bool) -> list[Styled]:

@@ -9,14 +9,14 @@ import re
 from pathlib import Path
 
 TOP = Path(__file__).resolve().parents[3]
-CHANGES = Path(__file__).resolve().parents[2] / 'CHANGELOG.md'
-SECTION = re.compile(r'# Changelog of the tools\n.*?^## (\d+\.\d+\.\d+\S*)',
-                     re.MULTILINE | re.DOTALL)
+CHANGELOG = Path(__file__).resolve().parents[2] / 'CHANGELOG.md'
+NEWEST = re.compile(r'# Changelog of the tools\n.*?^## (\d+\.\d+\.\d+\S*)',
+                    re.MULTILINE | re.DOTALL)
 
 
 def version() -> str:
     """Returns the version, as `1.2.0`."""
-    found = SECTION.match(CHANGES.read_text(encoding='utf-8')) if CHANGES.is_file() else None
+    found = NEWEST.match(CHANGELOG.read_text(encoding='utf-8')) if CHANGELOG.is_file() else None
     if found:
         return found[1]
     import importlib.metadata  # only here, since it takes 30 ms

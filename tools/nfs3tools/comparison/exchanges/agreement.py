@@ -5,12 +5,12 @@ from collections.abc import Sequence
 
 from ...exchanges.searches import SpelledAttributes
 from .changes import Changes
-from .facts import Fact, Facts, Told
+from .facts import Fact, Facts, Statement
 
 NOTHING_ELSE = 'no other answer has attributes of the object'
 
 
-def disagrees(facts: Facts, changes: Changes | None, at: int, told: Told) -> str:
+def disagrees(facts: Facts, changes: Changes | None, at: int, told: Statement) -> str:
     """Returns why the attributes in an answer are not those of other answers, or nothing. With an
     equal ctime all have to be equal. If there is none, the object has to be the same before and
     after, with the mode and owners of one of both, and a known size."""

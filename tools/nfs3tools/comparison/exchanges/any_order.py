@@ -11,7 +11,7 @@ from ...recordings.taken import Taken
 from ..values.classes import Mask
 from .changes import BothChanges, Change
 from .explained import Explainer
-from .extras import Counted, Extras, refused
+from .extras import Extras, ReasonsOfCalls, refused
 from .facts import Facts
 from .followed import Followed, partners_of, with_values
 from .matching import Pair
@@ -29,7 +29,7 @@ class Explanation:
         each with the reason
     """
     pairs: dict[Pair, list[Change]] = field(default_factory=dict)
-    counted: Counted = field(default_factory=lambda: (dict[int, str](), dict[int, str]()))
+    counted: ReasonsOfCalls = field(default_factory=lambda: (dict[int, str](), dict[int, str]()))
 
 
 class TwoRuns:

@@ -14,12 +14,12 @@ from .facts import LINK, Facts
 from .matching import Pair
 from .turns import Turns
 
-GONE, ANY = 0, -1  # what a name leads to after a removal, and if that is not known
+GONE, ANY_OBJECT = 0, -1  # what a name leads to after a removal, and if that is not known
 REMOVING = frozenset(('NFSPROC3_REMOVE', 'NFSPROC3_RMDIR'))
 RENAME = 'NFSPROC3_RENAME'
 # What a change is of: an object by its identity, or a name in a folder. Both are the same in both
 # runs.
-Key = Union[int, tuple[int, str]]
+ChangeKey = Union[int, tuple[int, str]]
 
 
 class Change(NamedTuple):
@@ -30,7 +30,7 @@ class Change(NamedTuple):
     at: int
 
 
-class Moment(NamedTuple):
+class MetChanges(NamedTuple):
     """The changes of a key as a question meets them, by their names: those that were answered
     before it was sent, and those that overlap it."""
     done: dict[int, int]
@@ -43,9 +43,9 @@ class Changes:
     def __init__(self, turns: Turns, facts: Facts) -> None:
         self.turns, self.facts, self.outlines = turns, facts, facts.outlines
         self.frames_of, self.named = turns.of, turns.named
-        self.of_key = defaultdict[Key, list[int]](list)
+        self.of_key = defaultdict[ChangeKey, list[int]](list)
         for at in facts.changing:
-            keys: set[Key] = {*self.names_of(at), *self.objects_of(at)}
+            keys: set[ChangeKey] = {*self.names_of(at), *self.objects_of(at)}
             for key in keys:
                 self.of_key[key].append(at)
         for at in facts.changing:
@@ -55,7 +55,7 @@ class Changes:
     def take_removed(self, at: int) -> None:
         """Notes a change of the objects to which its names led."""
         for name in self.names_of(at):
-            for identity in self.leads(at, name) - {GONE, ANY}:
+            for identity in self.leads(at, name) - {GONE, ANY_OBJECT}:
                 self.of_key[identity].append(at)
 
     def identity(self, handle: int) -> int:
@@ -73,7 +73,7 @@ class Changes:
         handles = [*self.outlines.objects_of(at), self.outlines.found[at]]
         return filter(None, (self.identity(handle) for handle in handles if handle))
 
-    def met(self, at: int, key: Key) -> Moment:
+    def met(self, at: int, key: ChangeKey) -> MetChanges:
         """Returns the changes of a key as an exchange meets them."""
         begin, end = self.frames_of(at)
         done, over = dict[int, int](), dict[int, int]()
@@ -85,7 +85,7 @@ class Changes:
                 done[self.named(change)] = change
             elif its_begin < end:
                 over[self.named(change)] = change
-        return Moment(done, over)
+        return MetChanges(done, over)
 
     def leads(self, at: int, name: tuple[int, str]) -> set[int]:
         """Returns to what a name may lead when an exchange is sent: as the last change before it
@@ -108,7 +108,7 @@ class Changes:
                 return GONE
             return self.led(at, source)
         handle = outlines.folders[at] if procedure == LINK else outlines.found[at]
-        return (self.identity(handle) if handle else 0) or ANY
+        return (self.identity(handle) if handle else 0) or ANY_OBJECT
 
     def led(self, at: int, name: tuple[int, str]) -> int:
         """Returns to what a name led before a change, by what earlier answers say of it."""
@@ -117,7 +117,7 @@ class Changes:
                 for folder in self.facts.handles.get(name[0], ())
                 for one, handle in self.facts.leads.get((folder, name[1]), ())
                 if handle and self.frames_of(one)[1] < begin]
-        return max(told)[1] or ANY if told else ANY
+        return max(told)[1] or ANY_OBJECT if told else ANY_OBJECT
 
 
 class BothChanges:
@@ -126,7 +126,7 @@ class BothChanges:
     def __init__(self, turns: tuple[Turns, Turns], facts: tuple[Facts, Facts]) -> None:
         self.runs = Changes(turns[0], facts[0]), Changes(turns[1], facts[1])
 
-    def otherwise(self, pair: Pair, key: Key) -> list[Change]:
+    def otherwise(self, pair: Pair, key: ChangeKey) -> list[Change]:
         """Returns the changes of a key that stand otherwise to a question: in one run they were
         answered before it was sent, and in the other not, or they overlap it in either."""
         moments = [changes.met(at, key) for changes, at in zip(self.runs, pair)]

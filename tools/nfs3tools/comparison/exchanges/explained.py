@@ -23,20 +23,21 @@ from ...exchanges.objects import MAKING
 from ...exchanges.whose import Labels
 from ..values.classes import CLASSES, Mask, Way
 from .agreement import NOTHING_ELSE, disagrees, end_of_writes
-from .changes import ANY, GONE, BothChanges, Change, Key
-from .facts import DONE, LOOKUP, NO_ENTRY, Facts, Told, answer_in, is_silly
+from .changes import ANY_OBJECT, GONE, BothChanges, Change, ChangeKey
+from .facts import DONE, LOOKUP, NO_ENTRY, Facts, Statement, facts_in_reply, is_silly
 from .matching import Pair
 
-SIZES = frozenset(('size', 'nlink'))
-BY_CHANGES = SIZES | {'used', 'atime_sec', 'atime_nsec', 'mtime_sec', 'mtime_nsec', 'ctime_sec',
-                      'ctime_nsec'}
+SIZE_ITEMS = frozenset(('size', 'nlink'))
+BY_CHANGES = SIZE_ITEMS | {'used', 'atime_sec', 'atime_nsec', 'mtime_sec', 'mtime_nsec',
+                           'ctime_sec', 'ctime_nsec'}
 BY_SETTING = frozenset(('mode', 'uid', 'gid'))
 # Values that follow their objects and entries.
-FOLLOWING = {'fileid': 'ids', 'fsid': 'fsids', 'cookie': 'cookies', 'cookieverf': 'cookieverfs'}
+FOLLOWING_ITEMS = {'fileid': 'ids', 'fsid': 'fsids', 'cookie': 'cookies',
+                   'cookieverf': 'cookieverfs'}
 SETATTR = 'NFSPROC3_SETATTR'
 # The objects of which a call has the handles, by the words of labels: the folder of a LINK and the
 # target of a RENAME are second.
-SECONDS = frozenset((('NFSPROC3_LINK', 'dir'), ('NFSPROC3_RENAME', 'to-dir')))
+SECOND_HANDLES = frozenset((('NFSPROC3_LINK', 'dir'), ('NFSPROC3_RENAME', 'to-dir')))
 
 
 class Unexplained(Exception):
@@ -68,10 +69,10 @@ class Reply:
         return identities[number] if number < len(identities) else 0
 
     @cached_property
-    def told(self) -> list[Told]:
+    def told(self) -> list[Statement]:
         """What it says of all objects."""
-        return answer_in(self.procedure, self.outlines.objects_of(self.at),
-                         self.facts.names.get(self.at, ('',))[0], self.message.text).told
+        return facts_in_reply(self.procedure, self.outlines.objects_of(self.at),
+                              self.facts.names.get(self.at, ('',))[0], self.message.text).told
 
     @property
     def folder(self) -> int:
@@ -88,7 +89,7 @@ class Reply:
         """Returns the object of a part of the reply."""
         if word == 'obj' and self.procedure in MAKING:
             return self.found
-        if (self.procedure, word) in SECONDS:
+        if (self.procedure, word) in SECOND_HANDLES:
             return self.outlines.identities[self.outlines.seconds[self.at]]
         return self.folder
 
@@ -134,11 +135,11 @@ class Explainer:
 
     def __init__(self, changes: BothChanges, facts: tuple[Facts, Facts], mask: Mask) -> None:
         self.changes, self.facts, self.mask = changes, facts, mask
-        self.found = dict[tuple[Pair, Key], list[Change]]()  # of the last pair
+        self.found = dict[tuple[Pair, ChangeKey], list[Change]]()  # of the last pair
         self.free = frozenset(name for one in CLASSES for name in one.items
                               if mask.get(one.name) is Way.ZERO and not one.is_of_changes
                               and not one.has_names)
-        self.free |= {name for name, way in FOLLOWING.items() if way in mask}
+        self.free |= {name for name, way in FOLLOWING_ITEMS.items() if way in mask}
 
     def explained(self, pair: Pair) -> list[Change] | None:
         """Returns the changes that explain how two answers differ, or None if something else does.
@@ -180,7 +181,7 @@ class Explainer:
             return self.of_listing(pair, both)
         return self.of_fields(pair, *(one.fields(range(len(one.message.items))) for one in both))
 
-    def otherwise(self, pair: Pair, key: Key) -> list[Change]:
+    def otherwise(self, pair: Pair, key: ChangeKey) -> list[Change]:
         """Returns the changes that stand otherwise to a pair. There has to be one."""
         if not key:
             raise Unexplained
@@ -201,7 +202,7 @@ class Explainer:
             to = reply.found if reply.status == DONE else GONE
             leads = self.changes.runs[run].leads(pair[run], name) or self.changes.beginning(
                 pair, name) or {to}
-            if to not in leads and ANY not in leads:
+            if to not in leads and ANY_OBJECT not in leads:
                 raise Unexplained
         for reply in both:
             if reply.found:
@@ -239,7 +240,7 @@ class Explainer:
     def check_sizes(self, pair: Pair, first: Sequence[Field], second: Sequence[Field]) -> None:
         """Raises `Unexplained` if a size or a count of links differs that no other answer has."""
         for part in {one.part for one, other in zip(first, second)
-                     if one.name in SIZES and one.value != other.value}:
+                     if one.name in SIZE_ITEMS and one.value != other.value}:
             for run, fields in enumerate((first, second)):
                 values = {field.name: field.value for field in fields if field.part == part}
                 identity = next(field.identity for field in fields if field.part == part)

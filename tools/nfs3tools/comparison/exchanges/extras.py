@@ -12,12 +12,12 @@ from collections.abc import Container, Iterable
 from ...exchanges.in_words import LISTINGS, short_name
 from ...exchanges.searches import names_in
 from .agreement import disagrees
-from .changes import ANY, GONE, BothChanges
-from .facts import ACCESS, DONE, LOOKUP, NO_ENTRY, Facts, answer_in, is_silly
+from .changes import ANY_OBJECT, GONE, BothChanges
+from .facts import ACCESS, DONE, LOOKUP, NO_ENTRY, Facts, facts_in_reply, is_silly
 
 FEW, SHARE = 10, 10  # so many calls of a procedure, or one of so many
-Asked = tuple[str, int, tuple[str, ...]]  # the procedure, the object, and the name
-Counted = tuple[dict[int, str], dict[int, str]]  # calls of both runs, each with a reason
+Question = tuple[str, int, tuple[str, ...]]  # the procedure, the object, and the name
+ReasonsOfCalls = tuple[dict[int, str], dict[int, str]]  # calls of both runs, each with a reason
 
 
 class Extras:
@@ -37,7 +37,7 @@ class Extras:
         self.names = {(self.outlines.identities[self.outlines.folders[at]], name)
                       for at, names in facts.names.items() if at not in own for name in names}
 
-    def asked(self, at: int) -> Asked:
+    def asked(self, at: int) -> Question:
         """Returns what a call asks, whoever asks."""
         return (self.outlines.procedure_of(at), self.folder(at), self.facts.names.get(at, ()))
 
@@ -75,8 +75,8 @@ class Extras:
                 or self.wrong_entries(at, call.value_of('cookie') or '', replies[0].text, other))
 
     def wrong_attributes(self, at: int, procedure: str, text: str) -> str:
-        told = answer_in(procedure, self.outlines.objects_of(at),
-                         self.facts.names.get(at, ('',))[0], text).told
+        told = facts_in_reply(procedure, self.outlines.objects_of(at),
+                              self.facts.names.get(at, ('',))[0], text).told
         if at in self.facts.odd:
             return 'it has another file id than its run elsewhere'
         found = (disagrees(self.facts, self.changes, at, one) for one in told)
@@ -100,7 +100,7 @@ class Extras:
         to = self.outlines.identities[handle] if status == DONE else GONE
         pair = (at, -1) if self.run == 0 else (-1, at)
         leads = self.changes.leads(at, name) or self.both.beginning(pair, name) or {to}
-        return '' if to in leads or ANY in leads else 'the name leads elsewhere'
+        return '' if to in leads or ANY_OBJECT in leads else 'the name leads elsewhere'
 
     # --- Folders ---
 
@@ -116,18 +116,18 @@ class Extras:
         own = self.facts.entries_of(folder, at)
         if names - leads.keys() - own - other.facts.entries_of(folder, -1):
             return 'it has a name that no other answer has'
-        stay = {name for name, some in leads.items() if some and not some & {GONE, ANY}}
+        stay = {name for name, some in leads.items() if some and not some & {GONE, ANY_OBJECT}}
         wanted = {name for name in stay | own - leads.keys() if not is_silly(name)}
         is_whole = cookie == '0' and text.endswith(' eof=1')
         return 'it lacks a name' if is_whole and wanted - names else ''
 
 
-def refused(extras: tuple[Extras, Extras]) -> Counted:
+def refused(extras: tuple[Extras, Extras]) -> ReasonsOfCalls:
     """Returns the calls that are differences all the same, of the first and of the second run, each
     with the reason."""
     first, second = extras
     common = set(map(first.asked, first.some)) & set(map(second.asked, second.some))
-    out: Counted = {}, {}
+    out: ReasonsOfCalls = {}, {}
     for run, other, found in ((first, second, out[0]), (second, first, out[1])):
         more = run.more_than(other)
         for at in run.some:

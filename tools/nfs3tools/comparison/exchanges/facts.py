@@ -23,7 +23,7 @@ DONE, NO_ENTRY = '0', '2'
 SILLY = next(one for one in CLASSES if one.name == 'sillynames')
 
 
-class Told(NamedTuple):
+class Statement(NamedTuple):
     """What an answer says of an object: its attributes, and when they were changed. Of an entry
     without attributes it is the file id alone. The object is known by its handle, or as a name in a
     folder if the answer has none."""
@@ -41,9 +41,9 @@ class Lead(NamedTuple):
     handle: int
 
 
-class Answer(NamedTuple):
+class ReplyFacts(NamedTuple):
     """What a reply says."""
-    told: list[Told]
+    told: list[Statement]
     leads: list[Lead]
 
 
@@ -54,42 +54,42 @@ def owners_of(procedure: str, handles: Sequence[int], found: int, is_done: bool)
     return handles if len(handles) == 2 else [handles[0]] * 2
 
 
-def answer_in(procedure: str, handles: Sequence[int], name: str, text: str) -> Answer:
+def facts_in_reply(procedure: str, handles: Sequence[int], name: str, text: str) -> ReplyFacts:
     """Reads what a reply says, to a call with these handles and this name."""
     if not handles:
-        return Answer([], [])
+        return ReplyFacts([], [])
     parts = list(parts_in(text))
     if procedure in LISTINGS:
-        return of_entries(handles[0], parts)
+        return entry_facts(handles[0], parts)
     is_done = ' status=0' in text
     found = next((part.handle for part in parts if part.handle is not None), 0)
-    told = [told_of(part, owner)
+    told = [statement_of(part, owner)
             for part, owner in zip(filter(lambda part: part.is_of_attributes, parts),
                                    owners_of(procedure, handles, found, is_done))
             if part.attributes and owner]
     is_lead = procedure in MAKING and found or procedure == LOOKUP and ' status=2' in text
-    return Answer(told, [Lead(handles[0], name, found)] if is_lead else [])
+    return ReplyFacts(told, [Lead(handles[0], name, found)] if is_lead else [])
 
 
-def told_of(part: ReplyPart, handle: int, name: str = '') -> Told:
-    return Told(handle, name, part.attributes, part.ctime, part.fileid)
+def statement_of(part: ReplyPart, handle: int, name: str = '') -> Statement:
+    return Statement(handle, name, part.attributes, part.ctime, part.fileid)
 
 
-def of_entries(folder: int, parts: Iterable[ReplyPart]) -> Answer:
+def entry_facts(folder: int, parts: Iterable[ReplyPart]) -> ReplyFacts:
     """Reads the entries of a folder: each has a name, then attributes if it has some, and then a
     handle if it has one."""
-    told, leads, first = list[Told](), list[Lead](), 0
+    told, leads, first = list[Statement](), list[Lead](), 0
     name: str | None = None  # of the entry
     for part in parts:
         if part.name is not None:
             first, name = len(told), part.name
-            told.append(told_of(part, *of_name(folder, name)))
+            told.append(statement_of(part, *of_name(folder, name)))
         elif part.attributes:
-            told.append(told_of(part, *of_name(folder, name or '.')))
+            told.append(statement_of(part, *of_name(folder, name or '.')))
         elif part.handle is not None and name is not None:
             leads.append(Lead(folder, name, part.handle))
             told[first:] = [one._replace(handle=part.handle, name='') for one in told[first:]]
-    return Answer(told, leads)
+    return ReplyFacts(told, leads)
 
 
 def of_name(folder: int, name: str) -> tuple[int, str]:
@@ -143,7 +143,7 @@ class Facts:
     def take_call(self, at: int, line: Line) -> None:
         text = line.text
         if at in self.wanted:
-            self.messages[at] = message_of(line), []
+            self.messages[at] = message_without_data(line), []
         names = names_in(text)
         if names:
             self.names[at] = tuple(names)
@@ -159,12 +159,12 @@ class Facts:
 
     def take_reply(self, at: int, line: Line) -> None:
         if at in self.wanted:
-            self.messages[at][1].append(message_of(line))
+            self.messages[at][1].append(message_without_data(line))
         handles = self.outlines.objects_of(at)
         if self.objects is not None and line.procedure not in LISTINGS and not any(
                 handle in self.objects for handle in (*handles, self.outlines.found[at])):
             return
-        answer = answer_in(line.procedure, handles, self.names.get(at, ('',))[0], line.text)
+        answer = facts_in_reply(line.procedure, handles, self.names.get(at, ('',))[0], line.text)
         for one in answer.told:
             self.take_told(at, one)
         for folder, name, handle in answer.leads:
@@ -177,7 +177,7 @@ class Facts:
             if granted is not None:
                 self.bits[handles[0], self.asked_bits[at]].append((at, granted))
 
-    def take_told(self, at: int, one: Told) -> None:
+    def take_told(self, at: int, one: Statement) -> None:
         own = one.handle, one.name
         fsid = one.attributes.fsid if one.attributes else ''
         self.votes[own][fsid, one.fileid] += 1
@@ -220,7 +220,7 @@ class Facts:
                 for fact in self.told.get(handle, ()))
 
 
-def message_of(line: Line) -> Message:
+def message_without_data(line: Line) -> Message:
     """Returns the message of a line, without the digits of data, which are compared elsewhere."""
     return Message(line.connection, 'client' if line.is_call else 'server', line.record, line.xid,
                    line.procedure, line.text)

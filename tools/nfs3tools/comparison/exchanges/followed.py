@@ -17,15 +17,15 @@ from ...exchanges.searches import cookies_in, cookies_of_names_in, verifier_in
 from ...recordings.records import LAST_FRAGMENT
 from ...recordings.spool import Spool, Stored
 from ...recordings.taken import Taken, TakenStream, whole
-from ...shared.layouts import BY_NAME, Message
+from ...shared.layouts import BY_NAME, BodyReader
 from ...shared.places import SIDES, Side
-from .facts import Facts, Known, answer_in
+from .facts import Facts, Known, facts_in_reply
 from .pairing import Listing, Pairing
 
 CREATE = 'NFSPROC3_CREATE'
 
 # The values of a message that others take the place of, by the names of items.
-Values = dict[tuple[str, str], str]
+Replacements = dict[tuple[str, str], str]
 
 
 def partners_of(pairing: Pairing) -> dict[int, int]:
@@ -52,7 +52,7 @@ class Followed:
         self.verifiers = self.verifiers_of(listings) if 'createverfs' in classes else {}
         self.cookies = self.cookies_of(listings) if 'cookies' in classes else {}
         self.has_ids = not classes.isdisjoint(('ids', 'fsids'))
-        self.values = dict[LinePlace, Values]()
+        self.values = dict[LinePlace, Replacements]()
         for at, line in pairing.there.each(map(line_of, listings[1]())):
             values = self.of_call(at, line) if line.is_call else self.of_reply(at, line)
             changed = {key: new for key, new in values.items() if key[1] != new}
@@ -84,31 +84,31 @@ class Followed:
                 for (folder, name), cookie in second.items()
                 if (self.partners.get(folder, 0), name) in first}
 
-    def of_call(self, at: int, line: Line) -> Values:
+    def of_call(self, at: int, line: Line) -> Replacements:
         if line.procedure in LISTINGS:
             return self.of_cookies(at, line.text)
         own = verifier_in(line.text) if line.procedure == CREATE else None
         new = self.verifiers.get((self.pairing.there.asked[at], own)) if own else None
         return {('createverf', own): new} if own and new else {}
 
-    def of_cookies(self, at: int, text: str) -> Values:
+    def of_cookies(self, at: int, text: str) -> Replacements:
         folder = self.pairing.there.folders[at]
         return {('cookie', cookie): new for cookie in cookies_in(text)
                 if (new := self.cookies.get((folder, cookie)))}
 
-    def of_reply(self, at: int, line: Line) -> Values:
+    def of_reply(self, at: int, line: Line) -> Replacements:
         there = self.pairing.there
         values = self.of_cookies(at, line.text) if line.procedure in LISTINGS else {}
         if not self.has_ids:
             return values
         name = self.facts[1].names.get(at, ('',))[0]
-        for one in answer_in(line.procedure, there.objects_of(at), name, line.text).told:
+        for one in facts_in_reply(line.procedure, there.objects_of(at), name, line.text).told:
             own, other = self.facts[1].ids[one.handle, one.name], self.id_of((one.handle, one.name))
             fsid = one.attributes.fsid if one.attributes else ''
             if other:
-                values.update(turned('fileid', one.fileid, own[1], other[1]))
+                values.update(swapped_ids('fileid', one.fileid, own[1], other[1]))
             if other and fsid and own[0] and other[0]:
-                values.update(turned('fsid', fsid, own[0], other[0]))
+                values.update(swapped_ids('fsid', fsid, own[0], other[0]))
         return values
 
     def id_of(self, own: Known) -> tuple[str, str] | None:
@@ -117,7 +117,7 @@ class Followed:
         return None if partner is None else self.facts[0].ids.get((partner, own[1]))
 
 
-def turned(name: str, told: str, own: str, other: str) -> Values:
+def swapped_ids(name: str, told: str, own: str, other: str) -> Replacements:
     """Returns what becomes of an id that an answer has of an object: its own becomes that of the
     first run. Another id stays. If that is the first run's, it becomes the object's own, so that it
     differs."""
@@ -126,7 +126,8 @@ def turned(name: str, told: str, own: str, other: str) -> Values:
 
 # --- The second run, written anew ---
 
-def with_values(taken: Taken, values: Mapping[LinePlace, Values], lines: Iterable[str]) -> Taken:
+def with_values(taken: Taken, values: Mapping[LinePlace, Replacements],
+                lines: Iterable[str]) -> Taken:
     """Returns a run with other values in some messages, each record as one fragment."""
     procedures = {place: line.procedure for line in map(line_of, lines)
                   if (place := LinePlace(line.connection, line.is_call, line.record)) in values}
@@ -139,7 +140,8 @@ def with_values(taken: Taken, values: Mapping[LinePlace, Values], lines: Iterabl
     return out
 
 
-def bodies_of(stream: TakenStream, connection: int, side: Side, values: Mapping[LinePlace, Values],
+def bodies_of(stream: TakenStream, connection: int, side: Side,
+              values: Mapping[LinePlace, Replacements],
               procedures: Mapping[LinePlace, str]) -> Iterator[bytes]:
     for number, body in stream.records():
         place = LinePlace(connection, side == 'client', number)
@@ -147,9 +149,9 @@ def bodies_of(stream: TakenStream, connection: int, side: Side, values: Mapping[
                if place in values else body)
 
 
-def with_some(body: bytes, is_call: bool, procedure: str, values: Values) -> bytes:
+def with_some(body: bytes, is_call: bool, procedure: str, values: Replacements) -> bytes:
     """Returns a message with other values. All of them have eight bytes."""
-    message, out = Message(body), bytearray(body)
+    message, out = BodyReader(body), bytearray(body)
     message.read(is_call, BY_NAME[procedure])
     for item in message.items:
         new = values.get((item.name, item.value))

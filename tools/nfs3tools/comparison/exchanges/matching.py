@@ -9,7 +9,7 @@ from collections.abc import Hashable, Sequence
 from typing import NamedTuple
 
 # Up to so many pairs of elements that have no anchor are compared each with each.
-COMPARED_AT_MOST = 1_000_000
+PAIRS_AT_MOST = 1_000_000
 # Two sequences that part meet again if so many elements are equal, at most so many elements on.
 ENOUGH, NEAR = 4, 32
 STEP = 1_024
@@ -61,7 +61,7 @@ def by_turn(first: Sequence[Hashable], second: Sequence[Hashable]) -> list[Pair]
 
 
 def without_anchor(first: Sequence[Hashable], second: Sequence[Hashable]) -> list[Pair]:
-    if len(first) * len(second) > COMPARED_AT_MOST:
+    if len(first) * len(second) > PAIRS_AT_MOST:
         return by_turn(first, second)
     matcher = difflib.SequenceMatcher(None, first, second, autojunk=False)
     return [(block.a + at, block.b + at) for block in matcher.get_matching_blocks()

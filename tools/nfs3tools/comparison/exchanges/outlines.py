@@ -19,7 +19,7 @@ from ...exchanges.answering import Answering
 from ...exchanges.listing import Line, Message, line_of
 from ...exchanges.objects import LISTING, MAKING
 from ...exchanges.searches import (
-    alike_in, first_handle_in, first_name_in, handles_in, names_and_handles_in, values_of)
+    alike_in, first_handle_in, first_name_in, handles_in, names_and_handles_in, pattern_of_items)
 from ..values.bindings import RENAMED
 from ..values.classes import CLASSES, Mask, Way
 
@@ -27,8 +27,8 @@ from ..values.classes import CLASSES, Mask, Way
 CHANGING = frozenset(f'NFSPROC3_{name}' for name in (
     'SETATTR', 'WRITE', 'CREATE', 'MKDIR', 'SYMLINK', 'MKNOD', 'REMOVE', 'RMDIR', 'RENAME', 'LINK'))
 NAMING = MAKING | {'MOUNTPROC3_MNT'}  # calls whose answers have the handle of a name
-DOTS = hash('.'), hash('..')  # the folder itself, and the one above it
-UNKNOWN, SEEN, MADE = range(3)  # how well it is known where an object is
+DOT_HASHES = hash('.'), hash('..')  # the folder itself, and the one above it
+UNSEEN, SEEN, MADE = range(3)  # how well it is known where an object is
 
 
 def classes_of_items(mask: Mask) -> dict[str, str]:
@@ -39,14 +39,14 @@ def classes_of_items(mask: Mask) -> dict[str, str]:
 
 def renamed_values(mask: Mask) -> re.Pattern[str]:
     """Returns what finds the names and values of renamed items in a line."""
-    return values_of(classes_of_items(mask))
+    return pattern_of_items(classes_of_items(mask))
 
 
 # When a call was sent, by its connection and record: a number that grows
 When = Callable[[int, int], int]
 
 
-class Objects:
+class HandleOrigins:
     """What file handles mean: the folder and the name by which each was made, or else reached
     first."""
 
@@ -58,13 +58,13 @@ class Objects:
 
     def learn(self, handle: int, folder: int, name: int, known: int, exchange: int) -> None:
         """Learns where an object is from an exchange, unless it is known better."""
-        if name in DOTS:
+        if name in DOT_HASHES:
             return
         if handle >= len(self.folders):
             more = handle + 1 - len(self.folders)
             for values in (self.folders, self.names, self.origins):
                 values.extend([0] * more)
-            self.known.extend([UNKNOWN] * more)
+            self.known.extend([UNSEEN] * more)
         if known > self.known[handle]:
             self.rivals.pop(handle, None)
             self.place(handle, exchange, folder, name)
@@ -131,7 +131,7 @@ class Outlines:
         # The records of retransmissions, and of replies to these that say the same again
         self.again, self.repeated = dict[int, list[int]](), dict[int, set[int]]()
         self.unmade = set[int]()  # calls that would have changed something, and failed
-        self.objects = Objects()
+        self.objects = HandleOrigins()
         self.take(map(line_of, lines), renamed_values(mask))
         self.names = list(self.procedures)
         self.ask_of_objects(lambda at: when(*self.record_of(at)) if when else at)

@@ -26,7 +26,7 @@ FIRST_CALLS = 50  # by which connections are brought together
 ASKED_BY_MANY = 16  # connections: a call that so many begin with says nothing of one
 # Calls that a gap may have in the second run above those of the first, for what may be elsewhere,
 # too
-NARROW = 8
+SURPLUS_AT_MOST = 8
 NOBODY = -1
 
 
@@ -173,7 +173,7 @@ class Pairing:
         return array('I', filter(None, turns))
 
 
-def together(here: Outlines, there: Outlines) -> list[int]:
+def matched_connections(here: Outlines, there: Outlines) -> list[int]:
     """Returns for each connection the one of the other run that has most calls in common with it at
     its beginning, or else one that begins with the same calls, or with calls of the same
     procedures."""
@@ -224,7 +224,7 @@ class Pairs:
     """The pairs so far, and who has none yet."""
 
     def __init__(self, here: Outlines, there: Outlines) -> None:
-        self.here, self.there, self.homes = here, there, together(here, there)
+        self.here, self.there, self.homes = here, there, matched_connections(here, there)
         self.partners = array('i', [NOBODY]) * len(here)
         self.taken = bytearray(len(there))
         self.home_of_other = {home: place for place, home in enumerate(self.homes)}
@@ -291,7 +291,7 @@ class Pairs:
     def as_often(self, here: Callable[[int], Hashable], there: Callable[[int], Hashable]) -> None:
         """Binds exchanges that have a key in common, if between two neighbours that are bound both
         runs have as many of them."""
-        for own, its in self.gaps(NARROW):
+        for own, its in self.gaps(SURPLUS_AT_MOST):
             waiting = grouped(its, there)
             for key, some in grouped(own, here).items():
                 if len(some) == len(waiting.get(key, ())):
@@ -301,7 +301,7 @@ class Pairs:
     def by_key(self, here: Callable[[int], Hashable], there: Callable[[int], Hashable]) -> None:
         """Binds exchanges that have a key in common: those between near neighbours first, for one
         run may have one more before them."""
-        self.in_gaps(here, there, NARROW)
+        self.in_gaps(here, there, SURPLUS_AT_MOST)
         self.by_turn(here, there)
 
 

@@ -12,7 +12,8 @@ from collections.abc import Iterable, Iterator, Sequence
 from typing import NamedTuple
 
 from ...recordings.container import CHUNK, capture_of
-from ...recordings.records import LAST_FRAGMENT, READ_AT_ONCE, Window, body_of, extent_of, extents
+from ...recordings.records import (
+    FETCHED_AT_ONCE, LAST_FRAGMENT, Window, body_of, extent_of, extents)
 from ...recordings.taken import Taken, TakenStream
 from ...shared.outputs import write_temporary
 from ...shared.places import SIDES, Side
@@ -63,7 +64,7 @@ class Records:
         if at < 0 or end > self.block_begin + len(self.block):
             is_next = at == len(self.block) or 0 < at < len(self.block)
             self.block, self.block_begin, at = self.stream.read(
-                begin, max(end - begin, READ_AT_ONCE * is_next)), begin, 0
+                begin, max(end - begin, FETCHED_AT_ONCE * is_next)), begin, 0
         return self.block[at:at + end - begin]
 
 
@@ -107,7 +108,7 @@ class Rewriting:
         return all(all(records.is_used) for records in self.records.values())
 
 
-class Stream:
+class WrittenStream:
     """One side of the connection that is written."""
 
     def __init__(self, rewriting: Rewriting, side: Side) -> None:
@@ -138,6 +139,7 @@ def write_in_order(taken: Taken, exchanges: Iterable[Numbered], left_out: Iterab
     """
     rewriting = writer(taken, exchanges)
     rewriting.leave_out(left_out)
-    write_temporary(path, capture_of([(Stream(rewriting, 'client'), Stream(rewriting, 'server'))]))
+    write_temporary(path, capture_of([(WrittenStream(rewriting, 'client'),
+                                       WrittenStream(rewriting, 'server'))]))
     if not rewriting.is_whole():
         raise WrongOrder('a message of a run is neither in an order nor left out')

@@ -19,10 +19,10 @@ from .matching import Pair
 from .outlines import CHANGING, Outlines
 from .pairing import NOBODY, Pairing
 
-NEVER = 1 << 62  # when a call is answered that has no reply
+NEVER_ANSWERED = 1 << 62  # when a call is answered that has no reply
 
 
-class Before(NamedTuple):
+class ChangesBefore(NamedTuple):
     """The changes that were answered before a call was sent: how many, and a hash of them that is
     the same in both runs."""
     number: int
@@ -46,7 +46,7 @@ class Turns:
             self.begins.extend(calls[record - 1]
                                for record in outlines.records[own.start:own.stop])
             replies = array('Q', connections[number].server.first_frames())
-            self.ends.extend(replies[record - 1] if record else NEVER
+            self.ends.extend(replies[record - 1] if record else NEVER_ANSWERED
                              for record in outlines.replies[own.start:own.stop])
 
     def of(self, at: int) -> tuple[int, int]:
@@ -78,12 +78,12 @@ class Turns:
         hashes = (hash((self.named(at),)) for at in self.changes)
         return array('q', accumulate(hashes, operator.xor, initial=0))
 
-    def before(self, at: int) -> Optional[Before]:
+    def before(self, at: int) -> Optional[ChangesBefore]:
         """Returns the changes before a call, or None if some overlap it."""
         begin, end = self.of(at)
         number = bisect_left(self.answered, begin)
         others = bisect_left(self.sent, end) - (self.is_change(at) and begin < end)
-        return Before(number, self.digests[number]) if number == others else None
+        return ChangesBefore(number, self.digests[number]) if number == others else None
 
 
 def turns_of(taken: tuple[Taken, Taken], pairing: Pairing) -> tuple[Turns, Turns]:

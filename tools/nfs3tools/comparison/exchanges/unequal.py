@@ -10,12 +10,12 @@ from ..values.classes import Mask
 from .outlines import Outlines, classes_of_items, renamed_values
 from .pairing import Listing
 
-Key = tuple[bool, int]
-Said = tuple[Key, list[str]]
-END: Said = (True, 1 << 62), []
+TurnKey = tuple[bool, int]
+KeyedLines = tuple[TurnKey, list[str]]
+NO_LINES: KeyedLines = (True, 1 << 62), []
 
 
-class Listed:
+class TwoListings:
     """Two captures in canonical form, in one order and one connection: call N of both has the xid
     N. A call may have any number of replies. The turns of exchanges are numbered from 0."""
 
@@ -35,11 +35,11 @@ class Listed:
     def turn_of(self, line: str) -> int:
         return xid_of(line) - 1
 
-    def key_of(self, line: str) -> Key:
+    def key_of(self, line: str) -> TurnKey:
         """Returns whether a line is of a reply, and the turn of its exchange."""
         return not place_of(line).is_call, self.turn_of(line)
 
-    def messages(self, lines: Iterable[str]) -> Iterator[Said]:
+    def messages(self, lines: Iterable[str]) -> Iterator[KeyedLines]:
         """Returns the calls, and then the replies to each call, without their records' numbers."""
         for key, some in groupby(lines, self.key_of):
             yield key, list(map(said_in, some))
@@ -55,19 +55,19 @@ class Listed:
                                             chain([] if other is None else [other], others)))
         return self.of_messages(iter(()), self.messages(others))
 
-    def of_messages(self, ones: Iterator[Said], others: Iterator[Said]) -> set[int]:
+    def of_messages(self, ones: Iterator[KeyedLines], others: Iterator[KeyedLines]) -> set[int]:
         """Returns the turns at which something else is said."""
         out = set[int]()
-        (key, said), (other_key, other_said) = next(ones, END), next(others, END)
-        while (key, other_key) != (END[0], END[0]):
+        (key, said), (other_key, other_said) = next(ones, NO_LINES), next(others, NO_LINES)
+        while (key, other_key) != (NO_LINES[0], NO_LINES[0]):
             least = min(key, other_key)
             if key != other_key or said != other_said:
                 out.add(least[1])
                 self.note(said if key == least else ())
             if key == least:
-                key, said = next(ones, END)
+                key, said = next(ones, NO_LINES)
             if other_key == least:
-                other_key, other_said = next(others, END)
+                other_key, other_said = next(others, NO_LINES)
         return out
 
     def turns_of_values(self, unequal: set[int]) -> set[int]:
@@ -88,7 +88,7 @@ class Listed:
         return out
 
 
-class ListedInPlace(Listed):
+class ListedInPlace(TwoListings):
     """Two captures in canonical form whose exchanges stand in the same places: the turns are the
     numbers of the exchanges."""
 

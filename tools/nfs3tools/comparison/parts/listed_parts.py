@@ -17,33 +17,33 @@ from ...recordings.container import capture_of
 from ...recordings.taken import Taken
 from ..exchanges.outlines import classes_of_items, renamed_values
 from ..exchanges.pairing import Listing
-from ..values.classes import Mask, told
+from ..values.classes import Mask, mask_text
 from ..values.masking import write_masked
 from ..verdict.trial import Trial
 from .marks import Both
 
 # Of a run in parts that are listed at once. The lines are kept, in which each byte has two digits
 # or more.
-BYTES_AT_MOST, CONNECTIONS_AT_MOST = 1 << 20, 4_000
-Lines = tuple[list[str], ...]  # of a part in both runs
+BYTES_AT_MOST, LISTED_CONNECTIONS = 1 << 20, 4_000
+PartLines = tuple[list[str], ...]  # of a part in both runs
 
 
 def listed_at_once(pairs: Iterable[Both]) -> Iterator[list[Both]]:
     """Iterates over parts, as many at once as may be listed together. A larger one is by itself."""
     some, share = list[Both](), 0.0
     for pair in pairs:
-        share += share_of(pair)
+        share += share_of_limits(pair)
         if some and share > 1:
             yield some
-            some, share = [], share_of(pair)
+            some, share = [], share_of_limits(pair)
         some.append(pair)
     if some:
         yield some
 
 
-def share_of(pair: Both) -> float:
+def share_of_limits(pair: Both) -> float:
     """Returns how much of what may be listed at once a part has."""
-    return max(max(part.bytes() / BYTES_AT_MOST, part.size().connections / CONNECTIONS_AT_MOST)
+    return max(max(part.bytes() / BYTES_AT_MOST, part.size().connections / LISTED_CONNECTIONS)
                for part in pair)
 
 
@@ -54,19 +54,20 @@ class ListedParts:
     def __init__(self, trial: Trial, pairs: Sequence[Both]) -> None:
         self.trial = trial
         self.connections = [[part.size().connections for part in parts] for parts in zip(*pairs)]
-        self.forms = dict[str, list[Lines]]()
+        self.forms = dict[str, list[PartLines]]()
 
     @cached_property
-    def recorded(self) -> list[Lines]:
+    def recorded(self) -> list[PartLines]:
         return self.parts_of(map(self.trial.listing, self.trial.captures))
 
-    def canonical(self, mask: Mask) -> list[Lines]:
-        if told(mask) not in self.forms:
-            self.forms[told(mask)] = self.parts_of(self.trial.canonical(self.trial.captures, mask))
-        return self.forms[told(mask)]
+    def canonical(self, mask: Mask) -> list[PartLines]:
+        word = mask_text(mask)
+        if word not in self.forms:
+            self.forms[word] = self.parts_of(self.trial.canonical(self.trial.captures, mask))
+        return self.forms[word]
 
-    def parts_of(self, listings: Iterable[Listing]) -> list[Lines]:
-        return list(zip(*(parts_of(listing(), some)
+    def parts_of(self, listings: Iterable[Listing]) -> list[PartLines]:
+        return list(zip(*(lines_by_part(listing(), some)
                           for listing, some in zip(listings, self.connections))))
 
 
@@ -101,14 +102,14 @@ class PartTrial(Trial):
         if captures is not self.captures:
             return super().canonical(captures, mask)
         mask = mask or {}
-        if told(mask) not in self.forms:
-            self.forms[told(mask)] = [renumbered(lines, mask)
-                                      for lines in self.listed.canonical(mask)[self.at]]
-        first, second = self.forms[told(mask)]
+        if mask_text(mask) not in self.forms:
+            self.forms[mask_text(mask)] = [renumbered(lines, mask)
+                                           for lines in self.listed.canonical(mask)[self.at]]
+        first, second = self.forms[mask_text(mask)]
         return first.__iter__, second.__iter__
 
 
-def parts_of(lines: Iterable[str], connections: Sequence[int]) -> list[list[str]]:
+def lines_by_part(lines: Iterable[str], connections: Sequence[int]) -> list[list[str]]:
     """Returns the lines of each part, by how many connections it has, whose numbers begin with
     1."""
     out, ends = [list[str]() for _ in connections], list(accumulate(connections, initial=0))

@@ -32,14 +32,14 @@ from ..verdict.trial import when_of
 
 MARKING = frozenset(('NFSPROC3_LOOKUP', 'NFSPROC3_CREATE', 'NFSPROC3_MKDIR'))
 # When a call was sent: its frame or 0, its connection, and its record
-Moment = tuple[int, int, int]
+SentAt = tuple[int, int, int]
 
 
 class NoMark(Exception):
     """No call of either run is a mark; its text is the message for the user."""
 
 
-class Name(NamedTuple):
+class PartName(NamedTuple):
     """What a part is called: the name of its mark as the listing spells it, None of the part before
     the first mark, and how often parts had that name so far, from 1."""
     name: str | None
@@ -53,7 +53,7 @@ class Name(NamedTuple):
 
 class Mark(NamedTuple):
     """A call at which a part begins."""
-    moment: Moment
+    moment: SentAt
     name: str
 
 
@@ -67,9 +67,9 @@ class Piece(NamedTuple):
 
 
 @dataclass
-class Part:
+class RunPart:
     """A part of a run: of each of its connections, by their numbers, the pieces of both sides."""
-    name: Name
+    name: PartName
     pieces: dict[int, dict[Side, list[Piece]]] = field(default_factory=dict)
 
     def size(self) -> Size:
@@ -84,7 +84,7 @@ class Part:
     def sides_of(self, connection: int) -> dict[Side, list[Piece]]:
         return self.pieces.setdefault(connection, {'client': [], 'server': []})
 
-    def has_messages_of(self, other: 'Part') -> bool:
+    def has_messages_of(self, other: 'RunPart') -> bool:
         """Whether both parts have the same messages, by their connections and numbers."""
         return self.numbers() == other.numbers()
 
@@ -104,7 +104,7 @@ class Part:
         return replace(message, connection=connection, record=piece.first + left - 1)
 
 
-Both = tuple[Part, Part]  # a part in both runs
+Both = tuple[RunPart, RunPart]  # a part in both runs
 
 
 class Answered:
@@ -134,7 +134,7 @@ class MarkedRun:
                      for connection in taken.connections if taken.has_frames}
         self.answered = defaultdict[int, Answered](Answered)
         marks = begun_by(sorted(self.marks(re.compile(fnmatch.translate(pattern)))))
-        self.parts = named(marks)
+        self.parts = parts_by_marks(marks)
         for connection in taken.connections:
             self.cut(connection, [mark.moment for mark in marks])
         self.parts = [part for part in self.parts if part.pieces]
@@ -163,7 +163,7 @@ class MarkedRun:
                 frame = self.sent[read.connection][connection.calls - 1] if self.sent else 0
                 yield Mark((frame, read.connection, connection.calls), name)
 
-    def cut(self, connection: TakenConnection, begins: Sequence[Moment]) -> None:
+    def cut(self, connection: TakenConnection, begins: Sequence[SentAt]) -> None:
         """Gives the parts, which begin at these moments, their pieces of a connection. One without
         calls is of the first part."""
         answered = self.answered[connection.number]
@@ -177,7 +177,7 @@ class MarkedRun:
         if not calls:
             self.parts[0].sides_of(connection.number)
 
-    def taken_of(self, parts: Iterable[Part]) -> Taken:
+    def taken_of(self, parts: Iterable[RunPart]) -> Taken:
         """Returns what is taken of some parts, one after the other. It ends with what is taken of
         the run."""
         out = Taken(self.taken.spool, self.taken.is_recording, self.taken.has_frames)
@@ -203,12 +203,12 @@ def begun_by(marks: Iterable[Mark]) -> list[Mark]:
     return [next(some) for _, some in groupby(marks, lambda mark: mark.name)]
 
 
-def named(marks: Iterable[Mark]) -> list[Part]:
+def parts_by_marks(marks: Iterable[Mark]) -> list[RunPart]:
     """Returns the parts that begin with these marks, after the one before them."""
-    parts, numbers = [Part(Name(None, 1))], Counter[str]()
+    parts, numbers = [RunPart(PartName(None, 1))], Counter[str]()
     for mark in marks:
         numbers[mark.name] += 1
-        parts.append(Part(Name(mark.name, numbers[mark.name])))
+        parts.append(RunPart(PartName(mark.name, numbers[mark.name])))
     return parts
 
 

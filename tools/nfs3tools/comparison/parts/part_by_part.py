@@ -19,21 +19,21 @@ from ...exchanges.listing import Message
 from ...recordings.taken import Taken
 from ...shared.printed import escaped
 from ..exchanges.outlines import Outlines
-from ..verdict.decision import Judged, judged, run_of, same_of
-from ..verdict.findings import Apart, Compared, Finding, Run, Silent
-from ..verdict.ignored import Ignored, without
+from ..verdict.decision import Judged, judged_runs, run_of, same_of
+from ..verdict.findings import Compared, Finding, ParsedExchanges, Run, Silent
+from ..verdict.ignored import Ignored, without_ignored
 from ..verdict.orders import Choices, NothingToCompare
 from ..verdict.report import PartReport
 from ..verdict.trial import Trial
 from .listed_parts import ListedParts, PartTrial, listed_at_once
-from .marks import Both, MarkedRun, Name, NoMark, Part, is_cut_by_records
+from .marks import Both, MarkedRun, NoMark, PartName, RunPart, is_cut_by_records
 
 # How many parts are judged at once, and by what that is divided if they are not the same
-AT_ONCE, FEWER = 64, 8
+PARTS_AT_ONCE, FEWER = 64, 8
 CONNECTIONS_AT_MOST = 4_000  # of a run in parts that are judged at once
 
 
-class Places:
+class PathsInRun:
     """The paths of what is found in the parts of a run, by the whole run."""
 
     def __init__(self, run: Run, marked: MarkedRun, messages: Sequence[Message]) -> None:
@@ -45,7 +45,7 @@ class Places:
             self.exchanges[message.place] = (outlines.starts[place] + message.record - 1
                                              if message.is_call
                                              else replies(place)[message.record])
-        self.apart = Apart(run, outlines, set(self.exchanges.values()))
+        self.apart = ParsedExchanges(run, outlines, set(self.exchanges.values()))
 
     def path(self, message: Message) -> str | None:
         return self.apart.path(self.exchanges[message.place])
@@ -77,11 +77,11 @@ class PartByPart:
         found = {pair[0].name: one for pair, one in self.judged(both)}
         compared = dict(zip(found, self.with_paths([one.found.compared for one in found.values()])))
         return [self.report(first.get(name), second.get(name), found.get(name),
-                            *without(compared.get(name, Compared()), ignored))
+                            *without_ignored(compared.get(name, Compared()), ignored))
                 for name in (*first, *(name for name in second if name not in first))]
 
-    def report(self, one: Part | None, other: Part | None, said: Judged | None, compared: Compared,
-               left_out: Counter[tuple[str, str]]) -> PartReport:
+    def report(self, one: RunPart | None, other: RunPart | None, said: Judged | None,
+               compared: Compared, left_out: Counter[tuple[str, str]]) -> PartReport:
         part = one or other
         assert part
         name = part.name.name and part.name.name[1:-1]
@@ -97,7 +97,7 @@ class PartByPart:
 
     def judged(self, pairs: Sequence[Both]) -> Iterator[tuple[Both, Judged]]:
         """Judges parts: first those that are the same, and then each of the others."""
-        same = set[Name]()
+        same = set[PartName]()
         for pair in self.same(pairs):
             same.add(pair[0].name)
             yield pair, same_of([part.size() for part in pair], self.choices.order)
@@ -109,7 +109,7 @@ class PartByPart:
         both is: one renaming of the runs renames each part."""
         if self.are_wholes_same and all(one.has_messages_of(other) for one, other in pairs):
             return iter(pairs)
-        return self.same_at_once(pairs, AT_ONCE)
+        return self.same_at_once(pairs, PARTS_AT_ONCE)
 
     def same_at_once(self, pairs: Sequence[Both], at_once: int) -> Iterator[Both]:
         """Judges parts, so many at once, and by fewer if these are not the same. Those that are not
@@ -142,14 +142,14 @@ class PartByPart:
             for at, pair in enumerate(pairs):
                 yield pair, self.alone(PartTrial(listed, at, self.taken([pair])), *pair)
 
-    def alone(self, trial: Trial, one: Part, other: Part) -> Judged:
+    def alone(self, trial: Trial, one: RunPart, other: RunPart) -> Judged:
         """Judges a part. The places of what is found are those in the whole runs."""
         runs = [run_of(trial, *each) for each in zip(trial.runs, trial.captures, self.names)]
         sizes = [one.size(), other.size()]
         try:
-            said = judged(trial, runs, sizes, self.choices)
+            said = judged_runs(trial, runs, sizes, self.choices)
         except NothingToCompare:  # (then what one run alone has is all that there is)
-            said = judged(trial, runs, sizes, replace(self.choices, leaves_out=frozenset()))
+            said = judged_runs(trial, runs, sizes, replace(self.choices, leaves_out=frozenset()))
         compared = said.found.compared
         findings = [replace(finding, first=finding.first and one.in_the_whole(finding.first),
                             second=finding.second and other.in_the_whole(finding.second))
@@ -180,7 +180,7 @@ class PartByPart:
             found += one.silent
         for message, is_second in map(named_by, found):
             messages[is_second].append(message)
-        places = [Places(run, marked, some)
+        places = [PathsInRun(run, marked, some)
                   for run, marked, some in zip(self.runs, self.marked, messages)]
 
         def path_of(finding: Finding | Silent) -> str | None:

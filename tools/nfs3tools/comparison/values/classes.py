@@ -86,7 +86,7 @@ CLASSES = (
                'bodies of messages of other programs and versions, whose lengths stay',
                is_raw=True),
 )
-BY_NAME = {one.name: one for one in CLASSES}
+CLASSES_BY_NAME = {one.name: one for one in CLASSES}
 
 Mask = dict[str, Way]
 
@@ -96,18 +96,18 @@ def default_mask() -> Mask:
     return {one.name: one.way for one in CLASSES if one.is_default}
 
 
-def changed(mask: Mask, word: str) -> Mask:
+def changed_mask(mask: Mask, word: str) -> Mask:
     """Returns a mask with one class added (`+NAME`), removed (`-NAME`) or masked in the way that is
     named (`NAME=zero`)."""
     name, _, way = word.lstrip('+-').partition('=')
-    if name not in BY_NAME:
+    if name not in CLASSES_BY_NAME:
         raise argparse.ArgumentTypeError(
-            f'no class of values: {name} (there are {", ".join(BY_NAME)})')
+            f'no class of values: {name} (there are {", ".join(CLASSES_BY_NAME)})')
     if way and way not in ('zero', 'number'):
         raise argparse.ArgumentTypeError(f'{name} is masked as zero or number, not as {way}')
     if word.startswith('-'):
         return {kept: how for kept, how in mask.items() if kept != name}
-    one = BY_NAME[name]
+    one = CLASSES_BY_NAME[name]
     if way == 'number' and one.is_raw:
         raise argparse.ArgumentTypeError(f'{name} is masked as zero, not as number')
     return {**mask, name: Way(way) if way and not one.has_names else one.way}
@@ -119,7 +119,7 @@ def mask_of(text: str) -> Mask:
     words = [word for word in text.split(',') if word and word != 'none']
     mask = default_mask() if words and all(word[0] in '+-' for word in words) else {}
     for word in words:
-        mask = changed(mask, word)
+        mask = changed_mask(mask, word)
     return mask
 
 
@@ -134,7 +134,7 @@ def mask_word(text: str) -> str:
 RELAXED = ('ids', 'createverfs', 'cookies', 'wcc', 'raw')
 # Classes whose values follow their objects in any order: ids their files, cookies their entries,
 # and verifiers the files that are created.
-FOLLOWING = frozenset(('ids', 'fsids', 'cookies', 'createverfs'))
+FOLLOWING_CLASSES = frozenset(('ids', 'fsids', 'cookies', 'createverfs'))
 
 
 def in_any_order(text: str | None, has_raw: bool = False) -> list[Mask]:
@@ -159,9 +159,9 @@ def following(text: str | None) -> frozenset[str]:
     """Returns the classes whose values follow their objects in any order, if they are not one to
     one: those that `--mask` does not name."""
     named = named_in(text)
-    return frozenset() if named is None else FOLLOWING - named
+    return frozenset() if named is None else FOLLOWING_CLASSES - named
 
 
-def told(mask: Mask) -> str:
+def mask_text(mask: Mask) -> str:
     """Returns the mask as `--mask` takes it."""
     return ','.join(f'{name}={way.value}' for name, way in mask.items()) or 'none'

@@ -9,11 +9,11 @@ from ...exchanges.stored import Long, Value
 
 LONG_TEXT = 60  # characters of a value, as the listing spells it
 SHOWN = 16  # bytes of each value, round the first that differs
-AT_ONCE = 1 << 16  # bytes that are compared
+COMPARED_AT_ONCE = 1 << 16  # bytes that are compared
 ESCAPED = re.compile(r'\\x([0-9a-f]{2})')
 
 
-class Apart(NamedTuple):
+class Parting(NamedTuple):
     """Two values that differ.
 
     at: the first byte that differs, or the size of a value with which the other begins; bytes are
@@ -30,7 +30,7 @@ class Apart(NamedTuple):
     shown: tuple[str, str]
 
 
-class Content:
+class ValueBytes:
     """The bytes of a value of a listing: of a string in quotes, or of hexadecimal digits."""
 
     def __init__(self, value: Value) -> None:
@@ -53,20 +53,20 @@ def bytes_of(value: str) -> bytes:
     return bytes.fromhex(value)
 
 
-def apart(first: Value, second: Value, offset: int | None = None) -> Apart:
+def parting_between(first: Value, second: Value, offset: int | None = None) -> Parting:
     """Returns where two values of a listing part that differ. The offset is that of the first byte
     in its file."""
-    one, other = Content(first), Content(second)
+    one, other = ValueBytes(first), ValueBytes(second)
     size = min(one.size, other.size)
     at, differing = size, 0
-    for begin in range(0, size, AT_ONCE):
-        first_of_piece, number = parting(one.read(begin, min(size, begin + AT_ONCE)),
-                                         other.read(begin, min(size, begin + AT_ONCE)))
+    for begin in range(0, size, COMPARED_AT_ONCE):
+        first_of_piece, number = parting(one.read(begin, min(size, begin + COMPARED_AT_ONCE)),
+                                         other.read(begin, min(size, begin + COMPARED_AT_ONCE)))
         at = min(at, begin + first_of_piece) if number else at
         differing += number
     is_text = str(first).startswith('"')
-    return Apart(at, None if offset is None else offset + at, differing, (one.size, other.size),
-                 (shown(one, at, is_text), shown(other, at, is_text)))
+    return Parting(at, None if offset is None else offset + at, differing, (one.size, other.size),
+                   (bytes_around(one, at, is_text), bytes_around(other, at, is_text)))
 
 
 def parting(one: bytes, other: bytes) -> tuple[int, int]:
@@ -77,7 +77,7 @@ def parting(one: bytes, other: bytes) -> tuple[int, int]:
     return len(one) - len(bits.lstrip(b'\0')), len(one) - bits.count(0)
 
 
-def shown(content: Content, at: int, is_text: bool) -> str:
+def bytes_around(content: ValueBytes, at: int, is_text: bool) -> str:
     """Returns the bytes round a place: of a name as the listing spells it, of others in
     hexadecimal, with a space before the place."""
     begin = max(0, at - SHOWN // 2)
@@ -85,18 +85,18 @@ def shown(content: Content, at: int, is_text: bool) -> str:
         content.read(begin, begin + SHOWN), '..' * (begin > 0),
         '..' * (begin + SHOWN < content.size))
     if is_text:
-        return f'{before}"{spelled(piece)}"{after}'
+        return f'{before}"{spelled_bytes(piece)}"{after}'
     gap = ' ' if begin < at < begin + len(piece) else ''
     return f'{before}{piece[:at - begin].hex()}{gap}{piece[at - begin:].hex()}{after}'
 
 
-def spelled(content: bytes) -> str:
+def spelled_bytes(content: bytes) -> str:
     """Returns bytes as a string of the listing has them."""
     return ''.join(chr(byte) if 0x20 <= byte < 0x7f and byte not in b'"\\' else f'\\x{byte:02x}'
                    for byte in content)
 
 
-def told(parting: Apart) -> str:
+def parting_in_words(parting: Parting) -> str:
     """Returns where two values part and how much differs, in words."""
     same, (first, second) = min(parting.sizes), parting.sizes
     where = (f'byte {parting.at}' if parting.offset is None

@@ -4,12 +4,12 @@ from __future__ import annotations
 from collections.abc import Iterable, Sequence
 
 from ...shared.programs import MASKED, program_beside, run_program, run_side_by_side
-from .classes import BY_NAME, Mask
+from .classes import CLASSES_BY_NAME, Mask
 
 
 def words_for(mask: Mask) -> list[str]:
     """Returns the words by which nfs3mask masks the classes of a mask, and keeps all others."""
-    return [f'{name}={mask[name].value if name in mask else "keep"}' for name in BY_NAME]
+    return [f'{name}={mask[name].value if name in mask else "keep"}' for name in CLASSES_BY_NAME]
 
 
 def write_masked(program: str, capture: str, path: str, mask: Mask,

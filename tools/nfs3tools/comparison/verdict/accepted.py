@@ -20,28 +20,28 @@ from ..values.classes import CLASSES, Mask, Way
 from .differences import Difference
 from .findings import RUNS, Compared, Finding
 
-VERSION = 2  # of the form of the file
+ACCEPTED_VERSION = 2  # of the form of the file
 # Findings that are stated by their kind: calls in another place, sent again, and other numbers of
 # replies.
-PLAIN = ('moved', 'sent again', 'replies')
+PLAIN_KINDS = ('moved', 'sent again', 'replies')
 MEMBERS = {'procedure', 'path', 'is_call', 'field', 'first', 'second', 'only', 'kind', 'asks',
            'status', 'times'}
 # What an entry needs besides, by what it is about.
-NEEDED = {'only': {'asks', 'status'}, 'replies': {'first', 'second'}}
-WILD, ESCAPED = frozenset('*?['), re.compile(r'\[([*?[])\]')
-Entry = Mapping[str, Any]  # an object of the file
+NEEDED_MEMBERS = {'only': {'asks', 'status'}, 'replies': {'first', 'second'}}
+WILD, BRACKETED = frozenset('*?['), re.compile(r'\[([*?[])\]')
+AcceptedEntry = Mapping[str, Any]  # an object of the file
 
 
 class Split(NamedTuple):
     """The findings of a comparison that were accepted, and the entries that fit none."""
     findings: Sequence[Finding]
-    no_longer_found: Sequence[Entry]
+    no_longer_found: Sequence[AcceptedEntry]
 
 
 class Accepted:
     """The entries of a file of accepted findings, and its path."""
 
-    def __init__(self, path: str, entries: Sequence[Entry]) -> None:
+    def __init__(self, path: str, entries: Sequence[AcceptedEntry]) -> None:
         self.path, self.entries = path, entries
         # By paths without wildcards, so that many entries cost no more than a few
         self.by_path = defaultdict[object, list[int]](list)
@@ -62,7 +62,8 @@ class Accepted:
             if not finding.differences:
                 (taken if uses.take(numbers) else left).append(finding)
                 continue
-            some = [uses.take(said_by(self.entries, numbers, one)) for one in finding.differences]
+            some = [uses.take(entries_with(self.entries, numbers, one))
+                    for one in finding.differences]
             taken += with_fields(finding, some)
             left += with_fields(finding, (not is_taken for is_taken in some))
         gone = [entry for number, entry in enumerate(self.entries) if not uses.numbers[number]]
@@ -73,7 +74,7 @@ class Accepted:
 class Uses:
     """How often each entry has accepted something."""
 
-    def __init__(self, entries: Sequence[Entry]) -> None:
+    def __init__(self, entries: Sequence[AcceptedEntry]) -> None:
         self.entries, self.numbers = entries, Counter[int]()
 
     def take(self, numbers: Iterable[int]) -> bool:
@@ -89,9 +90,9 @@ class Uses:
 
 def key_of(pattern: str | None) -> object:
     """Returns the only path that a pattern fits, in a tuple, or `*` if there may be several."""
-    if pattern is not None and not WILD.isdisjoint(ESCAPED.sub('', pattern)):
+    if pattern is not None and not WILD.isdisjoint(BRACKETED.sub('', pattern)):
         return ANY
-    return (pattern and ESCAPED.sub(r'\1', pattern),)
+    return (pattern and BRACKETED.sub(r'\1', pattern),)
 
 
 def with_fields(finding: Finding, wanted: Iterable[bool]) -> list[Finding]:
@@ -106,16 +107,16 @@ def lonely_without(compared: Compared, taken: Iterable[Finding]) -> tuple[int, i
     return compared.lonely[0] - sides.count(False), compared.lonely[1] - sides.count(True)
 
 
-def fits(entry: Entry, finding: Finding, mask: Mask) -> bool:
+def fits(entry: AcceptedEntry, finding: Finding, mask: Mask) -> bool:
     """Whether an entry is about the message of a finding. None is about whole connections."""
     message = finding.message
-    if finding.kind in ('connection', 'order') or kind_of(entry) != finding.kind:
+    if finding.kind in ('connection', 'order') or kind_of_entry(entry) != finding.kind:
         return False
     if entry['procedure'] not in (ANY, message.procedure):
         return False
     if entry.get('is_call', message.is_call) != message.is_call:
         return False
-    told = told_of(finding, mask)
+    told = members_besides_fields(finding, mask)
     if any(entry[name] != value for name, value in told.items() if name != 'kind'):
         return False
     path = entry.get('path', ANY)
@@ -123,7 +124,7 @@ def fits(entry: Entry, finding: Finding, mask: Mask) -> bool:
         path is not None and finding.path is not None and fnmatchcase(finding.path, path))
 
 
-def told_of(finding: Finding, mask: Mask) -> dict[str, object]:
+def members_besides_fields(finding: Finding, mask: Mask) -> dict[str, object]:
     """Returns what an entry says of a finding besides its fields: of a call of one run alone which
     run, what it asks and the statuses of its replies; of replies the statuses of both runs."""
     if finding.kind == 'only':
@@ -131,7 +132,7 @@ def told_of(finding: Finding, mask: Mask) -> dict[str, object]:
                 'status': finding.statuses[finding.first is None]}
     if finding.kind == 'replies':
         return {'kind': 'replies', **dict(zip(RUNS, finding.statuses))}
-    return {'kind': finding.kind} if finding.kind in PLAIN else {}
+    return {'kind': finding.kind} if finding.kind in PLAIN_KINDS else {}
 
 
 def asks_of(finding: Finding, mask: Mask) -> list[str]:
@@ -140,20 +141,21 @@ def asks_of(finding: Finding, mask: Mask) -> list[str]:
             if not is_of_run(one.name, True, mask)]
 
 
-def kind_of(entry: Entry) -> str:
+def kind_of_entry(entry: AcceptedEntry) -> str:
     """Returns the kind of the findings that an entry is about."""
     return 'only' if 'only' in entry else str(entry.get('kind', 'changed'))
 
 
-def said_by(entries: Sequence[Entry], numbers: Iterable[int], difference: Difference) -> list[int]:
+def entries_with(entries: Sequence[AcceptedEntry], numbers: Iterable[int],
+                 difference: Difference) -> list[int]:
     """Returns which of some entries have a field and its values."""
-    values = values_of(difference)
+    values = values_by_run(difference)
     return [number for number in numbers
             if entries[number].get('field') in (difference.label, difference.field)
             and all(entries[number].get(side, value) == value for side, value in values.items())]
 
 
-def values_of(difference: Difference) -> dict[str, str | None]:
+def values_by_run(difference: Difference) -> dict[str, str | None]:
     """Returns both values as an entry has them: of long ones their digests, of file handles the
     paths."""
     both = difference.objects or (difference.first, difference.second)
@@ -169,16 +171,17 @@ def accepted_of(path: str) -> Accepted:
     try:
         whole = json.loads(content)
         version = whole['version'] if isinstance(whole, dict) else None
-        entries = whole['accepted'] if version == VERSION else None
+        entries = whole['accepted'] if version == ACCEPTED_VERSION else None
     except (ValueError, KeyError, RecursionError):
         version = entries = None
     if version == 1:
         raise refusal(path, 'it has version 1, whose entries accept more than one finding; '
                             '--accept-new writes a new one')
     if not isinstance(entries, list):
-        raise refusal(path, f'it has no object with "version": {VERSION} and a list "accepted"')
+        raise refusal(path,
+                      f'it has no object with "version": {ACCEPTED_VERSION} and a list "accepted"')
     for number, entry in enumerate(entries, 1):
-        wrong = fault_of(entry)
+        wrong = fault_of_entry(entry)
         if wrong:
             raise refusal(path, f'entry {number}: {wrong}')
     return Accepted(path, entries)
@@ -188,7 +191,7 @@ def refusal(path: str, why: str) -> argparse.ArgumentTypeError:
     return argparse.ArgumentTypeError(printable(f'no accepted findings in {escaped(path)}: {why}'))
 
 
-def fault_of(entry: object) -> str | None:
+def fault_of_entry(entry: object) -> str | None:
     """Returns what is wrong with an entry."""
     if not isinstance(entry, dict):
         return 'it is no object'
@@ -199,7 +202,7 @@ def fault_of(entry: object) -> str | None:
         return f'no member of an entry: {min(entry.keys() - MEMBERS)}'
     if len(which) != 1:
         return 'it needs one of field, only and kind'
-    lacks = NEEDED.get(kind_of(entry), set()) - entry.keys()
+    lacks = NEEDED_MEMBERS.get(kind_of_entry(entry), set()) - entry.keys()
     if lacks:
         return f'it needs {min(lacks)}'
     if {'first', 'second'} & entry.keys() and 'field' not in entry and entry['kind'] != 'replies':
@@ -218,7 +221,7 @@ def is_value(name: str, value: object) -> bool:
         return isinstance(value, list) and all(map(is_text, value))
     if name == 'times':
         return isinstance(value, int) and not isinstance(value, bool) and value > 0
-    choices = {'only': RUNS, 'kind': PLAIN}.get(name)
+    choices = {'only': RUNS, 'kind': PLAIN_KINDS}.get(name)
     return is_text(value) and (choices is None or value in choices)
 
 
@@ -234,10 +237,10 @@ def file_of(findings: Iterable[Finding], mask: Mask) -> bytes:
                     for entry in entries_of(finding, mask))
     entries = ','.join('\n  ' + (line if number == 1 else f'{line[:-1]}, "times": {number}}}')
                        for line, number in lines.items())
-    return f'{{"version": {VERSION}, "accepted": [{entries}\n]}}\n'.encode()
+    return f'{{"version": {ACCEPTED_VERSION}, "accepted": [{entries}\n]}}\n'.encode()
 
 
-def entries_of(finding: Finding, mask: Mask) -> Iterator[Entry]:
+def entries_of(finding: Finding, mask: Mask) -> Iterator[AcceptedEntry]:
     """Iterates over the entries that accept a finding. Whole connections are not accepted, nor is
     the order of all replies of one."""
     message = finding.message
@@ -245,12 +248,12 @@ def entries_of(finding: Finding, mask: Mask) -> Iterator[Entry]:
         return
     path = None if finding.path is None else glob.escape(finding.path)
     entry = {'procedure': message.procedure, 'path': path}
-    told = told_of(finding, mask)
+    told = members_besides_fields(finding, mask)
     if told:
         yield {**entry, **told}
     for one in finding.differences:
         is_own = one.objects is None and is_of_run(one.name, message.is_call, mask)
-        values = {} if is_own else values_of(one)
+        values = {} if is_own else values_by_run(one)
         yield {**entry, 'is_call': message.is_call, 'field': one.label, **values}
 
 
@@ -260,10 +263,10 @@ def is_of_run(name: str, is_call: bool, mask: Mask) -> bool:
         mask.get(one.name) is Way.NUMBER and one.has(name, is_call) for one in CLASSES)
 
 
-def words_of(entry: Entry) -> str:
+def entry_text(entry: AcceptedEntry) -> str:
     """Returns an entry as it is printed."""
     values = [f' {side}={entry[side]}' for side in RUNS if entry.get(side) is not None]
     side = f' in the {entry["only"]} run' if 'only' in entry else ''
-    about = ' '.join([entry.get('field') or kind_of(entry) + side, *entry.get('asks', ())])
+    about = ' '.join([entry.get('field') or kind_of_entry(entry) + side, *entry.get('asks', ())])
     where = [path] if (path := entry.get('path', ANY)) is not None else []
     return printable(' '.join([entry['procedure'], *where, about]) + ''.join(values))

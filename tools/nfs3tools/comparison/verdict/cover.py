@@ -13,13 +13,13 @@ from dataclasses import dataclass
 from typing import NamedTuple
 
 from ...recordings.container import capture_of
-from ...recordings.coverage import Allowed, Counted, Counts, Covered, counts_of
+from ...recordings.coverage import Allowed, CountedWord, Counts, Covered, counts_of
 from ...recordings.selection import count
 from ...recordings.taken import Taken, TakenConnection
 from ...shared.places import FilePlace, parse_fault
 from ...shared.programs import CHECKED, Answer, Died, run_program, run_side_by_side
 
-COUNTS = re.compile(r'ok connections=(\d+) calls=(\d+) ')
+CHECKED_COUNTS = re.compile(r'ok connections=(\d+) calls=(\d+) ')
 
 
 class Size(NamedTuple):
@@ -31,10 +31,10 @@ class Size(NamedTuple):
         return f'{count(self.calls, "call")} in {count(self.connections, "connection")}'
 
 
-class Row(NamedTuple):
+class NotJudged(NamedTuple):
     """What is not judged as a whole, or is refused: its word, the number of its connection if it is
     taken, its ends, and why."""
-    word: Counted
+    word: CountedWord
     connection: int | None
     ends: str
     reason: str
@@ -67,23 +67,24 @@ class Cover:
     def is_good(self, allowed: Allowed) -> bool:
         return not self.is_refused and all(one.is_good(allowed) for one in self.covered)
 
-    def word_of(self, covered: Covered) -> Counted:
+    def word_of(self, covered: Covered) -> CountedWord:
         return 'refused' if covered.number in self.refused else covered.word
 
     def counts(self) -> Counts:
-        damaged: list[tuple[Counted, bool, dict[str, int]]] = (
+        damaged: list[tuple[CountedWord, bool, dict[str, int]]] = (
             [('error', True, {})] if self.taken.damage else [])
         return counts_of([*((self.word_of(one), one.shows_calls, one.called.raw)
                             for one in self.covered), *damaged])
 
-    def rows(self) -> Iterator[Row]:
+    def rows(self) -> Iterator[NotJudged]:
         """Iterates over what is not judged as a whole."""
         for one in self.covered:
             word = self.word_of(one)
             if word != 'judged' or not one.is_whole:
-                yield Row(word, one.number, one.ends, self.refused.get(one.number or 0, one.reason))
+                yield NotJudged(word, one.number, one.ends,
+                                self.refused.get(one.number or 0, one.reason))
         if self.taken.damage:
-            yield Row('error', None, '', self.taken.damage)
+            yield NotJudged('error', None, '', self.taken.damage)
 
     @property
     def has_raw(self) -> bool:
@@ -114,7 +115,7 @@ class Cover:
                          and not (one.word == 'in part' and one.missing))
         if number['left out']:
             yield f'{count(number["left out"], "connection")} left out of the {name} run'
-        words: tuple[Counted, ...] = 'in part', 'not checked', 'refused'
+        words: tuple[CountedWord, ...] = 'in part', 'not checked', 'refused'
         yield from (f'{count(number[word], "connection")} of the {name} run {word}'
                     for word in words if number[word])
         others = [one.reason for one in self.covered if not is_connection(one)]
@@ -139,28 +140,28 @@ def covers_of(program: str, runs: Sequence[Taken], captures: Sequence[str]) -> l
 def cover_of(program: str, taken: Taken, answer: Answer) -> Cover:
     """Returns how much of a run is compared, by what `check` says of the whole."""
     if answer.status == 0:
-        return Cover(taken, size_of(answer), list(taken.covered()), {})
+        return Cover(taken, checked_size(answer), list(taken.covered()), {})
     kept, refused, calls = copy.copy(taken), dict[int, str](), 0
     kept.connections = []
     for connection in taken.connections:
         answer = run_program(program, ['check', '/dev/stdin'], CHECKED,
                              capture_of([(connection.client, connection.server)]))
         if answer.status:
-            refused[connection.number] = fault_of(taken, connection, answer)
+            refused[connection.number] = fault_with_frame(taken, connection, answer)
         else:
             kept.connections.append(connection)
-            calls += size_of(answer).calls
+            calls += checked_size(answer).calls
     return Cover(kept, Size(calls, len(kept.connections)), list(taken.covered()), refused)
 
 
-def size_of(answer: Answer) -> Size:
-    counts = COUNTS.match(answer.out)
+def checked_size(answer: Answer) -> Size:
+    counts = CHECKED_COUNTS.match(answer.out)
     if counts is None:
         raise Died(f'nfs3canon check prints {answer.out!r}')
     return Size(int(counts[2]), int(counts[1]))
 
 
-def fault_of(taken: Taken, connection: TakenConnection, answer: Answer) -> str:
+def fault_with_frame(taken: Taken, connection: TakenConnection, answer: Answer) -> str:
     """Returns the fault of a connection that was checked alone, with its place in the run and its
     frame."""
     fault = parse_fault(answer.error)

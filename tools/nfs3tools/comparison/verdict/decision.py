@@ -13,7 +13,7 @@ from . import summary
 from .accepted import Accepted
 from .cover import Cover, Size
 from .findings import Compared, Run
-from .orders import Choices, Found, Order, Orders
+from .orders import Choices, Order, Orders, Outcome
 from .report import IN_ANY_ORDER, Report
 from .trial import Trial
 
@@ -22,7 +22,7 @@ class Judged(NamedTuple):
     """What is said of two runs: the program's verdict, what was found, and whether the order
     counts."""
     verdict: str
-    found: Found
+    found: Outcome
     order: Order
 
     @property
@@ -49,13 +49,13 @@ class Judged(NamedTuple):
     def line(self, choices: Choices, size: Size, losses: str = '') -> str:
         """What is printed of the verdict: how much was compared, and in which part."""
         if self.is_turned:
-            return line_of(summary.with_explained(self.found),
-                           summary.of_same(self.found, choices.masks[0]), losses,
-                           self.number_accepted)
-        return line_of(self.verdict, size, losses, self.number_accepted)
+            return verdict_line(summary.with_explained(self.found),
+                                summary.of_same(self.found, choices.masks[0]), losses,
+                                self.number_accepted)
+        return verdict_line(self.verdict, size, losses, self.number_accepted)
 
 
-def line_of(verdict: str, compared: Size | str, losses: str, accepted: int) -> str:
+def verdict_line(verdict: str, compared: Size | str, losses: str, accepted: int) -> str:
     if verdict.startswith('differ'):
         return f'{verdict}\ncompared in part: {losses}' if losses else verdict
     but = f' but for {accepted:,} accepted' if accepted else ''
@@ -75,10 +75,11 @@ def same_of(sizes: Sequence[Size], order: Order, accepted: Accepted | None = Non
     first, second = (size.calls for size in sizes)
     compared = Compared(exchanges=first, calls=(first, second))
     split = accepted.split(compared)[1] if accepted else None
-    return Judged('same', Found(compared, accepted=split), order)
+    return Judged('same', Outcome(compared, accepted=split), order)
 
 
-def judged(trial: Trial, runs: Sequence[Run], sizes: Sequence[Size], choices: Choices) -> Judged:
+def judged_runs(trial: Trial, runs: Sequence[Run], sizes: Sequence[Size],
+                choices: Choices) -> Judged:
     """Compares both runs of a trial. They are brought together only if they differ, or are to be
     shown side by side."""
     verdict = trial.placed(trial.same(trial.captures, choices.masks[0]))
@@ -92,7 +93,7 @@ def judged(trial: Trial, runs: Sequence[Run], sizes: Sequence[Size], choices: Ch
     return Judged(with_position(verdict, found, order == 'any'), found, choices.order)
 
 
-def with_position(verdict: str, found: Found, is_any: bool) -> str:
+def with_position(verdict: str, found: Outcome, is_any: bool) -> str:
     """Returns the verdict: `same`, or where the first finding is that was not accepted."""
     if found.is_rest_same or verdict == 'same':
         return 'same'

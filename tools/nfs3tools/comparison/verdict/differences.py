@@ -10,7 +10,7 @@ from ...exchanges.stored import Value, spelled
 from ...exchanges.whose import Labels
 from ..values.bindings import RENAMED, Bindings
 from ..values.classes import CLASSES, Mask, ValueClass, Way
-from ..values.long_values import Apart, Content, apart, is_long
+from ..values.long_values import Parting, ValueBytes, is_long, parting_between
 
 # After one of these the rest of a reply has another layout.
 DECIDING = ('reply_stat', 'reject_stat', 'accept_stat', 'status')
@@ -36,7 +36,7 @@ class Difference:
     label: str = ''
     field: str = ''
     meanings: tuple[str, str] = ('', '')
-    apart: Apart | None = None
+    apart: Parting | None = None
     alike: str = ''
     objects: tuple[str, str] | None = None
 
@@ -47,7 +47,7 @@ class Difference:
         return self.first == self.second and self.apart is None
 
 
-class Side:
+class RunMessage:
     """A message of one run, with the call to which it belongs if it is a reply."""
 
     def __init__(self, message: Message, call: Message | None) -> None:
@@ -78,7 +78,7 @@ class Comparison:
                                      and one.has(name, is_call)), None)
         return self.owners[key]
 
-    def owner_of(self, side: Side, at: int) -> ValueClass | None:
+    def owner_of(self, side: RunMessage, at: int) -> ValueClass | None:
         """Returns the masked class of an item."""
         owner = self.class_of(side.items[at].name, side.is_call)
         return owner if owner is not None and is_of(owner, side, at) else None
@@ -87,7 +87,7 @@ class Comparison:
         """A machine's name has a length, which is left out with it."""
         return item.name == 'cred_length' and 'machines' in self.mask
 
-    def of_values(self, here: Side, at: int, there: Side, to: int) -> Difference | None:
+    def of_values(self, here: RunMessage, at: int, there: RunMessage, to: int) -> Difference | None:
         """Returns how two items of one name differ, and binds renamed values."""
         (name, first), (_, second) = here.items[at], there.items[to]
         owner = self.class_of(name, here.is_call)
@@ -105,13 +105,15 @@ class Comparison:
         return (None if first == second or self.is_length_of_a_machine(here.items[at])
                 else difference_of(here, at, there, to))
 
-    def of_lengths(self, here: Side, at: int, there: Side, to: int) -> Difference | None:
+    def of_lengths(self, here: RunMessage, at: int, there: RunMessage,
+                   to: int) -> Difference | None:
         """Raw bytes that are masked differ only in their number."""
-        sizes = [Content(side.items[place].value).size for side, place in ((here, at), (there, to))]
+        sizes = [ValueBytes(side.items[place].value).size
+                 for side, place in ((here, at), (there, to))]
         return (None if sizes[0] == sizes[1]
                 else difference_of(here, at, there, to, remark='only the lengths count'))
 
-    def of_raw(self, here: Side, at: int, there: Side, to: int) -> Difference | None:
+    def of_raw(self, here: RunMessage, at: int, there: RunMessage, to: int) -> Difference | None:
         """Handles in raw bytes are those of the other run where they are known."""
         first, second = spelled(here.items[at].value), spelled(there.items[to].value)
         renamed = self.bindings.renamed(first)
@@ -121,8 +123,8 @@ class Comparison:
                   else 'the file handles of the first are written as those of the second')
         return difference_of(here, at, there, to, remark=remark, first=renamed)
 
-    def of_renamed(self, name: str, owner: ValueClass | None, here: Side, at: int, there: Side,
-                   to: int) -> Difference | None:
+    def of_renamed(self, name: str, owner: ValueClass | None, here: RunMessage, at: int,
+                   there: RunMessage, to: int) -> Difference | None:
         first, second = str(here.items[at].value), str(there.items[to].value)
         zeros = [not value.strip('0') for value in (first, second)]
         if any(zeros) and (owner is not None and owner.keeps_zero or '' in (first, second)):
@@ -133,7 +135,8 @@ class Comparison:
         return difference_of(here, at, there, to, why, alike=f'{name}, {is_first}',
                              is_renamed=True) if why else None
 
-    def of_items(self, here: Side, first: range, there: Side, second: range) -> list[Difference]:
+    def of_items(self, here: RunMessage, first: range, there: RunMessage,
+                 second: range) -> list[Difference]:
         """Returns how two runs of items differ. An optional part that one of them alone has is one
         difference: the item before it, which says whether it follows."""
         found: list[Difference] = []
@@ -150,26 +153,26 @@ class Comparison:
         """Returns how two messages differ. The calls of two replies say where in a file their data
         is. Entries of a directory are brought together by their names, and those of one name by
         turn."""
-        here, there = Side(first, call), Side(second, other)
+        here, there = RunMessage(first, call), RunMessage(second, other)
         if first.is_call or first.procedure not in ('NFSPROC3_READDIR', 'NFSPROC3_READDIRPLUS'):
             return self.of_items(here, range(len(first.items)), there, range(len(second.items)))
-        head, entries, tail = parts_of(first.items)
-        other_head, other_entries, other_tail = parts_of(second.items)
+        head, entries, tail = ranges_of_entries(first.items)
+        other_head, other_entries, other_tail = ranges_of_entries(second.items)
         found = self.of_items(here, head, there, other_head)
         if any(difference.name in DECIDING for difference in found):
             return found
         return [*found, *self.of_entries(here, entries, there, other_entries),
                 *self.of_items(here, tail, there, other_tail)]
 
-    def of_entries(self, here: Side, first: list[range], there: Side,
+    def of_entries(self, here: RunMessage, first: list[range], there: RunMessage,
                    second: list[range]) -> Iterator[Difference]:
         """Yields how the entries of two directories differ, and whether they come in another
         order."""
         ours = by_name((self.key_of_entry(here, entry), entry) for entry in first)
         theirs = by_name((self.key_of_entry(there, entry), entry) for entry in second)
-        yield from (of_entry(name_of(here, entry), None) for key, entry in ours.items()
+        yield from (of_entry(entry_name(here, entry), None) for key, entry in ours.items()
                     if key not in theirs)
-        yield from (of_entry(None, name_of(there, entry)) for key, entry in theirs.items()
+        yield from (of_entry(None, entry_name(there, entry)) for key, entry in theirs.items()
                     if key not in ours)
         for key, entry in ours.items():
             if key in theirs:
@@ -179,17 +182,18 @@ class Comparison:
         turns = next(((ours[key], theirs[other]) for key, other in zip(common, others)
                       if key[0] != other[0]), None)
         if turns:
-            yield of_entry(name_of(here, turns[0]), name_of(there, turns[1]),
+            yield of_entry(entry_name(here, turns[0]), entry_name(there, turns[1]),
                            'the entries come in another order')
 
-    def key_of_entry(self, side: Side, entry: range) -> str:
+    def key_of_entry(self, side: RunMessage, entry: range) -> str:
         """Returns the name of an entry, in quotes, or the class of its name if that is masked."""
         at = at_name(side, entry)
         owner = None if at is None else self.owner_of(side, at)
-        return name_of(side, entry) if owner is None else owner.name
+        return entry_name(side, entry) if owner is None else owner.name
 
 
-def in_both(here: Side, first: range, there: Side, second: range) -> Iterator[tuple[int, int]]:
+def in_both(here: RunMessage, first: range, there: RunMessage,
+            second: range) -> Iterator[tuple[int, int]]:
     """Iterates over the items that are at the same place of the layouts in both messages."""
     ours, theirs = iter(first), iter(second)
     at, to = next(ours, None), next(theirs, None)
@@ -203,7 +207,7 @@ def in_both(here: Side, first: range, there: Side, second: range) -> Iterator[tu
             at = next(ours, None)
 
 
-def is_of(owner: ValueClass, side: Side, at: int) -> bool:
+def is_of(owner: ValueClass, side: RunMessage, at: int) -> bool:
     """Returns whether an item with a name of a class is of the class. The parts that it is in may
     decide, or its value."""
     if owner.is_of_changes:
@@ -225,16 +229,16 @@ def by_name(entries: Iterable[tuple[str, range]]) -> Entries:
     return out
 
 
-def at_name(side: Side, entry: range) -> int | None:
+def at_name(side: RunMessage, entry: range) -> int | None:
     return next((at for at in entry if side.items[at].name == 'name'), None)
 
 
-def name_of(side: Side, entry: range) -> str:
+def entry_name(side: RunMessage, entry: range) -> str:
     at = at_name(side, entry)
     return '' if at is None else str(side.items[at].value)
 
 
-def parts_of(items: Sequence[Item]) -> tuple[range, list[range], range]:
+def ranges_of_entries(items: Sequence[Item]) -> tuple[range, list[range], range]:
     """Returns the items of a READDIR or READDIRPLUS reply before its entries, those of each entry,
     and those after them."""
     begins = [at for at, item in enumerate(items) if item.name == 'entry']
@@ -246,7 +250,7 @@ def parts_of(items: Sequence[Item]) -> tuple[range, list[range], range]:
 
 # --- What is said of a difference ---
 
-def difference_of(here: Side, at: int, there: Side, to: int, remark: str = '', *,
+def difference_of(here: RunMessage, at: int, there: RunMessage, to: int, remark: str = '', *,
                   first: str | None = None, alike: str = '',
                   is_renamed: bool = False) -> Difference:
     """Two items of one name whose values differ. `first` is what is compared with the second value,
@@ -256,7 +260,7 @@ def difference_of(here: Side, at: int, there: Side, to: int, remark: str = '', *
     if not is_renamed and (is_long(one.value) or is_long(other.value)
                            or first not in (None, one.value)):
         offset = here.offset() if one.name == 'data' and here.offset() == there.offset() else None
-        parting = apart(one.value if first is None else first, other.value, offset)
+        parting = parting_between(one.value if first is None else first, other.value, offset)
     return Difference(one.name, one.value, other.value, remark, here.labels.label(at),
                       here.labels.field(at),
                       (here.labels.meaning(at), there.labels.meaning(to)), parting, alike)

@@ -22,7 +22,7 @@ class Around(NamedTuple):
     most: int
 
 
-class Row(NamedTuple):
+class ExcerptRow(NamedTuple):
     """An exchange of each run, None if the run does not have it, the path of what it is about, and
     whether it is reported."""
     first: Exchange | None
@@ -31,7 +31,7 @@ class Row(NamedTuple):
     is_told: bool
 
 
-class Gap(NamedTuple):
+class HiddenCalls(NamedTuple):
     """Calls of the first run that are not shown: how many are equal to those of the second run, how
     many are among what is reported, and how many are in the first run alone and left out."""
     equal: int = 0
@@ -40,12 +40,12 @@ class Gap(NamedTuple):
 
 
 @dataclass
-class Connection:
+class ExcerptConnection:
     """The numbers that a connection has in both runs, None if one does not have it, and its rows
     and gaps in order."""
     first: int | None
     second: int | None
-    rows: list[Row | Gap]
+    rows: list[ExcerptRow | HiddenCalls]
 
 
 @dataclass
@@ -55,9 +55,9 @@ class Beside:
     others, rest: how many connections the first run has besides, and what is in them
     cut: how many exchanges that the second run alone has are not shown, although they are reported
     """
-    connections: list[Connection] = field(default_factory=list)
+    connections: list[ExcerptConnection] = field(default_factory=list)
     others: int = 0
-    rest: Gap = Gap()
+    rest: HiddenCalls = HiddenCalls()
     cut: int = 0
 
 
@@ -133,7 +133,7 @@ class Shown:
         return ((one, partners[one]) if at != NOBODY else (partners[one], one) for one in some
                 if partners[one] != NOBODY)
 
-    def beside(self, row: Callable[[Pair, bool], Row]) -> Beside:
+    def beside(self, row: Callable[[Pair, bool], ExcerptRow]) -> Beside:
         """Returns what is shown. `row` returns a pair taken apart, and is given whether it is
         reported."""
         groups = groupby(sorted(self.pairs, key=self.key_of), self.connections_of)
@@ -141,10 +141,10 @@ class Shown:
         others = [place for place in range(len(self.pairing.homes))
                   if (place, self.pairing.homes[place]) not in connections]
         gaps = [self.gap(own.start, own.stop) for own in map(self.here.exchanges_of, others)]
-        shown = [Connection(number_of(self.here.connections, place),
-                            number_of(self.there.connections, other), rows)
+        shown = [ExcerptConnection(number_of(self.here.connections, place),
+                                   number_of(self.there.connections, other), rows)
                  for (place, other), rows in connections.items()]
-        return Beside(shown, len(others), Gap(*map(sum, zip(Gap(), *gaps))),
+        return Beside(shown, len(others), HiddenCalls(*map(sum, zip(HiddenCalls(), *gaps))),
                       sum(at == NOBODY for at, _ in self.told - self.pairs))
 
     def connections_of(self, pair: Pair) -> Pair:
@@ -155,7 +155,7 @@ class Shown:
         return NOBODY, self.there.connection_of(pair[1])
 
     def rows(self, place: int, pairs: Sequence[Pair],
-             row: Callable[[Pair, bool], Row]) -> Iterator[Row | Gap]:
+             row: Callable[[Pair, bool], ExcerptRow]) -> Iterator[ExcerptRow | HiddenCalls]:
         """Returns the rows of a connection of the first run, and what is between them."""
         own = self.here.exchanges_of(place) if place != NOBODY else range(0)
         begin = own.start
@@ -168,13 +168,14 @@ class Shown:
         if begin < own.stop:
             yield self.gap(begin, own.stop)
 
-    def gap(self, begin: int, end: int) -> Gap:
+    def gap(self, begin: int, end: int) -> HiddenCalls:
         """Returns what some exchanges of the first run are that follow one another."""
         told = self.told_of_first[
             bisect_left(self.told_of_first, begin):bisect_left(self.told_of_first, end)]
         alone = self.pairing.partners[begin:end].count(NOBODY)
         told_alone = sum(self.pairing.partners[at] == NOBODY for at in told)
-        return Gap(end - begin - alone - (len(told) - told_alone), len(told), alone - told_alone)
+        return HiddenCalls(end - begin - alone - (len(told) - told_alone), len(told),
+                           alone - told_alone)
 
 
 def number_of(connections: Sequence[int], place: int) -> int | None:

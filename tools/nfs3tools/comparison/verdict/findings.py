@@ -11,7 +11,7 @@ from ...exchanges.in_words import short_name
 from ...exchanges.listing import (
     Exchange, LinePlace, Message, exchanges_of, messages_of, place_of)
 from ...exchanges.objects import Paths, below
-from ...exchanges.stored import Values
+from ...exchanges.stored import LongValues
 from ...recordings.selection import count, plural
 from ..exchanges.any_order import Explanation
 from ..exchanges.changes import Change
@@ -21,7 +21,7 @@ from ..exchanges.pairing import NOBODY, Listing, Pairing
 from ..values.classes import Mask
 from .arguments import Argument, arguments_of
 from .differences import Comparison, Difference
-from .excerpt import Around, Beside, Row, Shown
+from .excerpt import Around, Beside, ExcerptRow, Shown
 
 RUNS = ('first', 'second')
 Framing = Callable[[Message], Sequence[int]]
@@ -123,14 +123,14 @@ class Compared:
                        for finding in self.findings for difference in finding.differences)
 
 
-class Apart:
+class ParsedExchanges:
     """Exchanges of a run that are taken apart, with the paths of their files. Long values are in a
     temporary file."""
 
     def __init__(self, run: Run, outlines: Outlines, wanted: Iterable[int]) -> None:
         kept = sorted(outlines.with_origins(wanted))
         found = exchanges_of(messages_of(chosen(run.listing() if kept else (), outlines, kept),
-                                         Values()))
+                                         LongValues()))
         self.exchanges = dict(zip(kept,
                                   itertools.chain.from_iterable(
                                       some for _, some in sorted(found.items()))))
@@ -261,10 +261,10 @@ class Explaining:
                   for run, lonely in enumerate((self.lonely, self.others))]
         turns = {turn for turn, (at, to) in enumerate(zip(self.firsts, self.seconds)) if at in here
                  or to in there}
-        self.here = Apart(self.first, self.pairing.here,
-                          here.union(silent[0], (self.firsts[turn] for turn in turns)))
-        self.there = Apart(self.second, self.pairing.there,
-                           there.union(silent[1], (self.seconds[turn] for turn in turns)))
+        self.here = ParsedExchanges(self.first, self.pairing.here,
+                                    here.union(silent[0], (self.firsts[turn] for turn in turns)))
+        self.there = ParsedExchanges(self.second, self.pairing.there,
+                                     there.union(silent[1], (self.seconds[turn] for turn in turns)))
         return turns
 
     def of_turns(self, unequal: set[int], turns: set[int],
@@ -375,17 +375,19 @@ class Explaining:
         besides = itertools.chain.from_iterable(range(at, at + number)
                                                 for at, number in self.lonely.connections.items())
         shown = Shown(self.pairing, told, besides, around)
-        here = Apart(self.first, self.pairing.here, (at for at, _ in shown.pairs if at != NOBODY))
-        there = Apart(self.second, self.pairing.there,
-                      (to for _, to in shown.pairs if to != NOBODY))
-        return shown.beside(functools.partial(row_of, here, there))
+        here = ParsedExchanges(self.first, self.pairing.here,
+                               (at for at, _ in shown.pairs if at != NOBODY))
+        there = ParsedExchanges(self.second, self.pairing.there,
+                                (to for _, to in shown.pairs if to != NOBODY))
+        return shown.beside(functools.partial(excerpt_row, here, there))
 
 
-def row_of(here: Apart, there: Apart, pair: Pair, is_told: bool) -> Row:
+def excerpt_row(here: ParsedExchanges, there: ParsedExchanges, pair: Pair,
+                is_told: bool) -> ExcerptRow:
     at, to = pair
-    return Row(here.exchanges[at] if at != NOBODY else None,
-               there.exchanges[to] if to != NOBODY else None,
-               here.path(at) if at != NOBODY else there.path(to), is_told)
+    return ExcerptRow(here.exchanges[at] if at != NOBODY else None,
+                      there.exchanges[to] if to != NOBODY else None,
+                      here.path(at) if at != NOBODY else there.path(to), is_told)
 
 
 def replies(number: int) -> str:

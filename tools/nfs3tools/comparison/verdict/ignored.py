@@ -53,8 +53,8 @@ def one_of(word: str) -> Ignored:
     return Ignored(procedure, field)
 
 
-def without(compared: Compared,
-            ignored: Sequence[Ignored]) -> tuple[Compared, Counter[tuple[str, str]]]:
+def without_ignored(compared: Compared,
+                    ignored: Sequence[Ignored]) -> tuple[Compared, Counter[tuple[str, str]]]:
     """Returns what is left of a comparison without these fields, and how often each field of each
     procedure was left out."""
     left_out, findings = Counter[tuple[str, str]](), list[Finding]()

@@ -9,7 +9,7 @@ from typing import Literal, Optional
 from ..exchanges.any_order import Explanation, TwoRuns
 from ..exchanges.matching import Pair
 from ..exchanges.pairing import ASKING, Pairing
-from ..exchanges.unequal import Listed, ListedInPlace
+from ..exchanges.unequal import ListedInPlace, TwoListings
 from ..values.classes import CLASSES, Mask, Way
 from .accepted import Accepted, Split
 from .excerpt import Around
@@ -42,7 +42,7 @@ class Choices:
 
 
 @dataclass(frozen=True)
-class Found:
+class Outcome:
     """What was found: all that differs and is matched, and the mask under which the runs are
     the same in another order, if they are.
 
@@ -83,7 +83,7 @@ class Orders:
                          else self.trial.in_one_order(self.pairing))
         self.explaining = Explaining(*self.runs, self.pairing, self.leaves_out, explanation)
 
-    def found(self) -> Found:
+    def found(self) -> Outcome:
         """Finds what differs, or that nothing does in another order, and what of it was
         accepted."""
         found = self.found_of_all()
@@ -95,7 +95,7 @@ class Orders:
         found = replace(found, compared=compared, accepted=accepted)
         return self.with_rest(found, accepted.findings) if is_all else found
 
-    def with_rest(self, found: Found, accepted: Sequence[Finding]) -> Found:
+    def with_rest(self, found: Outcome, accepted: Sequence[Finding]) -> Outcome:
         """Finds whether the runs are the same without the exchanges of all findings, which were
         accepted. That is the word of the program, as without them."""
         mask = found.compared.mask
@@ -119,10 +119,10 @@ class Orders:
         first, second = (len(taken.connections) for taken in self.trial.runs)
         return first == second and here == there and self.pairing.homes == list(range(len(here)))
 
-    def found_of_all(self) -> Found:
+    def found_of_all(self) -> Outcome:
         mask = self.choices.masks[0]
         if self.is_in_own_order():
-            return Found(self.explained(mask))
+            return Outcome(self.explained(mask))
         if self.leaves_out:
             self.leave_out_explained(mask)
         found = self.found_under(mask)
@@ -131,7 +131,7 @@ class Orders:
         if not classes:
             return found
         self.follow(classes)
-        return replace(self.found_under(without(mask, classes)), follows=True)
+        return replace(self.found_under(without_classes(mask, classes)), follows=True)
 
     def not_one_to_one(self, compared: Compared, mask: Mask) -> frozenset[str]:
         """Returns the classes that are to follow their objects: those of values that differ. If
@@ -144,13 +144,13 @@ class Orders:
         return frozenset().union(*(group for group, zero in zip(groups, zeros)
                                    if group & told or self.listed(zero).unequal() < own))
 
-    def found_under(self, mask: Mask) -> Found:
+    def found_under(self, mask: Mask) -> Outcome:
         """Finds what differs under a mask in any order, or that nothing does."""
         if self.explaining.tells_lonely() or not self.is_same(mask):
-            return Found(self.explained(mask))
+            return Outcome(self.explained(mask))
         if not len(self.explaining.firsts):
             raise NothingToCompare('nothing to compare: no call of one run is in the other')
-        return Found(self.explained(mask), mask)
+        return Outcome(self.explained(mask), mask)
 
     def leave_out_explained(self, mask: Mask) -> None:
         """Leaves out what an order explains. What is left decides."""
@@ -171,10 +171,11 @@ class Orders:
     def is_same(self, mask: Mask) -> bool:
         return self.trial.same(self.captures, mask) == 'same'
 
-    def listed(self, mask: Mask) -> Listed:
+    def listed(self, mask: Mask) -> TwoListings:
         first, second = self.trial.canonical(self.captures, mask)
-        return ListedInPlace(first, second, mask,
-                             self.pairing.here) if self.is_in_place else Listed(first, second, mask)
+        if self.is_in_place:
+            return ListedInPlace(first, second, mask, self.pairing.here)
+        return TwoListings(first, second, mask)
 
     def explained(self, mask: Mask) -> Compared:
         """Finds what differs between the pairs under a mask."""
@@ -190,7 +191,7 @@ def classes_in(compared: Compared) -> frozenset[str]:
     return frozenset(one.name for one in CLASSES if names & one.items)
 
 
-def without(mask: Mask, classes: frozenset[str]) -> Mask:
+def without_classes(mask: Mask, classes: frozenset[str]) -> Mask:
     return {name: way for name, way in mask.items() if name not in classes}
 
 

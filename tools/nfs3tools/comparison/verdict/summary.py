@@ -7,9 +7,9 @@ from collections.abc import Iterator, Sequence
 from ...recordings.selection import count, plural
 from ..values.classes import Mask
 from .findings import RUNS, Compared, replies
-from .orders import Found
+from .orders import Outcome
 
-FIELDS_AT_MOST = 4
+FIELDS_IN_SUMMARY = 4
 IN_ANOTHER_ORDER, BUT_IDS, BUT_LEFT_OUT = (
     'same in another order', 'same but for ids', 'same but for calls left out')
 # On a part
@@ -50,7 +50,7 @@ def of_both(compared: Compared) -> Iterator[str]:
         yield f'{len(some):,} {short(procedure)} of {where}, {how}'
 
 
-def word_of(found: Found) -> str:
+def word_of(found: Outcome) -> str:
     """Returns what is said of runs that are the same if the order does not count."""
     compared = found.compared
     if turns(compared) or compared.explained:
@@ -60,13 +60,13 @@ def word_of(found: Found) -> str:
     return BUT_LEFT_OUT if compared.silent else IN_ANOTHER_ORDER
 
 
-def with_explained(found: Found) -> str:
+def with_explained(found: Outcome) -> str:
     """Returns the same, with how many answers an order explains."""
     number = found.compared.explained
     return word_of(found) + (f', {count(number, "answer")} explained by order' if number else '')
 
 
-def of_same(found: Found, mask: Mask) -> str:
+def of_same(found: Outcome, mask: Mask) -> str:
     """What follows these words: how the order differs, and all else that does not count."""
     words = [f'{count(found.compared.exchanges, "call")}', *turns(found.compared)]
     some = [*(f'{what} of the {name} run' for what, name in left_out(found.compared)),
@@ -79,19 +79,19 @@ def of_same(found: Found, mask: Mask) -> str:
     return '; '.join(words)
 
 
-def fields_of(compared: Compared) -> Iterator[str]:
+def frequent_fields(compared: Compared) -> Iterator[str]:
     """The fields that differ most often, over all procedures."""
     fields = Counter[tuple[str, bool]]()
     for finding in compared.findings:
         fields.update((difference.field, finding.message.is_call)
                       for difference in finding.differences)
-    for (name, is_call), number in fields.most_common(FIELDS_AT_MOST):
+    for (name, is_call), number in fields.most_common(FIELDS_IN_SUMMARY):
         yield f'{name} in ' + (count(number, 'call') if is_call else replies(number))
-    if len(fields) > FIELDS_AT_MOST:
+    if len(fields) > FIELDS_IN_SUMMARY:
         yield '..'
 
 
-def of_compared(compared: Compared) -> str:
+def compared_in_words(compared: Compared) -> str:
     """The verdict in words: what is matched, and what is not."""
     words = [f'{compared.exchanges:,} of {count(max(compared.calls), "call")} matched',
              *turns(compared)]
@@ -99,7 +99,7 @@ def of_compared(compared: Compared) -> str:
     words += [f'left out: {what}' for what in of_both(compared)]
     words += [f'{number:,} only in the {name} run' for name, number in zip(RUNS, compared.lonely)
               if number]
-    return '; '.join([*words, *fields_of(compared)])
+    return '; '.join([*words, *frequent_fields(compared)])
 
 
 def of_parts(verdicts: Sequence[str]) -> str:

@@ -19,12 +19,12 @@ from ...shared.progress import Progress
 from ..exchanges.outlines import Outlines, When
 from ..exchanges.pairing import InOrder, Listing, Pairing, Relaxed, Repeats, paired
 from ..exchanges.reordered import write_in_order
-from ..values.classes import Mask, told
+from ..values.classes import Mask, mask_text
 from ..values.masking import write_both_masked
 
 SMALL = 1 << 18  # bytes of a capture whose lines are kept
-RUNS = 'ab'  # begin the names of captures
-CONNECTION = re.compile(r'(?<=differ at )connection (\d+)')
+RUN_LETTERS = 'ab'  # begin the names of captures
+DIFFERING_CONNECTION = re.compile(r'(?<=differ at )connection (\d+)')
 
 
 def when_of(taken: Taken) -> When | None:
@@ -61,7 +61,7 @@ class Trial:
     def named(self) -> list[str]:
         """Returns two new names."""
         self.number += 1
-        return [str(self.folder / f'{letter}{self.number}') for letter in RUNS]
+        return [str(self.folder / f'{letter}{self.number}') for letter in RUN_LETTERS]
 
     def made_of(self, captures: Sequence[str], how: str,
                 make: Callable[[Sequence[str], Sequence[str]], object]) -> list[str]:
@@ -74,7 +74,7 @@ class Trial:
         return self.made[key]
 
     def masked(self, captures: Sequence[str], mask: Mask) -> list[str]:
-        return self.made_of(captures, told(mask),
+        return self.made_of(captures, mask_text(mask),
                             lambda captures, names: self.mask(captures, names, mask))
 
     def mask(self, captures: Sequence[str], names: Sequence[str], mask: Mask) -> None:
@@ -94,7 +94,7 @@ class Trial:
     def listing(self, capture: str) -> Listing:
         """Returns the lines of a capture. Connections have the numbers that they have in the run,
         of which some may be left out."""
-        taken = self.runs[RUNS.index(Path(capture).name[0])]
+        taken = self.runs[RUN_LETTERS.index(Path(capture).name[0])]
         numbers = self.numbers_of(taken)
         if numbers is None:
             return partial(self.lines, capture, taken)
@@ -122,12 +122,12 @@ class Trial:
     def placed(self, verdict: str) -> str:
         """Returns what `same` says of both captures with the number that the connection has in the
         first run, or else in the second."""
-        found = CONNECTION.search(verdict)
+        found = DIFFERING_CONNECTION.search(verdict)
         some = [numbers for taken in self.runs
                 if (numbers := [one.number for one in taken.connections]) and found
                 and int(found[1]) <= len(numbers)]
-        return CONNECTION.sub(f'connection {some[0][int(found[1]) - 1]}', verdict,
-                              1) if found and some else verdict
+        return DIFFERING_CONNECTION.sub(f'connection {some[0][int(found[1]) - 1]}', verdict,
+                                        1) if found and some else verdict
 
     def canonical(self, captures: Sequence[str],
                   mask: Mask | None = None) -> tuple[Listing, Listing]:
