@@ -48,9 +48,8 @@ from .verdicts import judge_of
 
 FINDINGS_VERSION = 1
 FINDING_COLUMNS = ('recording', 'rule', 'section', 'by', 'connection', 'record', 'reply_record',
-                   'frame',
-                   'time_ns', 'procedure', 'path', 'text', 'against_record', 'against_frame',
-                   'accepted')
+                   'frame', 'time_ns', 'procedure', 'path', 'text', 'against_record',
+                   'against_frame', 'accepted')
 ACCEPTED, FINDING = 'accepted', 'finding'
 RuleAndServer = tuple[str, str]  # a rule and a server, either of which may be any
 FINDING_HEADS = ('rule', 'section', 'by', 'server', 'found', 'first')
@@ -87,8 +86,8 @@ class RecordingFindings:
     def __init__(self, recording: str, chosen: argparse.Namespace, looked: Looked) -> None:
         self.recording, self.chosen, self.looked = escaped(recording), chosen, looked
         self.kept, self.begun = Kept(), 0
-        self.rows, self.all = dict[RuleAndServer,
-                                   FindingRow](), list[tuple[RuleFinding, FindingRow]]()
+        self.rows = dict[RuleAndServer, FindingRow]()
+        self.all = list[tuple[RuleFinding, FindingRow]]()
 
     def close(self) -> None:
         self.kept.close()
@@ -127,7 +126,7 @@ class RecordingFindings:
         return printable(f'{frame}: {" ".join(call_text(one).split())}: {finding.text}')
 
     def values(self) -> Iterator[Sequence[object]]:
-        """Iterates over the values of COLUMNS of all findings, in the order of time."""
+        """Iterates over the values of FINDING_COLUMNS of all findings, by time."""
         for finding, row in self.all:
             one, source = self.kept.exchange(finding.number), finding.source
             yield (self.recording, row.rule, row.section, row.by, one.part.number, one.record,
@@ -135,7 +134,6 @@ class RecordingFindings:
                    one.time or None, one.procedure, one.path, finding.text,
                    self.kept.position(source.number) if source else None,
                    source.frame or None if source else None, row.accepted)
-
 
     def print(self, screen: Screen) -> None:
         """Prints a table for a reader, or all findings. Those of several recordings come after
@@ -152,7 +150,7 @@ class RecordingFindings:
 
 
 class FindingsReport:
-    """What is told of all recordings: the table of each, and all rows and verdicts."""
+    """What is said of all recordings: the table of each, and all rows and verdicts."""
 
     def __init__(self, chosen: argparse.Namespace) -> None:
         self.chosen, self.looked = chosen, Looked()

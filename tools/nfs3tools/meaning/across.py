@@ -264,7 +264,7 @@ def findings_in(recorded: Recorded, looked: Looked, is_whole: bool) -> list[Rule
         if recorded.has_frames:
             across.take(one)
     across.end()
-    return across.counted()
+    return [one for one in across.findings if across.denied.isdisjoint(one.unless)]
 
 
 def is_other(one: NameTarget, other: NameTarget) -> bool:

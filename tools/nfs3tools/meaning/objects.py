@@ -11,7 +11,7 @@ from typing import NamedTuple, Union
 
 from ..exchanges.values import Attributes, Data, Time, seconds
 from .recorded import DIRECTORY, END, ObjectKey, RecordedExchange, StatedAttributes
-from .rules import Evidence, Findings, Looked
+from .rules import Evidence, Looked, RuleFinding
 
 # Nanoseconds in which the clock of a server may stand: of one with parts of seconds, and without.
 TICK, COARSE_TICK = 20_000_000, 2_100_000_000
@@ -133,18 +133,26 @@ def lasting(now: Attributes, has_links: bool) -> list[object]:
     return [seconds(value) if isinstance(value, tuple) else value for value in own[:len(LASTING)]]
 
 
-class Objects(Findings):
-    """The objects of a recording by their servers and handles.
+class Objects:
+    """The objects of a recording by their servers and handles, what is found of them, and how much
+    was looked at.
 
+    denied: what takes findings back: objects that somebody changed who is not recorded, exchanges
+        beside such a change, servers whose times do not show changes, and verifiers of servers
+        that were started anew
     relinked: the end of each server's last call that removed or moved a name
     shown: the handles of objects whose state an exchange shows, and which nothing else changed
         meanwhile
     """
 
     def __init__(self, looked: Looked) -> None:
-        super().__init__(looked)
+        self.looked, self.findings, self.denied = looked, list[RuleFinding](), set[Hashable]()
         self.known, self.shown = dict[ObjectKey, Object](), set[str]()
         self.relinked = defaultdict[str, int](int)
+
+    def add(self, rule: str, one: Evidence, text: str, source: Evidence | None = None,
+            *unless: Hashable) -> None:
+        self.findings.append(RuleFinding(rule, one.number, text, source, unless))
 
     def at(self, one: RecordedExchange, handle: str) -> Object:
         key = one.server, handle

@@ -1,6 +1,5 @@
-"""The rules of `meaning`, with their sections of RFC 1813, and what is found by them: exchanges
-that break one, what turns out later not to count, and how much was looked at. No rule is about the
-bytes of a message, of which `check` says whether they are valid."""
+"""The rules of `meaning`, with their sections of RFC 1813, what is found by them, and how much was
+looked at. No rule is about the bytes of a message, of which `check` says whether they are valid."""
 from __future__ import annotations
 
 from collections.abc import Hashable
@@ -124,23 +123,3 @@ class Looked:
                 f'{count(self.names, "name")}, {count(self.listings, "listing")}; '
                 f'{count(self.beside, "READ")} beside changes not compared'
                 + (still if self.still else ''))
-
-
-class Findings:
-    """The findings of a recording, and how much was looked at.
-
-    denied: what takes findings back: objects that somebody changed who is not recorded, exchanges
-        beside such a change, servers whose times do not show changes, and verifiers of servers
-        that were started anew
-    """
-
-    def __init__(self, looked: Looked) -> None:
-        self.looked, self.all, self.denied = looked, list[RuleFinding](), set[Hashable]()
-
-    def add(self, rule: str, one: Evidence, text: str, source: Evidence | None = None,
-            *unless: Hashable) -> None:
-        self.all.append(RuleFinding(rule, one.number, text, source, unless))
-
-    def counted(self) -> list[RuleFinding]:
-        """Returns those that count, once all exchanges are taken."""
-        return [one for one in self.all if self.denied.isdisjoint(one.unless)]
