@@ -161,10 +161,9 @@ class Recorded:
         for number in range(len(kept)):
             procedure = kept.listed_name(number).removeprefix(NFS_PREFIX)
             if procedure in CHANGING_PROCEDURES:
-                self.note_change(RecordedExchange(self, number))
-            elif procedure == 'PATHCONF':
-                one = RecordedExchange(self, number)
-                self.insensitive.update([one.server] * one.reply.get('case_insensitive', 0))
+                self.note_change(self.exchange(number))
+            elif procedure == 'PATHCONF' and self.exchange(number).reply.get('case_insensitive'):
+                self.insensitive.add(self.exchange(number).server)
         for changes in self.changes.values():
             changes.sort()
             ends: Iterator[int] = itertools.accumulate((one.end for one in changes), max)
@@ -184,11 +183,15 @@ class Recorded:
             return NEVER
         return self.kept.reply_frames[replies[-1]] or NEVER
 
+    def exchange(self, number: int) -> RecordedExchange:
+        """Returns an exchange of NFS by its number."""
+        return RecordedExchange(self, number)
+
     def answered(self) -> Iterator[RecordedExchange]:
         """Iterates over exchanges of NFS whose call was accepted, in the order of their ends."""
         ends = [self.end_of(number) for number in range(len(self.kept))]
         for number in sorted(range(len(ends)), key=ends.__getitem__):
             if self.kept.firsts[number] and self.kept.listed_name(number).startswith(NFS_PREFIX):
-                one = RecordedExchange(self, number)
+                one = self.exchange(number)
                 if one.status is not None:
                     yield one
