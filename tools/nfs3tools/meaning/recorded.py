@@ -95,8 +95,9 @@ class RecordedExchange:
 
     @property
     def names(self) -> tuple[ObjectKey, ...]:
-        """The folders of the call, each with the name in it: two of RENAME."""
-        return tuple((self.call[owner + 'fh'], self.call[owner + 'name'])
+        """The folders of the call, each with the name in it: two of RENAME. Equal texts are one
+        object, since many are kept."""
+        return tuple((sys.intern(self.call[owner + 'fh']), sys.intern(self.call[owner + 'name']))
                      for owner in ('', 'from.', 'to.', 'link.') if owner + 'name' in self.call)
 
     def says_of(self, number: int) -> bool | None:
