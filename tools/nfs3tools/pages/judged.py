@@ -240,7 +240,7 @@ def explained_fault(taken: Taken, verdict: Verdict) -> ExplainedFault:
 
 
 class FirstLines(list[str]):
-    """The first lines of what is told, and how many are left."""
+    """The first lines of what is said, and how many are left."""
     more = 0
 
     def take(self, line: str) -> None:
