@@ -4,6 +4,7 @@ A fork shows neither the scripts themselves nor streams that are closed, signals
 with such options are those of the scripts.
 """
 import concurrent.futures
+import gc
 import importlib
 import os
 import signal
@@ -53,6 +54,7 @@ def become(command: Callable[[], int], words: list[str], folder: str,
            streams: Sequence[int]) -> NoReturn:
     """Runs a command line in place of this process, which is a fork, as a script does."""
     status = 1
+    gc.freeze()  # (what the tests have left is not this run's to clear away)
     try:
         os.chdir(folder)
         for number, file in enumerate(streams):
