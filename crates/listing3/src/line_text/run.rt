@@ -124,6 +124,8 @@ fn put_field(room: &mut [u8], at: usize, field: PlainField, bytes: &[u8]) -> (us
     (put_number(room, at, name, n), size)
 }
 
+// A function for each number of fields, without a loop: in a loop no name would be a constant.
+
 /// Writes ` name=value` for the only field of a run, as `put_field` does.
 #[inline(always)]
 fn put_one_field(room: &mut [u8], at: usize, fields: &[PlainField], bytes: &[u8]) -> (usize, usize)

@@ -22,6 +22,8 @@ use xdr3::{PlainField, Visit, spelled_hyper, spelled_word};
 /// How many bytes attributes have after the type.
 const SIZE: usize = 80;
 
+// The names are compared in three patterns: one of 16 names takes the prover five minutes.
+
 #[inline(always)]
 #[tactic(auto, unfolding(xdr3::specs::Item::called))]
 fn are_first_fields(fields: &[PlainField]) -> bool
