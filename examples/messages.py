@@ -1,6 +1,8 @@
-"""Parts of recorded NFS version 3 and MOUNT version 3 traffic, each as its bytes, and the captures that contain them.
+"""Parts of recorded NFS version 3 and MOUNT version 3 traffic, each as its bytes, and the captures
+that contain them.
 
-Each function is named after the part of RFC 4506, RFC 5531, RFC 1813 or docs/FORMATS.md that it returns, and names the section.
+Each function is named after the part of RFC 4506, RFC 5531, RFC 1813 or docs/FORMATS.md that it
+returns, and names the section.
 """
 import struct
 from collections.abc import Iterable, Iterator, Sequence
@@ -9,13 +11,17 @@ NFS, MOUNT, NFSACL = 100003, 100005, 100227
 
 # The procedures by number (RFC 1813, sections 3.3 and 5.2).
 NFS_PROCEDURES = (
-    'NULL', 'GETATTR', 'SETATTR', 'LOOKUP', 'ACCESS', 'READLINK', 'READ', 'WRITE', 'CREATE', 'MKDIR', 'SYMLINK',
-    'MKNOD', 'REMOVE', 'RMDIR', 'RENAME', 'LINK', 'READDIR', 'READDIRPLUS', 'FSSTAT', 'FSINFO', 'PATHCONF', 'COMMIT')
+    'NULL', 'GETATTR', 'SETATTR', 'LOOKUP', 'ACCESS', 'READLINK', 'READ', 'WRITE', 'CREATE',
+    'MKDIR', 'SYMLINK', 'MKNOD', 'REMOVE', 'RMDIR', 'RENAME', 'LINK', 'READDIR', 'READDIRPLUS',
+    'FSSTAT', 'FSINFO', 'PATHCONF', 'COMMIT')
 MOUNT_PROCEDURES = ('NULL', 'MNT', 'DUMP', 'UMNT', 'UMNTALL', 'EXPORT')
 
-# nfsstat3 (RFC 1813, section 2.6) and mountstat3 (section 5.1.5), the numbers that messages here use.
-NOENT, IO, ACCES, EXIST, XDEV, INVAL, NOSPC, ROFS, MLINK, NOTEMPTY, DQUOT, STALE = 2, 5, 13, 17, 18, 22, 28, 30, 31, 66, 69, 70
-BADHANDLE, NOT_SYNC, BAD_COOKIE, TOOSMALL, BADTYPE, JUKEBOX = 10001, 10002, 10003, 10005, 10007, 10008
+# nfsstat3 (RFC 1813, section 2.6) and mountstat3 (section 5.1.5), the numbers that messages here
+# use.
+NOENT, IO, ACCES, EXIST, XDEV, INVAL, NOSPC = 2, 5, 13, 17, 18, 22, 28
+ROFS, MLINK, NOTEMPTY, DQUOT, STALE = 30, 31, 66, 69, 70
+BADHANDLE, NOT_SYNC, BAD_COOKIE = 10001, 10002, 10003
+TOOSMALL, BADTYPE, JUKEBOX = 10005, 10007, 10008
 
 # ftype3 (RFC 1813, section 2.5), stable_how (section 3.3.7) and createmode3 (section 3.3.8)
 REG, DIR, BLK, CHR, LNK, SOCK, FIFO = range(1, 8)
@@ -66,14 +72,15 @@ AUTH_NONE = word(0) + opaque(b'')
 
 def auth_sys(stamp: int, machine: bytes, uid: int, gid: int, groups: Iterable[int]) -> bytes:
     """A credential of flavor AUTH_SYS (appendix A)."""
-    parameters = word(stamp) + opaque(machine) + word(uid) + word(gid) + array([word(group) for group in groups])
+    parameters = word(stamp) + opaque(machine) + word(uid) + word(gid) + array([*map(word, groups)])
     return word(1) + opaque(parameters)
 
 
-def call(xid: int, program: int, version: int, procedure: int, arguments: bytes = b'', mtype: int = 0,
-         credential: bytes = AUTH_NONE) -> bytes:
+def call(xid: int, program: int, version: int, procedure: int, arguments: bytes = b'',
+         mtype: int = 0, credential: bytes = AUTH_NONE) -> bytes:
     """A call (section 9), whose verifier is AUTH_NONE."""
-    return struct.pack('>6I', xid, mtype, 2, program, version, procedure) + credential + AUTH_NONE + arguments
+    head = struct.pack('>6I', xid, mtype, 2, program, version, procedure)
+    return head + credential + AUTH_NONE + arguments
 
 
 def success(xid: int, results: bytes = b'') -> bytes:
@@ -96,8 +103,8 @@ def nfstime(seconds: int, nanoseconds: int = 0) -> bytes:
 NOW = nfstime(0x68000000, 250_000_000)
 
 
-def fattr(kind: int, fileid: int, size: int = 0, mode: int = 0o644, nlink: int = 1, uid: int = 1000, gid: int = 1000,
-          device: tuple[int, int] = (0, 0), fsid: int = 0x42) -> bytes:
+def fattr(kind: int, fileid: int, size: int = 0, mode: int = 0o644, nlink: int = 1, uid: int = 1000,
+          gid: int = 1000, device: tuple[int, int] = (0, 0), fsid: int = 0x42) -> bytes:
     """fattr3."""
     head = struct.pack('>5I', kind, mode, nlink, uid, gid)
     numbers = struct.pack('>2Q2I2Q', size, -(-size // 4096) * 4096, *device, fsid, fileid)
@@ -127,8 +134,9 @@ def set_to_client_time(time: bytes) -> bytes:
     return word(2) + time
 
 
-def sattr(mode: int | None = None, uid: int | None = None, gid: int | None = None, size: int | None = None,
-          atime: bytes = DONT_CHANGE, mtime: bytes = DONT_CHANGE) -> bytes:
+def sattr(mode: int | None = None, uid: int | None = None, gid: int | None = None,
+          size: int | None = None, atime: bytes = DONT_CHANGE,
+          mtime: bytes = DONT_CHANGE) -> bytes:
     """sattr3."""
     words = (optional(None if value is None else word(value)) for value in (mode, uid, gid))
     return b''.join(words) + optional(None if size is None else hyper(size)) + atime + mtime
@@ -171,12 +179,14 @@ def entry(fileid: int, name: bytes, cookie: int) -> bytes:
     return hyper(fileid) + opaque(name) + hyper(cookie)
 
 
-def entryplus(fileid: int, name: bytes, cookie: int, attributes: bytes | None = None, handle: bytes | None = None) -> bytes:
+def entryplus(fileid: int, name: bytes, cookie: int, attributes: bytes | None = None,
+              handle: bytes | None = None) -> bytes:
     """entryplus3 without its next entry (section 3.3.17)."""
     return entry(fileid, name, cookie) + post_op_attr(attributes) + post_op_fh(handle)
 
 
-def entries(directory: bytes | None, verifier: bytes, items: Iterable[bytes], is_end: bool) -> bytes:
+def entries(directory: bytes | None, verifier: bytes, items: Iterable[bytes],
+            is_end: bool) -> bytes:
     """What READDIR and READDIRPLUS answer (sections 3.3.16 and 3.3.17)."""
     return post_op_attr(directory) + verifier + linked(items) + word(is_end)
 
@@ -190,7 +200,8 @@ def mountlist(mounts: Iterable[tuple[bytes, bytes]]) -> bytes:
 
 def exports(directories: Iterable[tuple[bytes, Iterable[bytes]]]) -> bytes:
     """The results of EXPORT (section 5.2.5): pairs of a directory and the names of its groups."""
-    return linked([opaque(directory) + linked(list(map(opaque, groups))) for directory, groups in directories])
+    return linked([opaque(directory) + linked(list(map(opaque, groups)))
+                   for directory, groups in directories])
 
 
 # --- Records (RFC 5531, section 11) and captures (docs/FORMATS.md) ---
@@ -210,7 +221,8 @@ def fragment(body: bytes, is_last: bool = True) -> bytes:
 
 
 def chunk(content: bytes) -> bytes:
-    """A chunk of version 1, and what follows the side word in version 2. The content is not empty."""
+    """A chunk of version 1, and what follows the side word in version 2. The content is not
+    empty."""
     return word(len(content)) + content
 
 
@@ -231,7 +243,8 @@ def version_1(connections: Iterable[Sides]) -> Iterator[bytes]:
 
 
 def version_2(connections: Iterable[Iterable[bytes]]) -> Iterator[bytes]:
-    """Yields the parts of a capture of version 2 in the same way. A connection is its chunks in order, each with its side word."""
+    """Yields the parts of a capture of version 2 in the same way. A connection is its chunks in
+    order, each with its side word."""
     yield MAGIC_2
     for chunks in connections:
         yield word(1)
@@ -242,13 +255,15 @@ def version_2(connections: Iterable[Iterable[bytes]]) -> Iterator[bytes]:
 
 def capture(*connections: Bodies) -> bytes:
     """A capture of version 1 in which each record is a chunk."""
-    return b''.join(version_1((map(record, calls), map(record, replies)) for calls, replies in connections))
+    return b''.join(version_1((map(record, calls), map(record, replies))
+                              for calls, replies in connections))
 
 
 def interleaved(*connections: Iterable[tuple[bytes, bytes]]) -> bytes:
-    """A capture of version 2 in which each record is a chunk. A connection is a list of side words and bodies, in the order in which
-    they were sent."""
-    return b''.join(version_2((side + record(body) for side, body in messages) for messages in connections))
+    """A capture of version 2 in which each record is a chunk. A connection is a list of side words
+    and bodies, in the order in which they were sent."""
+    return b''.join(version_2((side + record(body) for side, body in messages)
+                              for messages in connections))
 
 
 def in_turn(calls: Iterable[bytes], replies: Iterable[bytes]) -> list[tuple[bytes, bytes]]:

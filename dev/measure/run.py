@@ -4,7 +4,7 @@
     run.py PROGRAM FILE..
 
 The seconds are those of the fastest run, from its start to its end; the memory is the most that was
-resident in any run, as GNU time tells it.
+resident in any run, as GNU time reports it.
 """
 import argparse
 import pathlib
@@ -30,7 +30,7 @@ class Measured(NamedTuple):
 
 
 def run(program: str, file: str) -> Measured:
-    """Runs `check` under GNU time, which tells the memory."""
+    """Runs `check` under GNU time, which reports the memory."""
     with tempfile.NamedTemporaryFile('r') as kilobytes:
         timed = [GNU_TIME, '--quiet', '--format=%M', '--output', kilobytes.name]
         begin = time.perf_counter()

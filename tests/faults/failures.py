@@ -269,7 +269,7 @@ def randoms(line: str, place: Place) -> None:
 
 
 def unopened_names(line: str, told: str, place: Place) -> None:
-    """Of two captures the one is told for whose name memory ran out."""
+    """The report names that of two captures for whose name memory ran out."""
     place.put(example('getattr'))
     last = place.fail(line, Fault('growth', 0)).counts['growth']
     errors = [place.fail(line, Fault('growth', number)).error for number in range(1, last + 1)]
@@ -348,7 +348,7 @@ def expected(setting: Setting, whole: bytes | None) -> bytes | None:
 
 def old_or_whole(place: Place, what: str, setting: Setting, run: Seen, plain: Seen,
                  before: Found) -> None:
-    """A run ended as without a fault, or it was told that a file could not be opened, read or
+    """A run ended as without a fault, or reported that a file could not be opened, read or
     written, and nothing is changed."""
     answer, found = run.answer, outputs.without_parts(run.found)
     if printed(answer) == printed(plain.answer):

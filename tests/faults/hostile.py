@@ -284,7 +284,7 @@ def streams_without_an_end(place: Place) -> None:
 # --- Disks, pipes and signals ---
 
 def disks_that_are_full_in_the_middle(place: Place) -> None:
-    """A regular file that may not get longer stands for a full disk, which a test cannot make."""
+    """A regular file that may not get longer is taken for a full disk, which a test cannot make."""
     place.write('a', LARGE)
     place.write('out', b'as it was')
     for name in ('out', 'new'):
@@ -320,7 +320,7 @@ def pipes_that_do_not_wait(place: Place) -> None:
 
 
 def standard_error_that_nobody_reads(place: Place) -> None:
-    """The status still tells."""
+    """The status still shows it."""
     place.write('a', messages.MAGIC)
     writer = pipe_without_reader()
     place.want('check', place.run('check', 'a', stderr=writer), (2, '', ''))
@@ -545,7 +545,7 @@ def as_nobody(place: Place) -> Callable[..., Answer] | None:
 
 
 def outputs_that_are_refused_before_the_work(place: Place) -> None:
-    """The input is refused, but what is told is that nothing can be written to the output."""
+    """The input is refused, but the report is that nothing can be written to the output."""
     place.write('a', messages.MAGIC)
     run = as_nobody(place)
     if run is None:
@@ -764,8 +764,8 @@ def hiding(folder: str) -> list[str] | None:
 
 
 def removed_files_by_their_numbers(place: Place) -> None:
-    """The link in /proc to a removed file leads to that file, and not to the one that has the name
-    which it tells."""
+    """The link in /proc to a removed file leads to that file, and not to the one that
+    has the name which it gives."""
     place.write('a', GOOD)
     for words in (['canon', 'a', '/proc/self/fd/7'], ['pack', '/proc/self/fd/7', 'a', 'a'],
                   ['nfs3mask', 'a', '/proc/self/fd/7']):

@@ -152,7 +152,7 @@ def cut_short(runs: Runs, capture: bytes, line: str, every: bool) -> None:
 
 
 def as_the_model(runs: Runs, container: Container, known: dict[bytes, list[Answer]]) -> None:
-    """Tries `check` and `show` on the prefix `front`, which print what the model tells. `known` has
+    """Tries `check` and `show` on the prefix `front`, which print what the model says. `known` has
     what they print of the older files so far."""
     older = container.older()
     if older not in known:

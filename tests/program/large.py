@@ -299,7 +299,7 @@ NULL = messages.capture(([call(1, NFS, 3, 0)], [success(1)]))
 
 
 def words_of_the_line(place: Place) -> None:
-    """A word that no file can have as its name is told whole."""
+    """A word that no file can have as its name is printed whole."""
     place.write('a', NULL)
     for size in (256, 4_096, 10_000, 100_000):
         name = 'x' * size

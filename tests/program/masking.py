@@ -50,7 +50,7 @@ class Masker:
         return found
 
     def value(self, owner: ValueClass, content: bytes) -> bytes:
-        """Returns what stands for a value, in its own width."""
+        """Returns what replaces a value, in its own width."""
         if self.mask[owner.name] is Way.ZERO or owner.keeps_zero and not any(content):
             return bytes(len(content))
         numbers = self.numbers[owner.name]
@@ -80,11 +80,11 @@ class Masker:
         return bytes(out)
 
     def raw(self, size: int) -> bytes:
-        """Returns what stands for the bytes of a body of another program or version."""
+        """Returns what replaces the bytes of a body of another program or version."""
         return bytes(size)
 
     def name_in(self, owner: ValueClass) -> bytes:
-        """Returns what stands for a name: of a machine, or of a file that was removed while it was
+        """Returns what replaces a name: of a machine, or of a file that was removed while it was
         open."""
         return b'' if owner.name == 'machines' else b'.nfs' + b'0' * 24
 
@@ -109,8 +109,8 @@ def masked_bodies(connections: Iterable[Bodies], masker: Masker) -> Iterator[Bod
 
 class Renamer(Masker):
     """Puts other values in the place of those of the classes: one to one if they are numbered, and
-    any if they become zero. Any name of a machine stands for another, and so does any name of a
-    removed file, and any body of one length that is not checked."""
+    any if they become zero. Any name of a machine becomes another, and so do names of
+    removed files, and bodies of one length that are not checked."""
 
     def __init__(self, mask: Mask, chance: random.Random) -> None:
         super().__init__(mask)

@@ -36,6 +36,6 @@ def listed() -> dict[str, list[str]]:
 
 
 def with_ways() -> dict[str, dict[str, str]]:
-    """The usual ways in each text that tells them."""
+    """The usual ways in each text that has them."""
     return {path: dict(re.findall(form, (TOP / path).read_text(), re.M))
             for path, form in TABLES.items()}

@@ -1,7 +1,7 @@
 """What a capture shows by its container alone: a model beside the program's, which looks into no
 record, and the reader of the tests.
 
-It does not use the reader of tools/nfs3tools/recordings/container.py, which tells neither the place
+It does not use the reader of tools/nfs3tools/recordings/container.py, which gives neither the place
 of a fault nor its reason.
 """
 from dataclasses import dataclass, field

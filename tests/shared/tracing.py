@@ -293,8 +293,8 @@ class Traced:
         return Pending(None, asked)
 
     def kind(self) -> str | None:
-        """The kind of a call that is counted. What goes to standard error is not, nor what the
-        system tells in /proc."""
+        """The kind of a call that is counted. What goes to standard error is not, nor
+        what is read from /proc."""
         kind, file = KINDS.get(self.registers.orig_rax), self.registers.rdi
         if (kind == 'write' and file == STANDARD_ERROR
                 or kind == 'random' and self.registers.rdx & NO_WAIT):

@@ -72,7 +72,7 @@ MOUNT_PROCEDURES: list[tuple[Part, Part]] = [
 
 @dataclass(frozen=True)
 class Names:
-    """What stands for the handles, write verifiers and xids of a capture, and its residual bytes.
+    """What replaces the handles, write verifiers and xids of a capture, and its residual bytes.
     The handle 0 is empty."""
     handles: list[bytes]
     verifiers: list[bytes]
@@ -102,7 +102,7 @@ class Names:
                      [bytes(255 - byte for byte in v) for v in self.verifiers], xids)
 
     def merged(self, kind: str, kept: int, lost: int) -> 'Names':
-        """Returns these names, but one handle or verifier stands for two."""
+        """Returns these names, but one handle or verifier replaces two."""
         names = Names(list(self.handles), list(self.verifiers), self.xids)
         of_kind = {'handles': names.handles, 'verifiers': names.verifiers}[kind]
         of_kind[lost] = of_kind[kept]

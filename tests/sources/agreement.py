@@ -53,8 +53,8 @@ def console_of(text: str) -> list[Command]:
 
 
 def is_printed(wanted: list[str], printed: list[str]) -> bool:
-    """Whether these lines are printed. A line `..` stands for any lines, and `..` at the end of a
-    line for any rest of it."""
+    """Whether these lines are printed. A line `..` means any lines, and `..` at the end of a
+    line any rest of it."""
     if not wanted:
         return not printed
     if wanted[0] == '..':
@@ -79,7 +79,7 @@ def here(line: str, tools: Tools) -> str:
 
 def commands_of_the_pages(tools: Tools) -> None:
     """Each command of a console block is run, in order, and prints the lines below it. The status
-    is told by what is printed."""
+    follows from what is printed."""
     commands = {page: console_of(text) for page, text in TEXTS.items() if '```console' in text}
     tools.want('pages', sorted(commands), ['README.md', 'examples/README.md', 'tools/README.md'])
     for command, wanted in [command for found in commands.values() for command in found]:
@@ -170,7 +170,7 @@ def examples_are_used(tools: Tools) -> None:
 
 
 def answers_of_the_examples(tools: Tools) -> None:
-    """Each capture of examples/ stands in its README with what `check` prints, each wrong recording
+    """Each capture of examples/ is in its README with what `check` prints, each wrong recording
     with the verdict on its last connection, and no other file does."""
     rows, there = rows_of_the_examples(), [*(TOP / 'examples').glob('*.nfs3cap'),
                                            *(TOP / 'examples').glob('bad_*.pcap')]

@@ -32,7 +32,7 @@ def not_quoted() -> list[str]:
 
 
 def is_there(crate: str, name: str, room: str) -> bool:
-    """Returns whether a name of a table stands for a file or a folder; in one cell the first name
+    """Returns whether a name of a table is that of a file or a folder; in one cell the first name
     says where the others are."""
     path = CRATES / crate / (name if '/' in name else room + name)
     return path.exists() or path.with_suffix('.antt').exists()

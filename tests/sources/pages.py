@@ -17,7 +17,7 @@ MOST_WORDS_OF_A_PAGE = {'README.md': 1200, 'docs/ARCHITECTURE.md': 3000}
 # Words for which the field has others: a function returns, a value is, a text has.
 AVOIDED = re.compile(r'\b(?:tells|told|so is|does so|besides|in another turn|belong together|one '
                      r'more|stands (?:for|in|at|there))\b', re.I)
-# Pages that still have such words, and how many. A number may fall and not rise.
+# Pages whose words are not looked at: one is made, and one has notes.
 MADE_OR_NOTES = ('docs/API.md', 'dev/measure/NOTES.md')
 # A condition is `if`; `where` is for places.
 MOST_WHERES = 8

@@ -3,13 +3,13 @@ of them, in words:
 
 - definitions that no public call believes are in a folder named machinery of crates/*/specs, and no
   others are;
-- a name stands for one definition;
+- a name has one definition;
 - no clause of a public call names a private field;
 - no clause, no definition and no proof has a line over 100 columns;
 - no folder of crates/*/proofs has too many files;
 - no file of machinery has the name of another file of specs;
 - each file of src/scans has a file of src/values;
-- a type's name stands for one type, or for its scan and its value in one crate.
+- a type's name has one type, or its scan and its value in one crate.
 """
 import collections
 import importlib.machinery

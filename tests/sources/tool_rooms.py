@@ -1,7 +1,7 @@
 """The rooms of tools/nfs3tools in their order: a module imports from its own room and from those
 below it, modules do not import each other in a circle, and tools/DESIGN.md has each in the table of
 its room. A name has one meaning in all rooms: one module defines it. And the lines of the tools, of
-all tests and of `dev`: none is longer than tools/pyproject.toml has it."""
+all tests, of `dev` and `examples`: none is longer than tools/pyproject.toml has it."""
 import ast
 import collections
 import pathlib
@@ -141,8 +141,8 @@ def is_python(path: pathlib.Path) -> bool:
 
 
 def long_lines() -> list[str]:
-    """Returns the lines of the tools, of all tests and of `dev` that are too long."""
-    paths = [path for folder in ('tools', 'tests', 'dev')
+    """Returns the lines of the tools, of all tests, of `dev` and `examples` that are too long."""
+    paths = [path for folder in ('tools', 'tests', 'dev', 'examples')
              for path in sorted((TOP / folder).rglob('*')) if is_python(path)]
     return [line for path in paths
             for line in longer_lines(str(path.relative_to(TOP)), path.read_text(), columns())]

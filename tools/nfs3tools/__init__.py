@@ -1,6 +1,6 @@
 """The tools for testers: reading recordings and captures, and running the program on them.
 
-This file is read by any Python, so that an old one can be told what it lacks.
+This file is read by any Python, so that a tool can say what an old one lacks.
 """
 import os
 import sys

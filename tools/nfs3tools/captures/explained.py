@@ -1,9 +1,10 @@
-"""What stands in a record, or at one of its bytes, line by line: its message, the item with its
-value and what may stand there, and the bytes.
+"""What is in a record, or at one of its bytes, line by line: its message, the item with its value
+and what may be there, and the bytes.
 
     tell_record(within.record(place), place, reason, print)
 
-A line is printed as soon as it is made, since a record may have very many of them.
+Each function here passes its lines to `tell` as soon as they are made, since a record may have very
+many of them.
 """
 from __future__ import annotations
 
@@ -42,7 +43,7 @@ REASONS = {
 
 
 def tell_record(found: FoundRecord, place: Place, reason: str | None, tell: Tell) -> None:
-    """Tells the item at a byte, with why it is refused, or all items."""
+    """The item at a byte, with why it is refused, or all items."""
     head, is_call = found.body[:UP_TO_PROCEDURE], place.side == 'client'
     call = None if is_call else call_with_xid(found.calls, head[:4])
     procedure = tell_heading(place, found.body, call, tell)
@@ -60,7 +61,7 @@ def tell_record(found: FoundRecord, place: Place, reason: str | None, tell: Tell
 
 
 def tell_heading(place: Place, body: Body, call: Call | None, tell: Tell) -> Procedure | None:
-    """Tells what the message is, and returns its procedure if that is known."""
+    """What the message is. Returns its procedure if that is known."""
     head, is_call = body[:UP_TO_PROCEDURE], place.side == 'client'
     numbers = call.numbers if call else numbers_in(head)
     procedure = procedure_of(*numbers) if call or is_call and len(head) == UP_TO_PROCEDURE else None
@@ -74,7 +75,7 @@ def tell_heading(place: Place, body: Body, call: Call | None, tell: Tell) -> Pro
 
 
 def tell_items(body: Body, is_call: bool, procedure: Procedure | None, tell: Tell) -> None:
-    """Tells all items that have bytes, up to the end or to the first that is at fault."""
+    """All items that have bytes, up to the end or to the first that is at fault."""
     last = list[PlacedItem]()
 
     def look(item: PlacedItem) -> None:
@@ -92,7 +93,7 @@ def tell_items(body: Body, is_call: bool, procedure: Procedure | None, tell: Tel
 
 def tell_item(body: Body, is_call: bool, procedure: Procedure | None, byte: int,
               tell: Tell) -> tuple[int, int]:
-    """Tells the item at a byte, and returns where it begins and ends."""
+    """The item at a byte. Returns where it begins and ends."""
     found = list[PlacedItem]()
 
     def look(item: PlacedItem) -> None:
@@ -131,8 +132,8 @@ def remark_on_item(item: PlacedItem) -> str:
 
 
 def tell_bytes(data: Body, begin: int, end: int, byte: int, tell: Tell, first: int = 0) -> None:
-    """Tells lines of 16 bytes, of a long run those around a byte, with the bytes from `begin` to
-    `end` in brackets."""
+    """Lines of 16 bytes, of a long run those around a byte, with the bytes from `begin` to `end` in
+    brackets."""
     low, high = 0, len(data)
     if high > 32 * LINES_AROUND:
         low = max(0, byte // 16 - LINES_AROUND) * 16
@@ -147,6 +148,6 @@ def tell_bytes(data: Body, begin: int, end: int, byte: int, tell: Tell, first: i
 
 
 def tell_reason(reason: str | None, tell: Tell) -> None:
-    """Tells what a reason means."""
+    """What a reason means."""
     if reason:
         tell('%s: %s' % (reason, REASONS.get(reason, 'no reason of nfs3canon')))

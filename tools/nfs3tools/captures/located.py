@@ -248,7 +248,7 @@ def located(path: str, place: Place | FilePlace | FramePlace,
 
 
 def is_capture(source: Source, may_be_any: bool) -> bool:
-    """Whether a file begins as a capture. One of any kind does so that is no recording and not
+    """Whether a file begins as a capture; if it may be any, whether it is no recording and not
     compressed."""
     if source.peek(8) in MAGICS or not may_be_any:
         return source.peek(8) in MAGICS

@@ -326,7 +326,7 @@ class Following:
             self.conclude(one, verdict._replace(notes=[]))
 
     def tell(self, one: Open, verdict: Verdict) -> None:
-        """Tells what is missing from a section that is forgotten, or was left out of it."""
+        """Reports what is missing from a section that is forgotten, or was left out of it."""
         for note in verdict.notes:
             self.say(Verdict(self.recording, one.number, state='note', message=note))
 
@@ -381,7 +381,7 @@ class Following:
         self.forget(one, is_told=False)
 
     def tell_strays(self, connection: Connection) -> None:
-        """Tells which frames of a connection were passed over after its line."""
+        """Reports which frames of a connection were passed over after its line."""
         for note in connection.strays:
             self.say(Verdict(self.recording, state='note',
                              message=f'{" and ".join(connection.ends)}: {note}'))
@@ -414,7 +414,7 @@ class Following:
             self.connections.forget(forgotten)
 
     def tell_later(self, connection: Connection) -> None:
-        """Tells of bytes that came after a connection was judged, or by which others are missing,
+        """Reports bytes that came after a connection was judged, or by which others are missing,
         unless it is refused."""
         told = []
         if connection.after:

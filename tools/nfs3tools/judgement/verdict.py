@@ -71,7 +71,7 @@ class Verdict(typing.NamedTuple):
 
 class JudgedBefore(typing.NamedTuple):
     """What was judged of a connection before the streams that are taken: its calls and replies, the
-    bytes missing among them, why it is in part besides, and its calls by kind. `carried` is how
+    bytes missing among them, why else it is in part, and its calls by kind. `carried` is how
     many of the calls are put before the client's stream again, since their replies are not
     there."""
     calls: int = 0

@@ -139,7 +139,7 @@ class Stream:
         self.expected = ((self.first or 0) + self.next) % SEQUENCE_SPACE
 
     def shows(self, end: int, number: int) -> None:
-        """A frame shows that bytes were sent up to a position. FIN is acknowledged as one more. An
+        """A frame shows that bytes were sent up to a position. FIN counts as a byte. An
         end that is far beyond all that is known counts once a second frame agrees."""
         if self.end is not None and end <= self.end + 1:
             end = min(end, self.end)
@@ -182,8 +182,7 @@ class Stream:
         self.shows(self.position(acknowledged), number)
 
     def is_beyond(self, acknowledged: int) -> bool:
-        """Whether an acknowledgement shows bytes after all that are known. FIN is acknowledged as
-        one more."""
+        """Whether an acknowledgement shows bytes after all that are known. FIN counts as a byte."""
         return (self.first is not None
                 and self.position(acknowledged) > max(self.next, self.known_end) + 1)
 
