@@ -20,7 +20,7 @@ import typing
 from collections.abc import Iterable, Mapping
 
 from ..shared.layouts import MOUNT, NFS, RAW, procedure_of
-from .records import Window, body_of, extents
+from .records import ReadableBytes, Window, body_of, extents
 
 Word = typing.Literal['judged', 'in part', 'left out', 'not checked']
 NFS_PORTS = frozenset({2049, 20048})  # NFS, and MOUNT as Linux has it
@@ -180,12 +180,9 @@ def named_calls(calls: Mapping[str, int]) -> str:
 
 # --- Calls ---
 
-class Sized(typing.Protocol):
-    """Bytes that can be read from anywhere, and whose number is known."""
+class Sized(ReadableBytes, typing.Protocol):
+    """The same, and their number is known."""
     size: int
-
-    def read(self, begin: int, size: int) -> bytes:
-        """Returns the bytes from `begin` on: `size` of them, or fewer at the end."""
 
 
 def called_in(stream: Sized) -> Called:

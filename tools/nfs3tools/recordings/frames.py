@@ -5,6 +5,7 @@ import contextlib
 import struct
 import sys
 import typing
+from functools import partial
 
 from ..shared.kinds import LONGEST_MAGIC, PACKED_BY, PCAP, SECTION
 from .unpacking import READ_AT_ONCE, CutShort, Damaged, Piped, Readable, position_of, unpacked
@@ -152,20 +153,12 @@ class Recording:
         link = struct.unpack_from(order + 'I', header, 20)[0] & 0xffff
         while self.source.peek(1):
             yield from self.of_block(fields, scale, link)
-            if not self.source.peek(1):
-                return
-            head = self.piece(16)
-            if head is None:
-                return
-            seconds, fraction, kept, length = fields.unpack(head)
+            head = self.source.peek(16)
+            kept = fields.unpack(head)[2] if len(head) == 16 else 0
             if kept > LONGEST_BLOCK:
                 raise Damaged(f'frame {self.count + 1} claims {kept} bytes')
-            data = self.piece(kept)
-            if data is None:
-                return
-            self.count += 1
-            yield Frame(self.count, seconds * NANOSECONDS + fraction * scale, link, data,
-                        max(length, kept))
+            if head and len(self.source.peek(16 + kept)) < 16 + kept:
+                self.piece(16 + kept)
 
     def of_block(self, fields: struct.Struct, scale: int, link: int) -> typing.Iterator[Frame]:
         """Iterates over the frames that stand whole in the block that was read; this is where the
@@ -266,14 +259,9 @@ def packet(number: int, time: int, link: int, content: bytes, kept: int, length:
     return Frame(number, time, link, content[:kept], max(length, kept))
 
 
-def enhanced(order: str, body: bytes, interfaces: list[Interface], number: int) -> Frame:
-    index, high, low, kept, length = block_numbers(order, '5I', body)
-    interface = interface_at(interfaces, index)
-    return packet(number, interface.time(high, low), interface.link, body[20:], kept, length)
-
-
-def obsolete(order: str, body: bytes, interfaces: list[Interface], number: int) -> Frame:
-    index, _, high, low, kept, length = block_numbers(order, 'HH4I', body)
+def timed(layout: str, order: str, body: bytes, interfaces: list[Interface], number: int) -> Frame:
+    """A frame of the interface that the first number of its block names."""
+    index, *_, high, low, kept, length = block_numbers(order, layout, body)
     interface = interface_at(interfaces, index)
     return packet(number, interface.time(high, low), interface.link, body[20:], kept, length)
 
@@ -288,8 +276,8 @@ def simple(order: str, body: bytes, interfaces: list[Interface], number: int) ->
 
 
 Packet = typing.Callable[[str, bytes, list[Interface], int], Frame]
-PACKETS: dict[int, Packet] = {ENHANCED_PACKET: enhanced, OBSOLETE_PACKET: obsolete,
-                              SIMPLE_PACKET: simple}
+PACKETS: dict[int, Packet] = {ENHANCED_PACKET: partial(timed, '5I'),
+                              OBSOLETE_PACKET: partial(timed, 'HH4I'), SIMPLE_PACKET: simple}
 
 
 @contextlib.contextmanager

@@ -233,7 +233,7 @@ class Segments:
             self.count_unread(data, len(data))
             return None
         head, total, _, fragment, protocol = IPV4_HEADER.unpack_from(data, at)
-        begin = at + (head & 15) * 4
+        begin, addresses = at + (head & 15) * 4, data[at + 12:at + 20]
         end = at + total if total else length
         if protocol == UDP and not fragment & 0x1fff:
             self.count_datagram(data, begin)
@@ -242,15 +242,14 @@ class Segments:
             self.count_unfit(protocol, data, begin if is_first else len(data))
             return None
         if fragment & 0x3fff:
-            name = data[at + 4:at + 6] + data[at + 9:at + 10] + data[at + 12:at + 20]
+            name = data[at + 4:at + 6] + data[at + 9:at + 10] + addresses
             piece = data[begin:end]
             joined = self.joined(protocol, name, (fragment & 0x1fff) * 8, piece,
                                  len(piece) < end - begin, not fragment & 0x2000)
             if joined is None:
                 return None
-            return self.of_protocol(protocol, joined, 0, len(joined), len(joined),
-                                    data[at + 12:at + 20])
-        return self.of_protocol(protocol, data, begin, end, length, data[at + 12:at + 20])
+            data, begin, end = joined, 0, len(joined)
+        return self.of_protocol(protocol, data, begin, end, addresses)
 
     def of_ipv6(self, data: bytes, at: int, length: int) -> Segment | None:
         if at + 40 > len(data):
@@ -274,21 +273,20 @@ class Segments:
                 self.count_datagram(data, begin + 8)
             piece = data[begin + 8:end]
             joined = self.joined(following, data[begin + 4:begin + 8] + addresses, place & 0xfff8,
-                                 piece,
-                                 len(piece) < end - begin - 8, not place & 1)
+                                 piece, len(piece) < end - begin - 8, not place & 1)
             if joined is None:
                 return None
-            data, begin, end, length = joined, 0, len(joined), len(joined)
+            data, begin, end = joined, 0, len(joined)
             following, begin = after_extensions(data, following, begin)
         elif following == UDP:
             self.count_datagram(data, begin)
-        return self.of_protocol(following, data, begin, end, length, addresses)
+        return self.of_protocol(following, data, begin, end, addresses)
 
-    def of_protocol(self, protocol: int, data: bytes, begin: int, end: int, length: int,
+    def of_protocol(self, protocol: int, data: bytes, begin: int, end: int,
                     addresses: bytes) -> Segment | None:
         """The segment in the payload of a datagram of IP."""
         if protocol == TCP:
-            return self.of_tcp(data, begin, end, length, addresses)
+            return self.of_tcp(data, begin, end, addresses)
         carried = in_tunnel(protocol, data, begin, end)
         if carried is None or self.tunnels == TUNNELS_AT_MOST:
             self.other(protocol_named(protocol, data, begin) if carried is None
@@ -297,8 +295,7 @@ class Segments:
         self.tunnels += 1
         return self.of_kind(*carried, data, end)
 
-    def of_tcp(self, data: bytes, at: int, end: int, length: int,
-               addresses: bytes) -> Segment | None:
+    def of_tcp(self, data: bytes, at: int, end: int, addresses: bytes) -> Segment | None:
         there = min(end, len(data))
         if at + 20 > there:
             self.shortened(at + 20, there, end)

@@ -22,10 +22,9 @@ class Layers(Segments):
     that was joined of fragments."""
     data, at = b'', 0
 
-    def of_tcp(self, data: bytes, at: int, end: int, length: int,
-               addresses: bytes) -> Segment | None:
+    def of_tcp(self, data: bytes, at: int, end: int, addresses: bytes) -> Segment | None:
         self.at = at if data is self.data else 0
-        return super().of_tcp(data, at, end, length, addresses)
+        return super().of_tcp(data, at, end, addresses)
 
     def found_in(self, frame: Frame) -> Segment | None:
         """Returns the segment of a frame."""

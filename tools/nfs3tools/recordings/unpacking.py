@@ -120,21 +120,6 @@ def byte_by_byte(inflate: 'zlib._Decompress', packed: bytes) -> bytes:
     return bytes(content)
 
 
-class Decompressor(typing.Protocol):
-    """A decompressor of lzma or bz2."""
-
-    @property
-    def eof(self) -> bool: ...
-
-    @property
-    def needs_input(self) -> bool: ...
-
-    @property
-    def unused_data(self) -> bytes: ...
-
-    def decompress(self, data: bytes, max_length: int = -1) -> bytes: ...
-
-
 class Unpacked(Packed):
     """The bytes of a file of xz or bzip2, which may be several streams one after the other. What
     stands before damage is read."""
@@ -171,7 +156,7 @@ class Unpacked(Packed):
         return content
 
 
-def decompressor_of(magic: bytes) -> Decompressor:
+def decompressor_of(magic: bytes) -> lzma.LZMADecompressor | bz2.BZ2Decompressor:
     if magic == XZ:
         return lzma.LZMADecompressor(lzma.FORMAT_XZ, MOST_MEMORY)
     return bz2.BZ2Decompressor()

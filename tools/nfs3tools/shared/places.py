@@ -76,7 +76,7 @@ def parse_place(text: str) -> Place | FilePlace | FramePlace:
         if counted:
             return Place(int(counted[1]), 'client', int(counted[2]))
         if listed:
-            return Place(int(listed[1]), side_of(listed[2]), int(listed[3]))
+            return Place(int(listed[1]), typing.cast(Side, listed[2]), int(listed[3]))
         if found:
             return matched_place(found)
         if frame:
@@ -87,7 +87,7 @@ def parse_place(text: str) -> Place | FilePlace | FramePlace:
 def matched_place(found: re.Match[str]) -> Place | FilePlace:
     if found[5] is not None:
         return FilePlace(int(found[5]))
-    return Place(int(found[1]), side_of(found[2]), int(found[3]),
+    return Place(int(found[1]), typing.cast(Side, found[2]), int(found[3]),
                  None if found[4] is None else int(found[4]))
 
 
@@ -96,7 +96,3 @@ def parse_fault(text: str) -> Fault | None:
     lines = (PLACE.fullmatch(line.strip()) for line in text.splitlines())
     return next((Fault(matched_place(found), found[6]) for found in lines if found and found[6]),
                 None)
-
-
-def side_of(word: str) -> Side:
-    return 'client' if word == 'client' else 'server'
