@@ -323,8 +323,8 @@ def names_of_the_tools(tools: Tools) -> None:
 
 
 def lines_of_the_tools(tools: Tools) -> None:
-    """No line of the tools, of a test or of `dev` has more columns than tools/pyproject.toml says,
-    which are 100."""
+    """No line of the tools, of a test, of `dev` or `examples` has more columns than
+    tools/pyproject.toml says, which are 100. No docstring there has a word to avoid."""
     tools.want('columns', tool_rooms.columns(), 100)
     for size, wrong in ((100, []), (101, ['a.py:2: ' + 'x' * 101])):
         tools.want(f'a line of {size}',
@@ -333,6 +333,11 @@ def lines_of_the_tools(tools: Tools) -> None:
                          ('dev/dist', False), ('tools', False), ('tools/README.md', False)):
         tools.want(path, tool_rooms.is_python(TOP / path), wanted)
     tools.want('the tools', tool_rooms.long_lines(), [])
+    for docstring, wrong in (('It is told so.', 1), ('Retold.', 0), ('`told`: by it', 0),
+                             ('What stands for x.', 1)):
+        text = f'def f():\n    """{docstring}"""\n'
+        tools.want(docstring, len(tool_rooms.avoided_words('a.py', text)), wrong)
+    tools.want('words to avoid', tool_rooms.words_to_avoid(), [])
 
 
 def pages_are_plain(tools: Tools) -> None:

@@ -1,7 +1,8 @@
 """The rooms of tools/nfs3tools in their order: a module imports from its own room and from those
 below it, modules do not import each other in a circle, and tools/DESIGN.md has each in the table of
 its room. A name has one meaning in all rooms: one module defines it. And the lines of the tools, of
-all tests, of `dev` and `examples`: none is longer than tools/pyproject.toml has it."""
+all tests, of `dev` and `examples`: none is longer than tools/pyproject.toml has it, and docstrings
+avoid some words."""
 import ast
 import collections
 import pathlib
@@ -13,6 +14,8 @@ PACKAGE = TOP / 'tools/nfs3tools'
 HEADING = re.compile(r'^### `([\w.]+)`$(.*?)(?=^#)', re.M | re.S)  # of a room
 ROW = re.compile(r'^\| `(\w+)` \|', re.M)
 COLUMNS = re.compile(r'^line-length = (\d+)$', re.M)
+# Words for which a docstring has others: a function returns or reports, a value means.
+AVOIDED_THERE = re.compile(r'\b(?:tells|told|stands (?:for|in|at|there))\b', re.I)
 # From the lowest to the highest.
 ROOMS = ('shared', 'recordings', 'captures', 'exchanges', 'comparison.values',
          'comparison.exchanges', 'comparison.verdict',
@@ -140,9 +143,30 @@ def is_python(path: pathlib.Path) -> bool:
         return file.readline() == b'#!/usr/bin/env python3\n'
 
 
-def long_lines() -> list[str]:
-    """Returns the lines of the tools, of all tests, of `dev` and `examples` that are too long."""
+def avoided_words(name: str, text: str) -> list[str]:
+    """Returns the docstrings of a file that have words to avoid, after its name and the words.
+    Those of code in backquotes do not count."""
+    nodes = (node for node in ast.walk(ast.parse(text))
+             if isinstance(node, (ast.Module, ast.ClassDef, ast.FunctionDef)))
+    docstrings = (re.sub('`[^`]*`', '', ast.get_docstring(node) or '') for node in nodes)
+    return [f'{name}: {found[0]}: {docstring}' for docstring in docstrings
+            if (found := AVOIDED_THERE.search(docstring))]
+
+
+def files_in_python() -> dict[str, str]:
+    """Returns the tools, all tests, `dev` and `examples`: each file's text by its path."""
     paths = [path for folder in ('tools', 'tests', 'dev', 'examples')
              for path in sorted((TOP / folder).rglob('*')) if is_python(path)]
-    return [line for path in paths
-            for line in longer_lines(str(path.relative_to(TOP)), path.read_text(), columns())]
+    return {str(path.relative_to(TOP)): path.read_text() for path in paths}
+
+
+def long_lines() -> list[str]:
+    """Returns the lines of these files that are too long."""
+    return [line for name, text in files_in_python().items()
+            for line in longer_lines(name, text, columns())]
+
+
+def words_to_avoid() -> list[str]:
+    """Returns the docstrings of these files that have words to avoid."""
+    return [docstring for name, text in files_in_python().items()
+            for docstring in avoided_words(name, text)]
