@@ -17,7 +17,6 @@ from examples.messages import (
 from examples.packets import ACK, FIN, RST, Talk, pcap
 from tests.shared.traffic import Names, Traffic
 
-from .cases import FolderTest
 from .recordings import interface, section, simple
 from .scripts import (
     FIRST, TOP, Tools, in_fragments, measured, of_tshark, sums as sum_line, whole, write_faulty)
@@ -501,7 +500,3 @@ def many_calls(tools: Tools) -> None:
         tools.want(name, (status, memory <= MOST_MEMORY or memory), (0, True))
     tools.want('what it printed', (lines[-2], len(lines)), (f'{MANY:,} exchanges', MANY + 3))
     tools.want('processor time', max(spent) <= 8 * spent[0] or spent, True)
-
-
-class CallsTest(FolderTest, make=Tools):
-    """Each test has a folder of its own."""

@@ -11,7 +11,6 @@ from examples.messages import dirop, fattr, fh, ok, post_op_attr
 from examples.packets import pcap
 from tests.shared.running import RunOptions, begin, ended
 
-from .cases import FolderTest
 from .comparisons import conversation_of
 from .scripts import CHANGED, EXAMPLES, FIRST, SECOND, TOP, Tools, connection_of, whole
 
@@ -323,7 +322,3 @@ def names_that_last(tools: Tools) -> None:
     root = tools.xml('x.xml')
     texts = [item.text or '' for item in root.iter('failure')][1:]
     tools.want('positions', ['connection 1' in text for text in texts], [True] * 3)
-
-
-class CiTest(FolderTest, make=Tools):
-    """Each test has a folder of its own."""

@@ -13,7 +13,6 @@ from tests.shared.traffic import Names, Traffic
 
 from ..nfs3tools.comparison.exchanges.matching import aligned, blocks_of, increasing
 from ..nfs3tools.comparison.values.classes import CLASSES, default_mask, mask_text
-from .cases import FolderTest
 from .comparisons import Comparisons, Conversation, Exchange, conversation_of, is_unchecked
 from .scripts import CHANGED, FIRST, SECOND, measured
 
@@ -533,7 +532,3 @@ def same_in_part(place: Comparisons) -> None:
         status, out, _ = place.compare(options, '--order', 'strict', 'a', 'b')
         place.want('they differ', (status, out[1:3]), (
             1, ['differ at connection 1 client record 1034', f'compared in part: {less[1]}']))
-
-
-class CompareTest(FolderTest, make=Comparisons):
-    """Each test has a folder of its own."""

@@ -16,7 +16,6 @@ from ..nfs3tools.commands.verdicts import json_of_verdicts, junit_of_verdicts
 from ..nfs3tools.judgement.verdict import Verdict, counts_after, is_row, status_of
 from ..nfs3tools.recordings.coverage import Allowed
 from ..nfs3tools.reporting.messages import port_numbers
-from .cases import FolderTest
 from .recordings import (
     enhanced, fragments, fragments_6, in_geneve, in_gre, in_labels, in_session, in_snap, in_vxlan,
     interface, pcapng, section, udp)
@@ -425,7 +424,3 @@ def what_hides_in_others(tools: Tools) -> None:
                ['not checked: 1 frame of many tunnels is not read; what is in it is not known'])
     tools.want('the kind 0',
                taken_of(pcap([bytes(14) + frame[14:] for frame in whole()])).connections, [])
-
-
-class CoveredTest(FolderTest, make=Tools):
-    """Each test has a folder of its own."""

@@ -13,7 +13,6 @@ from ..nfs3tools.exchanges.listing import Message, messages_of
 from ..nfs3tools.comparison.values.long_values import parting_between
 from ..nfs3tools.comparison.verdict.differences import Comparison
 from ..nfs3tools.reporting.telling import difference_lines
-from .cases import FolderTest
 from .comparisons import Comparisons, Conversation, conversation_of
 from .scripts import CHANGED, EXAMPLES, FIRST
 
@@ -530,7 +529,3 @@ def each_error_names_its_run(place: Findings) -> None:
             status, out, error = place.compare(*words)
             place.want(f'{words}', (status, out, error.startswith(f'compare: {name}: {told}'),
                                     error.count('\n')), (2 + (name == 'absent'), [], True, 1))
-
-
-class FindingsTest(FolderTest, make=Findings):
-    """Each test has a folder of its own."""

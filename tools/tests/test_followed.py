@@ -17,8 +17,8 @@ from ..nfs3tools.judgement.verdict import Verdict, is_row
 from ..nfs3tools.recordings.frames import Recording, Source
 from ..nfs3tools.recordings.segments import Segments, ends_of
 from ..nfs3tools.recordings.selection import Options
-from .cases import SeedsTest
-from .scripts import plain as plain_verdicts, stream
+from .cases import try_seeds
+from .scripts import Tools, plain as plain_verdicts, stream
 
 SMALL = 30_000  # bytes of a section, in place of 8 MiB, so that much is forgotten
 SECOND = 1_000_000  # microseconds
@@ -260,13 +260,11 @@ def compared(program: str, seed: int, is_forgetting: bool) -> list[str]:
         return [f'seed {seed}: {wrong}' for wrong in differences(program, recording, Options())]
 
 
-class FollowedTest(SeedsTest):
-    """Random recordings, with --follow and plain."""
+def as_a_whole(tools: Tools) -> None:
+    """Connections that are judged as a whole."""
+    try_seeds(tools, 120, functools.partial(compared, is_forgetting=False))
 
-    def test_whole(self) -> None:
-        """Connections that are judged as a whole."""
-        self.check(120, functools.partial(compared, is_forgetting=False))
 
-    def test_in_sections(self) -> None:
-        """Connections that are judged in sections, of which those without a fault are forgotten."""
-        self.check(120, functools.partial(compared, is_forgetting=True))
+def in_sections(tools: Tools) -> None:
+    """Connections that are judged in sections, of which those without a fault are forgotten."""
+    try_seeds(tools, 120, functools.partial(compared, is_forgetting=True))

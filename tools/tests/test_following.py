@@ -17,7 +17,6 @@ from examples.packets import ACK, RST, Talk, pcap
 from tests.shared.running import begin, pipe_of
 
 from ..nfs3tools.recordings.spool import Spool, Stored
-from .cases import FolderTest
 from .scripts import ALL, TOP, Tools, stream, sums, whole
 
 VERDICTS = str(TOP / 'tools/verdicts')
@@ -359,7 +358,3 @@ def bytes_that_are_forgotten(tools: Tools) -> None:
     tools.want('all is forgotten', (spool.room.end, spool.room.begins, spool.unwritten,
                                     spool.stored), (0, [], 0, {}))
     spool.close()
-
-
-class FollowingTest(FolderTest, make=Tools):
-    """Each test has a folder of its own."""

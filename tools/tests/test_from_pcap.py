@@ -20,7 +20,6 @@ from ..nfs3tools.recordings.container import capture_of
 from ..nfs3tools.recordings.frames import Frame
 from ..nfs3tools.recordings.segments import Segments
 from ..nfs3tools.recordings.taken import NotTaken, TakenStream
-from .cases import FolderTest
 from .recordings import fragments, fragments_6
 from .scripts import (
     ALL, CALLS, MEASURED, REPLIES, TOP, WITH_TOOLS, Tools, exchange, packed, stream, taken_of,
@@ -641,7 +640,3 @@ def filters(tools: Tools) -> None:
         answer = tools.tool('from_pcap', '--filter', 'tcp', 'a.pcap', 'out', env=alone)
         tools.want('without tshark', answer,
                    (2, '', 'from_pcap: tshark is missing, which --filter needs\n'))
-
-
-class FromPcapTest(FolderTest, make=Tools):
-    """Each test has a folder of its own."""

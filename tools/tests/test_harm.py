@@ -17,7 +17,6 @@ from examples.packets import Talk, pcap
 from tests.shared.outputs import AS_IT_WAS, NULL_DEVICE
 from tests.shared.running import Answer, ended, program_named
 
-from .cases import FolderTest
 from .scripts import (
     ALL, CHANGED, EXAMPLES, FIRST, TOP, WITHOUT_PROGRAM, WITH_TOOLS, Tools, packed, whole)
 
@@ -458,7 +457,3 @@ def refused_lines(tools: Tools) -> None:
         tools.want(name, (status, out, usage), (2, '', f'usage: {name} [OPTION ..] {operands}'))
         tools.want(f'{name} says what is wrong',
                    [line.startswith(f'{name}: error: ') for line in told], [True])
-
-
-class HarmTest(FolderTest, make=Tools):
-    """Each test has a folder of its own."""

@@ -12,7 +12,6 @@ from ..nfs3tools.recordings.segments import Segments
 from ..nfs3tools.recordings.taken import NotTaken, Taken
 from ..nfs3tools.reporting.messages import recording_lines
 from ..nfs3tools.shared.places import SIDES
-from .cases import FolderTest
 from .recordings import fragments, pcapng
 from .scripts import TOP, Streams, Tools, stream, taken_of, whole
 
@@ -231,7 +230,3 @@ def cuts_and_losses(tools: Tools) -> None:
             present = [at for at in range(begin + 1, max(begin + 1, end or count) + 1)
                        if at <= count and chance.random() >= lost]
             checked(tools, f'{number}: {len(present)} of {begin} to {end}', conversation, present)
-
-
-class LossyTest(FolderTest, make=Tools):
-    """Each test has a folder of its own."""

@@ -5,7 +5,6 @@ import functools
 import json
 import os
 import random
-import unittest
 from collections.abc import Callable, Iterable, Iterator
 from pathlib import Path
 from typing import Any, NamedTuple, Optional
@@ -24,7 +23,7 @@ from tools.nfs3tools.meaning.rules import RULES, Looked
 from tools.nfs3tools.recordings.selection import Options
 from tools.nfs3tools.recordings.taken import take
 
-from .cases import PROGRAM, FolderTest
+from .cases import PROGRAM
 from .scripts import TOP, Tools, in_turn, timed
 
 FOLDER, FILE, OTHER = b'folder', b'file', b'other'
@@ -503,44 +502,42 @@ def is_planted_found(recorded: Recorded, plant: Plant, known: set[tuple[str, int
     return bool(found_in(Changed(recorded.kept, number, plant.changed)) - known)
 
 
-class Recordings(unittest.TestCase):
-    """Tests over recordings, from which a value or an exchange is taken."""
+def recordings_as_they_are(tools: Tools) -> None:
+    """In each there is what is known of it, and nothing else."""
+    for path in RECORDINGS:
+        with recorded_in(path) as recorded:
+            found = collections.Counter(one.rule for one in findings_in(recorded, Looked(), True))
+        tools.want(path.name, found, FOUND.get(path.name.partition('.')[0], {}))
 
-    def test_as_they_are(self) -> None:
-        """In each there is what is known of it, and nothing else."""
-        for path in RECORDINGS:
-            with recorded_in(path) as recorded, self.subTest(path.name):
-                found = findings_in(recorded, Looked(), True)
-                self.assertEqual(collections.Counter(one.rule for one in found),
-                                 FOUND.get(path.name.partition('.')[0], {}))
 
-    def test_planted(self) -> None:
-        """Of the changes of one item, most are found."""
-        told, number = collections.Counter[str](), collections.Counter[str]()
-        for path in RECORDINGS:
-            with recorded_in(path) as recorded:
-                known = found_in(recorded)
-                numbers = [one.source.number for one in recorded.answered()]
-                for name, plant in PLANTS.items():
-                    random.Random(name).shuffle(numbers)
-                    tried = (is_planted_found(recorded, plant, known, number) for number in numbers)
-                    done = [is_found for is_found, _ in zip(
-                        (one for one in tried if one is not None), range(EACH))]
-                    told[name] += sum(done)
-                    number[name] += len(done)
-        self.assertEqual(PLANTS.keys() - +number, set())
-        self.assertGreaterEqual(sum(told.values()), SHARE_FOUND * sum(number.values()), told)
+def planted_changes(tools: Tools) -> None:
+    """Of the changes of one item, most are found."""
+    told, number = collections.Counter[str](), collections.Counter[str]()
+    for path in RECORDINGS:
+        with recorded_in(path) as recorded:
+            known = found_in(recorded)
+            numbers = [one.source.number for one in recorded.answered()]
+            for name, plant in PLANTS.items():
+                random.Random(name).shuffle(numbers)
+                tried = (is_planted_found(recorded, plant, known, number) for number in numbers)
+                done = [is_found for is_found, _ in zip(
+                    (one for one in tried if one is not None), range(EACH))]
+                told[name] += sum(done)
+                number[name] += len(done)
+    tools.want('never planted', PLANTS.keys() - +number, set())
+    tools.want(f'{told}', sum(told.values()) >= SHARE_FOUND * sum(number.values()), True)
 
-    def test_hidden(self) -> None:
-        """Nothing more is found without some exchanges."""
-        alarms = list[str]()
-        for path in (path for path in RECORDINGS if path.name != f'{OLD_CACHE}.pcap'):
-            with recorded_in(path) as recorded:
-                known = found_in(recorded)
-                for hidden in hidings(recorded.kept):
-                    found = found_in(Hiding(recorded.kept, hidden), False) - known
-                    alarms += [f'{path.name}: {one}' for one in found]
-        self.assertLessEqual(len(alarms), ALARMS_AT_MOST, alarms)
+
+def hidden_exchanges(tools: Tools) -> None:
+    """Nothing more is found without some exchanges."""
+    alarms = list[str]()
+    for path in (path for path in RECORDINGS if path.name != f'{OLD_CACHE}.pcap'):
+        with recorded_in(path) as recorded:
+            known = found_in(recorded)
+            for hidden in hidings(recorded.kept):
+                found = found_in(Hiding(recorded.kept, hidden), False) - known
+                alarms += [f'{path.name}: {one}' for one in found]
+    tools.want(f'{alarms}', len(alarms) <= ALARMS_AT_MOST, True)
 
 
 def hidings(kept: Kept) -> Iterator[frozenset[int]]:
@@ -551,7 +548,3 @@ def hidings(kept: Kept) -> Iterator[frozenset[int]]:
         for seed in range(2):
             chosen = random.Random(f'{seed} {share}')
             yield frozenset(number for number in range(len(kept)) if chosen.random() < share)
-
-
-class MeaningTests(FolderTest, make=Tools):
-    """Each test has a folder of its own."""

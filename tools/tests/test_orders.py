@@ -14,7 +14,6 @@ from tests.shared.running import ended
 
 from ..nfs3tools.comparison.values.classes import (
     Way, default_mask, following, in_any_order, mask_of)
-from .cases import FolderTest
 from .comparisons import Comparisons, Conversation, Exchange, conversation_of
 from .scripts import TOP, in_turn, measured
 
@@ -627,7 +626,3 @@ def many_in_another_order(place: Comparisons) -> None:
     place.want('same', (status, lines[1][:36]), (0, 'same in another order: 8,000 calls; '))
     place.want(f'{seconds} seconds', seconds < 8, True)
     place.want(f'{memory} bytes', memory < 80e6, True)
-
-
-class OrdersTest(FolderTest, make=Comparisons):
-    """Each test has a folder of its own."""

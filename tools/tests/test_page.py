@@ -9,7 +9,6 @@ from examples.messages import (
 from examples.packets import Talk, pcap
 
 from .browser import Browser
-from .cases import FolderTest
 from .comparisons import Comparisons, Conversation, Exchange, conversation_of
 from .pages import (
     HERE, HOSTILE, SHOWN, VISIBLE, WIDTHS, Node, Pages, asked_of_others, broken_links, find,
@@ -685,7 +684,3 @@ def what_opens_and_is_copied(place: Compared) -> None:
         place.want('pasted', (browser.value('find.value'), wanted_filter[:16]),
                    (wanted_filter, 'frame.number == '))
         place.want('errors', browser.errors, [])
-
-
-class PageTest(FolderTest, make=Compared):
-    """Each test has a folder of its own."""

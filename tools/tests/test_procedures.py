@@ -12,7 +12,6 @@ from examples.messages import (
 from examples.packets import ACK, Talk, pcap
 from tests.shared.running import ended
 
-from .cases import FolderTest
 from .recordings import interface, section, simple
 from .scripts import (
     TOP, TSHARK, Tools, in_fragments, measured, of_tshark, stream, sums as sum_line, whole,
@@ -435,7 +434,3 @@ def many_calls(tools: Tools) -> None:
         tools.want(name, (status, memory <= MOST_MEMORY or memory), (0, True))
     tools.want('what it printed', lines[-1].split()[2:6], [f'{MANY}', '0', f'{MANY}', '0'])
     tools.want('processor time', spent['procedures'] <= 4 * spent['verdicts'] or spent, True)
-
-
-class ProceduresTest(FolderTest, make=Tools):
-    """Each test has a folder of its own."""

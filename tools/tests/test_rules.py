@@ -9,7 +9,6 @@ from examples.messages import (
     sattr, success, wcc, word)
 from examples.packets import Talk, pcap
 
-from .cases import FolderTest
 from .comparisons import Comparisons
 from .scripts import in_turn
 
@@ -337,7 +336,3 @@ def parts_by_the_same_rules(place: Comparisons) -> None:
         status, lines, error = place.compare('--order', 'any', '--marks', 'test_*', 'a', 'b')
         place.want(what, (status, error), (wanted, ''))
         place.want(f'{what}: explained', '1 answer explained by order' in lines[1], True)
-
-
-class RulesTest(FolderTest, make=Comparisons):
-    """Each test has a folder of its own."""

@@ -15,7 +15,6 @@ from examples.packets import ACK, Talk, ethernet, pcap
 from tests.shared.running import begin, ended, pipe_of
 
 from ..nfs3tools.shared.places import SIDES, Place
-from .cases import FolderTest
 from .recordings import NANOSECONDS, fragments, interface, section, simple
 from .scripts import (
     ALL, CALLS, FAULTS, FIRST, REPLIES, TOP, Tools, connection_of, exchange, in_fragments,
@@ -512,7 +511,3 @@ def talk_in_turns(talk: Talk) -> list[bytes]:
     for at in range(0, len(CALLS), 3):
         frames += [talk.sent(0, stream(CALLS[at:at + 3])), talk.sent(1, stream(REPLIES[at:at + 3]))]
     return [*frames, *talk.closed()]
-
-
-class VerdictsTest(FolderTest, make=Tools):
-    """Each test has a folder of its own."""
