@@ -273,21 +273,6 @@ def words_of_all_kinds(tools: Tools) -> None:
                        int('refused' in case.states))
 
 
-def words_on_the_command_line(tools: Tools) -> None:
-    """What the tool itself prints and returns, of one of each word."""
-    for case in [case for case in CASES if case.what in ('a lost frame', 'NFS version 4',
-                                                         'datagrams of UDP', 'no RPC')]:
-        recording, wanted = pcap(good() + case.frames), ['ok', *case.messages]
-        tools.write('a.pcap', recording)
-        allowed = case.statuses.index(0) if case.statuses[0] else 0
-        for words, status in ((['a.pcap'], case.statuses[0]),
-                              ([*ALLOWING[allowed], 'a.pcap'], 0),
-                              (['--follow', '-'], case.statuses[0])):
-            found = run_of(tools, *words, stdin=recording)
-            tools.want(f'{case.what} {words}', (found[0], sorted(found[1]), found[2]),
-                       (status, sorted(wanted), line_of(case)))
-
-
 def words_in_files(tools: Tools, case: Case, verdicts: list[Verdict]) -> None:
     """The same in JSON and JUnit."""
     written = json.loads(json_of_verdicts(verdicts))

@@ -10,7 +10,7 @@ import signal
 import time
 import unittest
 
-from examples.messages import NFS, call, fh, hyper, opaque, success, word
+from examples.messages import NFS, call, success
 from examples.packets import ACK, Talk, ethernet, pcap
 from tests.shared.running import begin, ended, pipe_of
 
@@ -351,43 +351,6 @@ def rows_of_files_that_are_not_whole(tools: Tools) -> None:
         status, found, _, _ = verdicts(tools, name, 'b.pcap')
         tools.want(name, (status, found[:-1]), (1, [[name, *row] for row in rows]))
         tools.want(name + ', the other', found[-1][-1], 'ok')
-
-
-def ok_in_part(tools: Tools) -> None:
-    """Missing bytes are counted apart, and are 0 with --allow-losses."""
-    good, one, last = whole(port=701), whole(), Talk(first=((1 << 32) - 9, 5))
-    large = stream([call(1, NFS, 3, 0)]) + stream(
-        [call(2, NFS, 3, 7, fh(b'abcd') + hyper(0) + word(27_000) + word(0)
-              + opaque(bytes(27_000)))])
-    long = [*last.opened(), last.sent(0, large), last.sent(1, stream(REPLIES[:1])), *last.closed()]
-    lost_first, lost_last = one[:3] + one[4:], one[:12] + one[-1:]
-    replies = 4 * FIFTH_OF_REPLIES // REPLY
-    cases: list[tuple[str, bytes, str, tuple[int, int]]] = [
-        # The bytes 344 to 687 have a part of each call from the 8th to the 16th, and the first 344
-        # one of each of the first 8.
-        ('a frame', pcap(one[:4] + one[5:]), 'ok in part: 30 calls, 344 bytes missing', (30, 30)),
-        ('the first frame', pcap(lost_first), 'ok in part: 31 calls, 344 bytes missing', (31, 31)),
-        ('the last reply, as FIN shows', pcap(lost_last),
-         f'ok in part: 39 calls, {len(ALL[1]) - 4 * FIFTH_OF_REPLIES} bytes missing',
-         (39, replies)),
-        # A frame of 1,000 bytes has 946 of its segment, and the call after the first 44 has 72
-        # bytes before its data.
-        ('a frame that is cut', pcap(long, 1_000),
-         f'ok in part: 1 call, {44 + 72 + 27_000 - 946:,} bytes missing', (1, 1))]
-    for what, recording, verdict, numbers in cases:
-        tools.write('a.pcap', pcap(good) + recording[24:])
-        for words, status in ALLOWING:
-            found, rows, last_line, _ = verdicts(tools, *words, 'a.pcap')
-            tools.want(what, (found, [row[1] for row in rows], [row[-1] for row in rows],
-                              last_line),
-                       (status, ['1', '2'], ['ok', verdict],
-                        sums(1, 1, silent=numbers[0] - numbers[1])))
-            tools.want(what + ', its numbers', rows[1][-3:-1], [str(number) for number in numbers])
-    wrong = (TOP / 'examples/bad_bool.pcap').read_bytes()
-    tools.write('a.pcap', pcap(one[:4] + one[5:]))
-    tools.write('b.pcap', wrong)
-    tools.want('a fault beside it', verdicts(tools, '--allow-losses', 'a.pcap', 'b.pcap')[::2],
-               (1, sums(0, 1, 1)))
 
 
 def notes_on_a_recording(tools: Tools) -> None:
