@@ -20,9 +20,8 @@ from .recordings import (
     enhanced, fragments, fragments_6, in_geneve, in_gre, in_labels, in_session, in_snap, in_vxlan,
     interface, pcapng, section, udp)
 from .scripts import (
-    ALL, CALLS, REPLIES, Tools, both_ways, connection_of, stream, sums, taken_of, whole)
+    ALL, CALLS, REPLIES, REPLY, Tools, both_ways, connection_of, sums, taken_of, whole)
 
-CALL, REPLY = len(stream(CALLS[:1])), len(stream(REPLIES[:1]))
 NFSACL, PORTMAP = 100_227, 100_000
 CLIENT_6, SERVER_6 = '2001:db8::7', '2001:db8::1'
 ENDS = '192.0.2.7:%d and 192.0.2.1:%d: '

@@ -17,9 +17,8 @@ from examples.packets import ACK, RST, Talk, pcap
 from tests.shared.running import begin, pipe_of
 
 from ..nfs3tools.recordings.spool import Spool, Stored
-from .scripts import ALL, TOP, Tools, stream, sums, whole
+from .scripts import ALL, TOP, VERDICTS, Tools, stream, sums, whole
 
-VERDICTS = str(TOP / 'tools/verdicts')
 HEADS = ['recording', 'connection', 'client', 'server', 'calls', 'replies', 'verdict']
 SERVER = '192.0.2.1:2049'
 HEADER = pcap([])

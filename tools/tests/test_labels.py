@@ -213,7 +213,7 @@ def fields_are_those_of_labels(place: Findings) -> None:
     place.want('entries', sorted(field for field in fields_of('NFSPROC3_READDIR')
                                  if field.startswith('entry')),
                ['entry', 'entry.cookie', 'entry.fileid', 'entry.name'])
-    for seed in range(60):
+    for seed in range(15):
         place.put('a', *Traffic(seed, Names.drawn(random.Random(seed))).connections)
         listed = messages_of(place.run('show', 'a')[1].splitlines())
         found = {(message.procedure, field) for message in listed for field in all_fields(message)}

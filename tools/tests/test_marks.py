@@ -427,7 +427,7 @@ def frames_in_another_order(place: Comparisons) -> None:
 
 def random_runs(place: Comparisons) -> None:
     """Random traffic is the same in each part, and no call is lost."""
-    for seed in range(40):
+    for seed in range(20):
         names = Names.drawn(random.Random(seed))
         first, second = (Traffic(seed, some).connections for some in (names, names.turned()))
         place.put('a', *first)

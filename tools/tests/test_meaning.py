@@ -225,12 +225,16 @@ MAY_BE = {
     'a preferred size is no multiple': [limits(4000)]}
 
 
+def bodies_of(steps: Iterable[Step]) -> list[tuple[bytes, bytes]]:
+    """The calls with their replies."""
+    return [(call(xid, NFS, 3, NFS_PROCEDURES.index(name), arguments), success(xid, results))
+            for xid, (name, arguments, results) in enumerate(steps, 1)]
+
+
 def frames_of(number: int, steps: Iterable[Step]) -> list[bytes]:
     """The frames of a connection with a server of its own."""
-    asked = [(call(xid, NFS, 3, NFS_PROCEDURES.index(name), arguments), success(xid, results))
-             for xid, (name, arguments, results) in enumerate(steps, 1)]
     return in_turn([Talk(hosts=('192.0.2.7', f'198.51.100.{number}'))],
-                   [(0, side, body) for both in asked for side, body in enumerate(both)])
+                   [(0, side, body) for both in bodies_of(steps) for side, body in enumerate(both)])
 
 
 def meaning(tools: Tools, *words: str) -> tuple[int, Any]:
@@ -269,6 +273,17 @@ def what_is_permitted(tools: Tools) -> None:
     for number, name in enumerate(MAY_BE, 1):
         tools.want(name, [(one['rule'], one['text']) for one in whole['findings']
                           if one['connection'] == number and one['by'] != 'note'], [])
+
+
+def exchanges_that_overlap(tools: Tools) -> None:
+    """What returns was never away only if the three exchanges came one after the other."""
+    bodies = bodies_of([asked(), asked(), asked(now=shown(mtime=LATER, ctime=LATER)), asked()])
+    for order, rules in (('11223344', ['returns']), ('11223434', []), ('11232344', [])):
+        sides = [(order[:at].count(one), int(one) - 1) for at, one in enumerate(order)]
+        frames = in_turn([Talk()], [(0, side, bodies[number][side]) for side, number in sides])
+        tools.write('a.pcap', timed(enumerate(frames), 1_000))
+        found = meaning(tools, 'a.pcap')[1]['findings']
+        tools.want(order, [one['rule'] for one in found], rules)
 
 
 # --- Forms of output ---
@@ -324,10 +339,7 @@ def findings_that_are_accepted(tools: Tools) -> None:
 
 def a_capture(tools: Tools) -> None:
     """It has no frames, so rules about several exchanges are not asked, which is said."""
-    calls = [call(xid, NFS, 3, NFS_PROCEDURES.index(name), arguments)
-             for xid, (name, arguments, _) in enumerate((read(b'alpha'), read(b'alphb', 3)), 1)]
-    replies = [success(xid, results) for xid, (_, _, results)
-               in enumerate((read(b'alpha'), read(b'alphb', 3)), 1)]
+    calls, replies = zip(*bodies_of([read(b'alpha'), read(b'alphb', 3)]))
     tools.write('a.nfs3cap', capture((calls, replies)))
     status, out, _ = tools.tool('meaning', 'a.nfs3cap')
     tools.want('rows', (status, [line.split()[0] for line in out.splitlines()[1:-2]]),

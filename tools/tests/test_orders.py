@@ -214,22 +214,6 @@ def what_is_left_out_is_listed(place: Comparisons) -> None:
     place.want('captures', place.compare('--order', 'any', 'a.nfs3cap', 'b.nfs3cap')[0], 1)
 
 
-def ids_and_orders(place: Comparisons) -> None:
-    """File ids that are given out in another order and again are no difference."""
-    def run(*names: bytes) -> Conversation:
-        return conversation_of((LOOKUP, dirop(b'top', name),
-                                ok(fh(name), post_op_attr(fattr(1, fileid)),
-                            post_op_attr()))
-                        for name, fileid in zip(names, (7, 8, 7)))
-    place.put_both(run(b'1', b'2', b'3'), run(b'2', b'1', b'3'))
-    words = '3 calls; 1 reordered; 1 reply reordered; fsids and ids follow their objects'
-    place.wants('ids', 0, ['3 of 3 calls matched; 1 reordered; 1 reply reordered'], '--order',
-                'any')
-    place.want('told', place.compare('a', 'b')[1][1], 'same in another order: ' + words)
-    out = place.says('compared', 1, 'differ in any order', '--mask=+ids=number', '--order', 'any')
-    place.want('found', any('fileid' in line for line in out), True)
-
-
 def seen_in_the_middle(place: Comparisons) -> None:
     """Sizes in replies to WRITE are compared in captures, unless masked."""
     def run(*sizes: int) -> Conversation:

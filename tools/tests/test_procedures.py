@@ -9,7 +9,7 @@ from examples.messages import (
     success, word)
 from examples.packets import Talk, pcap
 
-from .scripts import TOP, Tools, measured, stream, sums as sum_line, whole, write_faulty
+from .scripts import Tools, measured, stream, sums as sum_line, whole, write_faulty
 
 GETATTR, LOOKUP, MNT = 1, 3, 1  # by their numbers
 HEADS = ['procedure', 'calls', 'again', 'replies', 'no reply', 'call bytes',
@@ -203,22 +203,6 @@ def judged_in_part(tools: Tools) -> None:
     _, tables, _ = procedures(tools, 'worse.pcap')
     tools.want('no call before the fault',
                [table for title, table in tables.items() if 'counted up to there' in title], [[]])
-
-
-def captures_have_no_times(tools: Tools) -> None:
-    """The table of a capture is that of its recording without latencies."""
-    for name in ('ganesha_a', 'concurrent_a'):
-        recording = str(TOP / f'examples/{name}.pcap')
-        tools.want('from_pcap', tools.tool('from_pcap', recording, 'a.nfs3cap')[0], 0)
-        without = dict.fromkeys(('median_ns', 'p99_ns', 'most_ns', 'mean_ns',
-                                 'sum_ns', 'most_position', 'most_frame'))
-        wanted = [[{**row, 'latencies': 0, **without} for row in table['procedures']]
-                  for table in tables_of(tools, recording)]
-        tools.want(name, [table['procedures'] for table in tables_of(tools, 'a.nfs3cap')], wanted)
-        _, tables, _ = procedures(tools, '--total', 'a.nfs3cap')
-        tools.want('dashes',
-                   {cell for table in tables.values() for cells in table[1:]
-                    for cell in cells[7:LONGEST + 1]}, {'-'})
 
 
 def sorted_rows(tools: Tools) -> None:

@@ -206,13 +206,6 @@ def changed_users(place: Comparisons) -> None:
     place.want('there', (said.status, said.found), (1, ['changed ACCESS']))
 
 
-def changed_ids(place: Comparisons) -> None:
-    """A wrong file id or file system in one reply."""
-    for what, wrong in (('fileid', got(b'handle f', 77)), ('fsid', got(b'handle f', 7, fsid=1))):
-        said = any_order(place, [*BOTH, BOTH[3], F], [*BOTH, wrong, F])
-        place.want(what, (said.status, said.found), (1, ['changed GETATTR']))
-
-
 def ids_that_follow_their_objects(place: Comparisons) -> None:
     """File ids that a server gives out again are no difference, and it is said that they follow."""
     def run(ids: Sequence[int]) -> list[Step]:

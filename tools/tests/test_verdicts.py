@@ -17,12 +17,9 @@ from tests.shared.running import begin, ended, pipe_of
 from ..nfs3tools.shared.places import SIDES, Place
 from .recordings import NANOSECONDS, fragments, interface, section, simple
 from .scripts import (
-    ALL, CALLS, FAULTS, FIRST, REPLIES, TOP, Tools, connection_of, exchange, in_fragments,
-    of_tshark, stream, sums, taken_of, whole)
+    ALL, CALL, CALLS, FAULTS, FIRST, REPLIES, TOP, VERDICTS, Tools, connection_of, exchange,
+    in_fragments, of_tshark, stream, sums, taken_of, whole)
 
-VERDICTS = str(TOP / 'tools/verdicts')
-CALL, REPLY = len(stream(CALLS[:1])), len(stream(REPLIES[:1]))
-FIFTH_OF_REPLIES = -(-len(ALL[1]) // 5)
 # words, and the status of what is in part
 ALLOWING: list[tuple[list[str], int]] = [([], 1), (['--allow-losses'], 0)]
 HEAD = 'connection 1 %s: client 192.0.2.7:700, server 192.0.2.1:2049, tcp.stream == 0'
