@@ -1,4 +1,4 @@
-"""Tests of tools/compare: on examples, and on made runs that differ in a known way."""
+"""Tests of tools/compare on made runs that differ in a known way."""
 import hashlib
 import random
 import re
@@ -9,11 +9,10 @@ from examples import messages
 from examples.messages import (
     NFS, NFSACL, auth_sys, call, dirop, fattr, fh, hyper, ok, post_op_attr, success, wcc, word)
 from examples.packets import Talk, pcap
-from tests.shared.traffic import Names, Traffic
 
 from ..nfs3tools.comparison.exchanges.matching import aligned, blocks_of, increasing
 from ..nfs3tools.comparison.values.classes import CLASSES, default_mask, mask_text
-from .comparisons import Comparisons, Conversation, Exchange, conversation_of, is_unchecked
+from .comparisons import Comparisons, Conversation, Exchange, conversation_of
 from .scripts import measured
 
 # What finds the names of items in the lines that tell of differences, without whose they are.
@@ -231,14 +230,6 @@ def zero_cookies(place: Comparisons) -> None:
                (1, True, True))
 
 
-def equal_numbers_of_two_classes(place: Comparisons) -> None:
-    """A file id that is an fsid, too, in one run alone."""
-    first, second = Made(13), Made(14)
-    first.fsid = first.ids[0]
-    place.put_both(first.conversation(), second.conversation())
-    place.wants('two classes', 0, [])
-
-
 def users_and_groups(place: Comparisons) -> None:
     """Owners, if asked for, rename lists of groups as well, or make them zero."""
     def run(*owners: tuple[int, int, list[int]]) -> Conversation:
@@ -326,32 +317,6 @@ def raw_messages(place: Comparisons) -> None:
     place.put('b', with_acl(second, word(1)))
     lines = place.compare('a', 'b')[1][2:]
     place.want('handles', [line for line in lines if 'rest' in line], [])
-
-
-def random_traffic(place: Comparisons) -> None:
-    """Random traffic is the same under other names."""
-    for seed in range(25):
-        chance = random.Random(seed)
-        names = Names.drawn(chance)
-        place.put('a', *(connections := Traffic(seed, names).connections))
-        place.put('b', *Traffic(seed, Names.drawn(chance)).connections)
-        status, out, error = place.compare('a', 'b')
-        number = sum(len(calls) for calls, _ in connections)
-        if number == 0:
-            place.want('seed %d' % seed, (status, out, error),
-                       (2, [], 'compare: nothing to compare: no call of a is taken\n'))
-            continue
-        size = '%d call%s in %d connection%s' % (number, 's' * (number != 1), len(connections),
-                                                 's' * (len(connections) != 1))
-        others = sum(any(map(is_unchecked, calls)) for calls, _ in connections)
-        part = [f'{others} connection{"s" * (others != 1)} of the {run} run not checked'
-                for run in ('first', 'second')] if others else []
-        line = f'same{" in part" if others else ""}: ' + ', '.join([size, *part])
-        place.want('seed %d' % seed, (status, out[1], error.count('\n')),
-                   (int(others > 0), line, 2 * others))
-        if others:
-            place.want('seed %d, if that is allowed' % seed,
-                       place.compare('--allow-not-checked', 'a', 'b')[0], 0)
 
 
 # --- Cost ---

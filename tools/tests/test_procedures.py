@@ -1,4 +1,4 @@
-"""Tests of `tools/procedures`. Without tshark, what needs it is skipped, with a word."""
+"""Tests of `tools/procedures`."""
 import csv
 import io
 import re
