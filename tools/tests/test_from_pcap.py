@@ -132,19 +132,6 @@ def bytes_that_came_first(tools: Tools) -> None:
     tools.told('a keep-alive with another byte', pcap(frames), [(content, b'')], [])
 
 
-def ports_that_are_used_again(tools: Tools) -> None:
-    """SYN again, also after data, begins no connection; a port that is used again has several."""
-    frames, other = whole(), whole(first=(900_000, 800_000))
-    reset = Talk(first=(1_001 + len(ALL[0]), 5_001)).frame(0, RST)
-    for what, recorded, number in (
-            ('SYN again', [frames[0], frames[0], frames[1], frames[1], *frames[2:]], 1),
-            ('SYN again after data', [*frames[:5], frames[0], *frames[5:]], 1),
-            ('a port used again', frames + other, 2), ('with the same numbers', frames + frames, 2),
-            ('after RST', [*frames[:-2], reset, *frames], 2),
-            ('of which SYN is missing', frames + other[1:], 2)):
-        tools.taken(what, pcap(recorded), [ALL] * number)
-
-
 def beginnings_and_ends(tools: Tools) -> None:
     """SYN and FIN with payload, what is after FIN, RST, and ends of older connections."""
     talk = Talk()

@@ -65,16 +65,11 @@ def one_line(tools: Tools, what: str, answer: Answer, status: int, *texts: str) 
 def writers(tools: Tools, file: str, *inputs: str) -> list[list[str]]:
     """The command lines that write a file, of tools with these inputs."""
     compared = [*inputs, *inputs][:2]
-    return [['verdicts', '--program', tools.program, '--junit', file, *inputs],
-            ['verdicts', '--program', tools.program, '--json', file, *inputs],
-            ['verdicts', '--program', tools.program, '--html', file, *inputs],
-            ['compare', '--program', tools.program, '--html', file, *compared],
-            ['compare', '--program', tools.program, '--json', file, *compared],
-            ['compare', '--program', tools.program, '--junit', file, *compared],
-            ['procedures', '--program', tools.program, '--json', file, *inputs],
-            ['procedures', '--program', tools.program, '--csv', file, *inputs],
-            ['procedures', '--program', tools.program, '--html', file, *inputs],
-            ['from_pcap', inputs[-1], file]]
+    forms = [('verdicts', inputs, ('--junit', '--json', '--html')),
+             ('compare', compared, ('--html', '--json', '--junit')),
+             ('procedures', inputs, ('--json', '--csv', '--html'))]
+    return [*([name, '--program', tools.program, form, file, *some]
+              for name, some, own in forms for form in own), ['from_pcap', inputs[-1], file]]
 
 
 def outputs_that_are_inputs(tools: Tools) -> None:
