@@ -1,18 +1,16 @@
 """Tests of tools/compare on runs whose calls come in another order."""
 import random
 from collections.abc import Sequence
-from typing import NamedTuple
 
 from examples import messages
 from examples.messages import (
     MOUNT, NFS, call, dirop, fattr, fh, hyper, ok, opaque, post_op_attr, sattr, success, wcc, word)
 from examples.packets import Talk, pcap
-from tests.shared.running import ended
 
 from ..nfs3tools.comparison.values.classes import (
     Way, default_mask, following, in_any_order, mask_of)
 from .comparisons import Comparisons, Conversation, Exchange, conversation_of
-from .scripts import TOP, in_turn, measured
+from .scripts import measured
 
 GETATTR, LOOKUP, WRITE, CREATE, MKDIR, REMOVE = 1, 3, 7, 8, 9, 12
 
@@ -97,121 +95,6 @@ def a_client_without_commit(place: Comparisons) -> None:
         status, out, _ = place.compare('--order', order, 'a', 'b')
         place.want(order, (status, out[2].partition(': connection')[0]),
                    (1, 'only in the first run: NFSPROC3_COMMIT'))
-
-
-Half = tuple[int, int, bytes]  # a message: the shell, its side, 0 for a call, and its body
-MKDIR_OK = ok(messages.made(None, None, wcc()))
-
-
-def shared_folder(*steps: Half) -> bytes:
-    """Two shells in one folder, each over its own connection, message by message."""
-    return pcap(in_turn([Talk(700), Talk(701)], steps))
-
-
-class Asked(NamedTuple):
-    """What a shell, 0 or 1, asks and is answered."""
-    shell: int
-    xid: int
-    procedure: int
-    arguments: bytes
-    results: bytes
-
-    def call(self) -> Half:
-        return self.shell, 0, call(self.xid, NFS, 3, self.procedure, self.arguments)
-
-    def reply(self) -> Half:
-        return self.shell, 1, success(self.xid, self.results)
-
-
-def made_in_folder(xid: int, name: bytes, shell: int = 1) -> Asked:
-    return Asked(shell, xid, MKDIR, dirop(b'folder', name) + sattr(), MKDIR_OK)
-
-
-def listed_names(xid: int, *names: bytes) -> Asked:
-    """READDIR of the folder, with these names."""
-    entries = messages.entries(fattr(2, 1), bytes(8),
-                               [messages.entry(1, name, 0) for name in names], is_end=True)
-    return Asked(0, xid, 16, fh(b'folder') + bytes(16) + word(512), ok(entries))
-
-
-def in_folder(xid: int, name: bytes, found: int | None) -> Asked:
-    """LOOKUP of a name, which is there if it has a mode."""
-    answer = messages.failed(2, post_op_attr())
-    if found is not None:
-        answer = ok(fh(b'at ' + name), post_op_attr(fattr(1, 9, mode=found)), post_op_attr())
-    return Asked(0, xid, LOOKUP, dirop(b'folder', name), answer)
-
-
-def one_by_one(*steps: Asked) -> bytes:
-    return shared_folder(*(half for step in steps for half in (step.call(), step.reply())))
-
-
-def in_which_others_worked(place: Comparisons) -> None:
-    """What a folder shows may depend on which call came first: it is left out."""
-    top = Asked(0, 1, LOOKUP, dirop(b'top', b'w'),
-                ok(fh(b'folder'), post_op_attr(), post_op_attr()))
-    new, last = made_in_folder(5, b'new'), Asked(0, 9, GETATTR, fh(b'top'), ok(fattr(2, 3)))
-    without, with_new, wrong = listed_names(7, b'x'), listed_names(7, b'x', b'new'), listed_names(
-        7, b'x', b'another')
-    failing, elsewhere = new._replace(results=messages.failed(17, wcc())), new._replace(
-        arguments=dirop(b'other', b'new') + sattr())
-    during = [top.call(), top.reply(), new.call(), without.call(), without.reply(), new.reply(),
-              last.call(), last.reply()]
-    rows: list[tuple[str, bytes, bytes, int]] = [
-        ('before and after', one_by_one(top, without, new, last),
-         one_by_one(top, new, with_new, last), 0),
-        ('during', one_by_one(top, new, with_new, last), shared_folder(*during), 0),
-        ('as before', one_by_one(top, new, with_new, last), one_by_one(top, new, wrong, last), 1),
-        ('after both', one_by_one(top, without, new, last), one_by_one(top, wrong, new, last), 1),
-        ('a change that fails', one_by_one(top, without, failing, last),
-         one_by_one(top, failing, wrong, last), 1),
-        ('a name that comes', one_by_one(top, in_folder(7, b'new', None), new, last),
-         one_by_one(top, new, in_folder(7, b'new', 0o755), last), 0),
-        ('another name', one_by_one(top, in_folder(7, b'x', 0o644), new, last),
-         one_by_one(top, new, in_folder(7, b'x', 0o600), last), 1),
-        ('another folder', one_by_one(top, without, elsewhere, last),
-         one_by_one(top, elsewhere, with_new, last), 1)]
-    for what, first, second, wanted in rows:
-        place.write('a', first)
-        place.write('b', second)
-        for words in (['a', 'b'], ['b', 'a']):
-            status, out, error = place.compare('--order', 'any', *words)
-            place.want(f'{what} {words}', (status, error), (wanted, ''))
-            listed = [line for line in out if line.startswith('left out: 1 ')]
-            place.want(f'{what} {words}: listed', len(listed), 1 - wanted)
-        for more in (['--extra', 'none', '--order', 'any'], ['--order', 'strict']):
-            place.want(f'{what} {more}', place.compare(*more, 'a', 'b')[0], 1)
-
-
-def what_is_left_out_is_listed(place: Comparisons) -> None:
-    """What others overtook is in the verdict and listed, in each form."""
-    top = Asked(0, 1, LOOKUP, dirop(b'top', b'w'),
-                ok(fh(b'folder'), post_op_attr(), post_op_attr()))
-    new, last = made_in_folder(5, b'new'), Asked(0, 9, GETATTR, fh(b'top'), ok(fattr(2, 3)))
-    place.write('a', one_by_one(top, listed_names(7, b'x'), new, last))
-    place.write('b', one_by_one(top, new, listed_names(7, b'x', b'new'), last))
-    status, out, _ = place.compare('--order', 'any', '--json', 'out.json', '--html', 'out.html',
-                                   '--junit', 'out.xml', 'a', 'b')
-    why = 'MKDIR ?/w/new at connection 2 client record 1 of the second run'
-    line = ('left out: 1 NFSPROC3_READDIR ?/w, explained by order: connection 1 client record 2 '
-            '(frame 9) | '
-            f'connection 1 client record 2 (frame 11), by {why}')
-    place.want('the verdict', out[1],
-               'same in another order, 1 answer explained by order: 3 calls; left out: 1 READDIR '
-               'of ?/w, explained by order')
-    place.want('the list', out[2], line)
-    found = place.json('out.json')['left_out']
-    first, second = ({'position': 'connection 1 client record 2', 'frames': [frame]}
-                     for frame in (9, 11))
-    place.want('JSON', found, [{'procedure': 'NFSPROC3_READDIR', 'path': '?/w', 'first': first,
-                                'second': second, 'kind': 'explained', 'why': why}])
-    for name in ('out.html', 'out.xml'):
-        place.want(name, line.encode() in (place.read(name) or b''), True)
-    for name in 'ab':
-        captured = ended([str(TOP / 'tools/from_pcap'), name, f'{name}.nfs3cap'],
-                         place.folder).status
-        place.want('captured', captured, 0)
-    place.want('captures', place.compare('--order', 'any', 'a.nfs3cap', 'b.nfs3cap')[0], 1)
 
 
 def seen_in_the_middle(place: Comparisons) -> None:
