@@ -18,8 +18,7 @@ RUN_ELSEWHERE = {'docs/CI.md': 'tools/tests/test_ci.py'}
 NOT_RUN = {
     'tcpdump ': 'it needs root, and a network with a server',
     './test': 'it runs this test',
-    'python3 -m tools.tests': './test runs the tests of the tools',
-    'python3 -m unittest ': './test runs the tests of the tools'}
+    'python3 -m tools.tests': './test runs the tests of the tools'}
 # What is large in a line, and what is run in its place.
 SMALLER = {'mixed 500 ': 'mixed 1 ', 'small 50 ': 'small 1 ',
            'recordings.py': 'recordings.py --megabytes 1 --runs 1 /tmp/'}

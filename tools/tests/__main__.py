@@ -10,33 +10,12 @@ import argparse
 import concurrent.futures
 import os
 import pathlib
-import unittest
-from collections.abc import Iterator
 
 from tests.shared.running import Words, try_all
 
-from .cases import PROGRAM
+from .cases import PROGRAM, tests_of, wrong_in
 
 HERE = pathlib.Path(__file__).resolve().parent
-LOADER = unittest.defaultTestLoader
-
-
-def tests_of(name: str) -> Iterator[str]:
-    """Yields the full names of a module's tests."""
-    for case in LOADER.loadTestsFromName(f'tools.tests.test_{name}'):
-        if isinstance(case, unittest.TestSuite):
-            yield from (test.id() for test in case if isinstance(test, unittest.TestCase))
-    if LOADER.errors:
-        raise ImportError(LOADER.errors[0])
-
-
-def alone(_: str, test: str) -> list[str]:
-    """Returns what is wrong with a test. One that is left out raises `unittest.SkipTest`."""
-    result = unittest.TestResult()
-    LOADER.loadTestsFromName(test).run(result)
-    for _, why in result.skipped:
-        raise unittest.SkipTest(why)
-    return [text for _, text in [*result.failures, *result.errors]]
 
 
 def main() -> None:
@@ -48,10 +27,10 @@ def main() -> None:
     parser.add_argument('-v', action='store_true', help='names the tests that passed')
     parser.add_argument('names', metavar='NAME', nargs='*')
     words = parser.parse_args(namespace=Words(program=PROGRAM))
-    names = words.names or sorted(path.stem.removeprefix('test_')
-                                  for path in HERE.glob('test_*.py'))
-    tests = (test for name in names for test in tests_of(name))
-    try_all(words, [(test.removeprefix('tools.tests.test_'), alone, test) for test in tests],
+    modules = words.names or sorted(path.stem.removeprefix('test_')
+                                    for path in HERE.glob('test_*.py'))
+    try_all(words, [(f'{module}.{name}', wrong_in, module, name)
+                    for module in modules for name in tests_of(module)],
             words.j, concurrent.futures.ProcessPoolExecutor)
 
 

@@ -2,7 +2,6 @@
 
 It speaks the DevTools protocol over two pipes, objects in JSON with a zero byte after each.
 """
-import base64
 import fcntl
 import json
 import os
@@ -178,12 +177,3 @@ class Browser:
                           'box.y + box.height / 2] })()')
         for kind in ('mousePressed', 'mouseReleased'):
             self.ask('Input.dispatchMouseEvent', type=kind, x=x, y=y, button='left', clickCount=1)
-
-    def picture(self, is_whole: bool = False) -> bytes:
-        """Returns what is seen, or the whole page, as PNG."""
-        words: dict[str, Any] = {}
-        if is_whole:
-            size = self.ask('Page.getLayoutMetrics')['cssContentSize']
-            words = {'captureBeyondViewport': True, 'clip': {'x': 0, 'y': 0, 'width': size['width'],
-                                                             'height': size['height'], 'scale': 1}}
-        return base64.b64decode(self.ask('Page.captureScreenshot', format='png', **words)['data'])

@@ -4,7 +4,7 @@ from collections.abc import Iterable
 
 from examples.packets import IPV4, IPV6
 
-MICROSECONDS, NANOSECONDS = 0xa1b2c3d4, 0xa1b23c4d
+NANOSECONDS = 0xa1b23c4d
 SECTION, INTERFACE, OBSOLETE, SIMPLE, NAMES, ENHANCED = 0x0a0d0d0a, 1, 2, 3, 4, 6
 ETHERNET = 1
 

@@ -72,6 +72,9 @@ def in_fragments(body: bytes, size: int) -> bytes:
 
 
 ALL = (stream(CALLS), stream(REPLIES))
+CALL, REPLY = len(stream(CALLS[:1])), len(stream(REPLIES[:1]))
+FIFTH, FIFTH_OF_REPLIES = -(-len(ALL[0]) // 5), -(-len(ALL[1]) // 5)  # as in `whole`
+VERDICTS = str(TOP / 'tools/verdicts')
 
 
 def packed(*connections: Streams) -> bytes:

@@ -7,7 +7,6 @@ from examples.messages import (
     NFS, REG, call, dirop, fattr, fh, guard, ok, post_op_attr, sattr, success, wcc, word)
 from examples.packets import pcap
 
-from .cases import FolderTest
 from .comparisons import Comparisons, Conversation, conversation_of
 from .scripts import connection_of
 
@@ -270,7 +269,3 @@ def replies_are_accepted_by_their_statuses(place: Comparisons) -> None:
     place.want('accepted', compared(place, '--accept', 'new')[0], 0)
     place.put('b', answered(0, 5))
     place.want('another', compared(place, '--accept', 'new')[:2], (1, 'differ'))
-
-
-class TestAccepted(FolderTest, make=Comparisons):
-    """Findings that were accepted."""

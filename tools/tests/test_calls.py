@@ -2,11 +2,9 @@
 import csv
 import io
 import json
-import random
 import re
 import shutil
 import unittest
-from collections.abc import Sequence
 from typing import Any, NamedTuple
 
 from examples import messages
@@ -15,9 +13,7 @@ from examples.messages import (
     entryplus, failed, fattr, fh, fragment, guard, how, hyper, made, nfstime, ok, opaque,
     post_op_attr, sattr, set_to_client_time, success, wcc, word)
 from examples.packets import ACK, FIN, RST, Talk, pcap
-from tests.shared.traffic import Names, Traffic
 
-from .cases import FolderTest
 from .recordings import interface, section, simple
 from .scripts import (
     FIRST, TOP, Tools, in_fragments, measured, of_tshark, sums as sum_line, whole, write_faulty)
@@ -414,35 +410,6 @@ def long_names(tools: Tools) -> None:
                ['?/a', '?/c'])
 
 
-def random_traffic(tools: Tools) -> None:
-    """Each message is in one exchange; errors are those of RFC 5531 and RFC 1813."""
-    made = {f'{seed}.nfs3cap': Traffic(seed, Names.drawn(random.Random(seed)))
-            for seed in range(60)}
-    for name, traffic in made.items():
-        tools.write(name, messages.capture(*traffic.connections))
-    found = objects(tools, *made)
-    for name, traffic in made.items():
-        own = [one for one in found if one['recording'] == name]
-        number = sum(len(sent) for sent, _ in traffic.connections)
-        tools.want(f'calls of {name}', sum(1 + one['sent_again'] for one in own), number)
-        wanted = [(connection, record, is_error(sent, body))
-                  for connection, (sent, replies) in enumerate(traffic.connections, 1)
-                  for record, body in enumerate(replies, 1)]
-        told = sorted((one['connection'], reply['record'], reply['answer'].split()[0]
-                       not in ('OK', 'accepted')) for one in own for reply in one['replies'])
-        tools.want(f'replies of {name}', told, wanted)
-
-
-def is_error(sent: Sequence[bytes], reply: bytes) -> bool:
-    """Whether a reply to one of these calls is no success."""
-    words = [int.from_bytes(reply[at:at + 4], 'big') for at in range(0, 28, 4)]
-    head = next(body[12:24] for body in sent if body[:4] == reply[:4])
-    program, version, procedure = (int.from_bytes(head[at:at + 4], 'big') for at in (0, 4, 8))
-    statuses = {NFS: range(1, 22), MOUNT: range(1, 2)}.get(program, ()) if version == 3 else ()
-    # reply_stat; then after a verifier of two words accept_stat, and the status
-    return words[2] != 0 or words[5] != 0 or procedure in statuses and words[6] != 0
-
-
 def servers_with_equal_handles(tools: Tools) -> None:
     """A handle of one server says nothing of the same handle of another."""
     other = ('192.0.2.7', '192.0.2.2')
@@ -501,7 +468,3 @@ def many_calls(tools: Tools) -> None:
         tools.want(name, (status, memory <= MOST_MEMORY or memory), (0, True))
     tools.want('what it printed', (lines[-2], len(lines)), (f'{MANY:,} exchanges', MANY + 3))
     tools.want('processor time', max(spent) <= 8 * spent[0] or spent, True)
-
-
-class CallsTest(FolderTest, make=Tools):
-    """Each test has a folder of its own."""

@@ -11,7 +11,6 @@ from examples.messages import dirop, fattr, fh, ok, post_op_attr
 from examples.packets import pcap
 from tests.shared.running import RunOptions, begin, ended
 
-from .cases import FolderTest
 from .comparisons import conversation_of
 from .scripts import CHANGED, EXAMPLES, FIRST, SECOND, TOP, Tools, connection_of, whole
 
@@ -239,28 +238,6 @@ def compare(tools: Tools, *words: str) -> tuple[int, list[str], str]:
     return status, out.splitlines(), error
 
 
-def lines_of_findings(tools: Tools) -> None:
-    """--brief prints a line for each finding, with its heading and all values."""
-    concurrent = [str(EXAMPLES / f'concurrent_{name}.pcap') for name in ('a', 'changed')]
-    for words in ([FIRST, CHANGED], ['--order', 'any', *concurrent], ['--all', FIRST, CHANGED]):
-        status, lines, _ = compare(tools, *words)
-        again, brief, _ = compare(tools, '--brief', *words)
-        headings = [line for line in lines if re.match(r'NFS|MOUNT|only in', line)]
-        found = [line for line in brief if re.match(r'NFS|MOUNT|only in', line)]
-        tools.want('the headings',
-                   [line.startswith(heading + ': ') for line, heading in zip(found, headings)],
-                   [True] * len(headings))
-        tools.want('the rest', (again, len(found), [line for line in brief if line not in found]),
-                   (status, len(headings),
-                    [line for line in lines if line not in headings and not line.startswith('  ')]))
-    tools.want('a line', [line for line in compare(tools, '--brief', FIRST, CHANGED)[1]
-                          if line.startswith('NFS')], [
-                              'NFSPROC3_FSINFO reply /mem: connection 2 server record 2 (frame 21) '
-                              '| connection 2 server record 2 (frame 21): '
-                              'rtmax=67108864 -> 65536; rtpref=67108864 -> 65536; wtmax=67108864 '
-                              '-> 65536; wtpref=67108864 -> 65536'])
-
-
 def cases_of_runs(tools: Tools) -> None:
     """One case that passed if the status is 0, else failures, or an error."""
     frames = whole()
@@ -323,7 +300,3 @@ def names_that_last(tools: Tools) -> None:
     root = tools.xml('x.xml')
     texts = [item.text or '' for item in root.iter('failure')][1:]
     tools.want('positions', ['connection 1' in text for text in texts], [True] * 3)
-
-
-class CiTest(FolderTest, make=Tools):
-    """Each test has a folder of its own."""

@@ -1,4 +1,4 @@
-"""Tests of tools/compare: on examples, and on made runs that differ in a known way."""
+"""Tests of tools/compare on made runs that differ in a known way."""
 import hashlib
 import random
 import re
@@ -9,13 +9,11 @@ from examples import messages
 from examples.messages import (
     NFS, NFSACL, auth_sys, call, dirop, fattr, fh, hyper, ok, post_op_attr, success, wcc, word)
 from examples.packets import Talk, pcap
-from tests.shared.traffic import Names, Traffic
 
 from ..nfs3tools.comparison.exchanges.matching import aligned, blocks_of, increasing
 from ..nfs3tools.comparison.values.classes import CLASSES, default_mask, mask_text
-from .cases import FolderTest
-from .comparisons import Comparisons, Conversation, Exchange, conversation_of, is_unchecked
-from .scripts import CHANGED, FIRST, SECOND, measured
+from .comparisons import Comparisons, Conversation, Exchange, conversation_of
+from .scripts import measured
 
 # What finds the names of items in the lines that tell of differences, without whose they are.
 NAMES = r'^  [-+] (?:[^=]*\.)?(\w+)='
@@ -210,28 +208,6 @@ def statuses_that_differ(place: Comparisons) -> None:
     place.want('in words', lines[-1], '10 of 10 calls matched; status in 1 reply')
 
 
-def one_call_more(place: Comparisons) -> None:
-    """The calls after it are not different."""
-    first, second = Made(3), Made(4)
-    script = second.script()
-    script.insert(2, script[0])
-    place.put_both(first.conversation(), second.conversation(script))
-    place.wants('one more', 1,
-                ['only in the second run: NFSPROC3_GETATTR: connection 1 client record 3',
-                 '  + fh=' + second.handles[0].hex(),
-                 '10 of 11 calls matched; 1 only in the second run'], '--order', 'strict')
-
-
-def other_orders(place: Comparisons) -> None:
-    """A call that is reordered."""
-    script = Made(6).script()
-    turned = [*script[:2], *script[3:6], script[2], *script[6:]]
-    place.put_both(Made(5).conversation(), Made(6).conversation(turned))
-    lines = place.compare('--order', 'strict', 'a', 'b')[1][2:]
-    place.want('turn', [line for line in lines if 'reordered' in line], [
-        '  the call is reordered', '10 of 10 calls matched; 1 reordered; 1 reply reordered'])
-
-
 def bound_values(place: Comparisons) -> None:
     """Two files where the other run has one are told, whatever their handles."""
     first, second = Made(7), Made(8)
@@ -252,14 +228,6 @@ def zero_cookies(place: Comparisons) -> None:
     status, lines, _ = place.compare('a', 'b')
     place.want('cookie', (status, '  - cookie=0' in lines, '  + cookie=5' in lines),
                (1, True, True))
-
-
-def equal_numbers_of_two_classes(place: Comparisons) -> None:
-    """A file id that is an fsid, too, in one run alone."""
-    first, second = Made(13), Made(14)
-    first.fsid = first.ids[0]
-    place.put_both(first.conversation(), second.conversation())
-    place.wants('two classes', 0, [])
 
 
 def users_and_groups(place: Comparisons) -> None:
@@ -349,45 +317,6 @@ def raw_messages(place: Comparisons) -> None:
     place.put('b', with_acl(second, word(1)))
     lines = place.compare('a', 'b')[1][2:]
     place.want('handles', [line for line in lines if 'rest' in line], [])
-
-
-def connections_of_one_run(place: Comparisons) -> None:
-    first, second = Made(1), Made(2)
-    null = ([call(1, NFS, 3, 0)], [success(1)])
-    place.put('a', null, first.conversation())
-    place.put('b', second.conversation())
-    told = '  a connection of 1 call that the other run does not have'
-    strict = '--order', 'strict'
-    place.want('first', place.compare(*strict, 'a', 'b')[1][2:4],
-               ['only in the first run: connection 1', told])
-    place.want('second', place.compare(*strict, 'b', 'a')[1][2:4],
-               ['only in the second run: connection 1', told])
-
-
-def random_traffic(place: Comparisons) -> None:
-    """Random traffic is the same under other names."""
-    for seed in range(25):
-        chance = random.Random(seed)
-        names = Names.drawn(chance)
-        place.put('a', *(connections := Traffic(seed, names).connections))
-        place.put('b', *Traffic(seed, Names.drawn(chance)).connections)
-        status, out, error = place.compare('a', 'b')
-        number = sum(len(calls) for calls, _ in connections)
-        if number == 0:
-            place.want('seed %d' % seed, (status, out, error),
-                       (2, [], 'compare: nothing to compare: no call of a is taken\n'))
-            continue
-        size = '%d call%s in %d connection%s' % (number, 's' * (number != 1), len(connections),
-                                                 's' * (len(connections) != 1))
-        others = sum(any(map(is_unchecked, calls)) for calls, _ in connections)
-        part = [f'{others} connection{"s" * (others != 1)} of the {run} run not checked'
-                for run in ('first', 'second')] if others else []
-        line = f'same{" in part" if others else ""}: ' + ', '.join([size, *part])
-        place.want('seed %d' % seed, (status, out[1], error.count('\n')),
-                   (int(others > 0), line, 2 * others))
-        if others:
-            place.want('seed %d, if that is allowed' % seed,
-                       place.compare('--allow-not-checked', 'a', 'b')[0], 0)
 
 
 # --- Cost ---
@@ -483,18 +412,6 @@ def folders_far_down(place: Comparisons) -> None:
 
 # --- Recordings ---
 
-def example_recordings(place: Comparisons) -> None:
-    """Two ordinary runs are the same; with another limit its fields differ."""
-    status, out, error = place.compare(FIRST, SECOND)
-    place.want('ordinary', (status, out[1:], error), (0, ['same: 103 calls in 3 connections'], ''))
-    place.want('without a mask', place.compare('--mask', 'none', FIRST, SECOND)[0], 1)
-    status, out, error = place.compare('--all', FIRST, CHANGED)
-    fields = sorted(set(re.findall(NAMES, '\n'.join(out), re.M)))
-    place.want('changed', (status, error, fields), (1, '', ['rtmax', 'rtpref', 'wtmax', 'wtpref']))
-    place.want('frames', re.findall(r'\(frame \d+\)', out[2])[1:],
-               re.findall(r'\(frame \d+\)', out[2])[:1])
-
-
 def in_calls(number: int, *, lost: int = -1, last: bool = True) -> bytes:
     """Calls of 40 bytes and replies of 24, each a segment with its mark, perhaps without one."""
     talk = Talk()
@@ -533,7 +450,3 @@ def same_in_part(place: Comparisons) -> None:
         status, out, _ = place.compare(options, '--order', 'strict', 'a', 'b')
         place.want('they differ', (status, out[1:3]), (
             1, ['differ at connection 1 client record 1034', f'compared in part: {less[1]}']))
-
-
-class CompareTest(FolderTest, make=Comparisons):
-    """Each test has a folder of its own."""

@@ -8,7 +8,6 @@ from typing import NamedTuple
 from examples.messages import NFS, NFSACL, call, dirop, fattr, fh, ok, post_op_attr, success, word
 from examples.packets import Talk, pcap
 
-from .cases import FolderTest
 from .comparisons import Conversation, conversation_of
 from .scripts import TOP, Tools, connection_of, stream
 
@@ -268,7 +267,3 @@ def recordings_that_end_early(place: Covers) -> None:
     place.write('a', content + b'\xff' * 16 + bytes(100))
     status, out, _ = place.compare('--allow-losses', 'a', 'a')
     place.want('damaged', (status, out[1].partition(':')[0]), (2, 'same in part'))
-
-
-class CountsTest(FolderTest, make=Covers):
-    """Each test has a folder of its own."""

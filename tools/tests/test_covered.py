@@ -16,14 +16,12 @@ from ..nfs3tools.commands.verdicts import json_of_verdicts, junit_of_verdicts
 from ..nfs3tools.judgement.verdict import Verdict, counts_after, is_row, status_of
 from ..nfs3tools.recordings.coverage import Allowed
 from ..nfs3tools.reporting.messages import port_numbers
-from .cases import FolderTest
 from .recordings import (
     enhanced, fragments, fragments_6, in_geneve, in_gre, in_labels, in_session, in_snap, in_vxlan,
     interface, pcapng, section, udp)
 from .scripts import (
-    ALL, CALLS, REPLIES, Tools, both_ways, connection_of, stream, sums, taken_of, whole)
+    ALL, CALLS, REPLIES, REPLY, Tools, both_ways, connection_of, sums, taken_of, whole)
 
-CALL, REPLY = len(stream(CALLS[:1])), len(stream(REPLIES[:1]))
 NFSACL, PORTMAP = 100_227, 100_000
 CLIENT_6, SERVER_6 = '2001:db8::7', '2001:db8::1'
 ENDS = '192.0.2.7:%d and 192.0.2.1:%d: '
@@ -274,21 +272,6 @@ def words_of_all_kinds(tools: Tools) -> None:
                        int('refused' in case.states))
 
 
-def words_on_the_command_line(tools: Tools) -> None:
-    """What the tool itself prints and returns, of one of each word."""
-    for case in [case for case in CASES if case.what in ('a lost frame', 'NFS version 4',
-                                                         'datagrams of UDP', 'no RPC')]:
-        recording, wanted = pcap(good() + case.frames), ['ok', *case.messages]
-        tools.write('a.pcap', recording)
-        allowed = case.statuses.index(0) if case.statuses[0] else 0
-        for words, status in ((['a.pcap'], case.statuses[0]),
-                              ([*ALLOWING[allowed], 'a.pcap'], 0),
-                              (['--follow', '-'], case.statuses[0])):
-            found = run_of(tools, *words, stdin=recording)
-            tools.want(f'{case.what} {words}', (found[0], sorted(found[1]), found[2]),
-                       (status, sorted(wanted), line_of(case)))
-
-
 def words_in_files(tools: Tools, case: Case, verdicts: list[Verdict]) -> None:
     """The same in JSON and JUnit."""
     written = json.loads(json_of_verdicts(verdicts))
@@ -425,7 +408,3 @@ def what_hides_in_others(tools: Tools) -> None:
                ['not checked: 1 frame of many tunnels is not read; what is in it is not known'])
     tools.want('the kind 0',
                taken_of(pcap([bytes(14) + frame[14:] for frame in whole()])).connections, [])
-
-
-class CoveredTest(FolderTest, make=Tools):
-    """Each test has a folder of its own."""

@@ -8,7 +8,6 @@ from examples.messages import (
 from examples.packets import Talk, pcap, recording
 from tests.shared.running import ended
 
-from .cases import FolderTest
 from .scripts import CALLS, FAULTS, FIRST, REPLIES, TOP, Tools, in_fragments, packed, stream, whole
 
 ONE = 'ok connections=1 calls=1 replies=1 handles=0'
@@ -180,7 +179,3 @@ def what_is_refused(tools: Tools) -> None:
     tools.want('no program', tools.tool('cut', '--program', './absent', 'a.pcap',
                                         'connection 1 client record 1', 'new'),
                (2, '', 'cut: ./absent is missing\n'))
-
-
-class CutTest(FolderTest, make=Tools):
-    """Each test has a folder of its own."""

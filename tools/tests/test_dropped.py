@@ -15,12 +15,10 @@ from ..nfs3tools.judgement.verdict import Verdict, is_row, status_of
 from ..nfs3tools.recordings import spool, streams
 from ..nfs3tools.recordings.coverage import Allowed
 from ..nfs3tools.recordings.selection import Options
-from .cases import FolderTest
 from .recordings import fragments, fragments_6
-from .scripts import ALL, CALLS, REPLIES, TOP, Tools, both_ways, stream, taken_of, timed, whole
+from .scripts import (
+    ALL, CALL, CALLS, REPLIES, REPLY, VERDICTS, Tools, both_ways, stream, taken_of, timed, whole)
 
-VERDICTS = str(TOP / 'tools/verdicts')
-CALL, REPLY = len(stream(CALLS[:1])), len(stream(REPLIES[:1]))
 BAD = 77  # an accept_stat that is not defined
 RECORD_16 = 'server record 16 byte 20: BadEnum, frame %d'
 ENDS = '192.0.2.7:700 and 192.0.2.1:2049'
@@ -333,7 +331,3 @@ def a_file_that_becomes_shorter(tools: Tools) -> None:
     tools.want('told',
                rest[0].endswith('the recording is damaged after frame 15: the file has become '
                                 'shorter than what was read of it'), True)
-
-
-class DroppedTest(FolderTest, make=Tools):
-    """Each test has a folder of its own."""

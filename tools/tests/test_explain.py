@@ -14,7 +14,6 @@ from examples.messages import (
 from examples.packets import ACK, Talk, ethernet, pcap
 from tests.shared.running import ended
 
-from .cases import FolderTest
 from .recordings import NANOSECONDS, pcapng
 from .scripts import (
     ALL, CALLS, FAULTS, REPLIES, TOP, WITH_TOOLS, Tools, measured, packed, stream, whole)
@@ -385,7 +384,3 @@ def memory_of_large_recordings(tools: Tools) -> None:
     in_memory(tools, 'frames', f'connection 1 client record {last} byte 0',
               f'byte 0: xid = {last - 1}',
               f'frame.number == {4 + ((last - 1) * 44 + 4) // size}', most=MOST_OF_A_RECORDING)
-
-
-class ExplainTest(FolderTest, make=Tools):
-    """Each test has a folder of its own."""

@@ -13,9 +13,8 @@ from ..nfs3tools.exchanges.listing import Message, messages_of
 from ..nfs3tools.comparison.values.long_values import parting_between
 from ..nfs3tools.comparison.verdict.differences import Comparison
 from ..nfs3tools.reporting.telling import difference_lines
-from .cases import FolderTest
 from .comparisons import Comparisons, Conversation, conversation_of
-from .scripts import CHANGED, EXAMPLES, FIRST
+from .scripts import EXAMPLES
 
 H, VERIFIER = b'handle', b'verifier'
 FILE, FOLDER = fattr(REG, 5, 6), fattr(DIR, 7, 8)
@@ -502,22 +501,6 @@ def as_json(place: Findings) -> None:
         'runs': [{**wanted['runs'][0], 'only': 0}] * 2, 'fields': [], 'findings': []})
 
 
-def json_of_recordings(place: Findings) -> None:
-    """Findings have the numbers of their frames, and equal ones are all there."""
-    place.want('status', place.compare('--json', 'out.json', FIRST, CHANGED)[0], 1)
-    found = place.json('out.json')
-    place.want('runs', [(run['name'], run['calls'], run['connections'], run['missing'])
-                        for run in found['runs']],
-               [(FIRST, 103, 3, 0), (CHANGED, 103, 3, 0)])
-    place.want('frames', [(finding['path'], finding['first']['frames'], finding['second']['frames'])
-                          for finding in found['findings']],
-               [('/mem', [21], [21])])
-    place.put_both(asked_for((b'1', 3), (b'2', 3), more=2), asked_for((b'1', 2), (b'2', 2), more=2))
-    place.compare('--json', 'out.json', 'a', 'b')
-    place.want('each', [finding['first']['position'] for finding in place.json('out.json')[
-        'findings']], [f'connection 1 server record {record}' for record in (3, 4, 5, 6)])
-
-
 def each_error_names_its_run(place: Findings) -> None:
     """Whichever of two runs cannot be read or is refused, its name is in the one line."""
     place.put('a', asked_for((b'1', 3)))
@@ -530,7 +513,3 @@ def each_error_names_its_run(place: Findings) -> None:
             status, out, error = place.compare(*words)
             place.want(f'{words}', (status, out, error.startswith(f'compare: {name}: {told}'),
                                     error.count('\n')), (2 + (name == 'absent'), [], True, 1))
-
-
-class FindingsTest(FolderTest, make=Findings):
-    """Each test has a folder of its own."""

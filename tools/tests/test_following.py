@@ -17,10 +17,8 @@ from examples.packets import ACK, RST, Talk, pcap
 from tests.shared.running import begin, pipe_of
 
 from ..nfs3tools.recordings.spool import Spool, Stored
-from .cases import FolderTest
-from .scripts import ALL, TOP, Tools, stream, sums, whole
+from .scripts import ALL, TOP, VERDICTS, Tools, stream, sums, whole
 
-VERDICTS = str(TOP / 'tools/verdicts')
 HEADS = ['recording', 'connection', 'client', 'server', 'calls', 'replies', 'verdict']
 SERVER = '192.0.2.1:2049'
 HEADER = pcap([])
@@ -37,6 +35,7 @@ class Fed:
         self.input, self.output = pipe_of(self.process.stdin), pipe_of(self.process.stdout)
         self.waiting, self.seconds, self.frames = b'', 1.0, 0
         self.feed(HEADER)
+        self.heads = [] if '--json' in words else self.line()
 
     def feed(self, content: bytes) -> None:
         self.input.write(content)
@@ -114,7 +113,7 @@ def written(number: int, size: int, committed: int = 0) -> bytes:
 def closed_connections(tools: Tools) -> None:
     """The line of a closed connection comes at once, by FIN and by RST."""
     fed = Fed(tools)
-    tools.want('heads', fed.line(), HEADS)
+    tools.want('heads', fed.heads, HEADS)
     fed.send(whole())
     tools.want('by FIN', fed.line(), row(1, 700, 39, 39, 'ok'))
     talk = Talk(701)
@@ -143,7 +142,6 @@ def closed_connections(tools: Tools) -> None:
 def bytes_that_never_come(tools: Tools) -> None:
     """A closed connection that lacks bytes is judged after ten seconds."""
     lost, fed = whole(), Fed(tools)
-    fed.line()
     fed.send([*lost[:4], *lost[5:]], 1)
     fed.send(Talk(701).opened(), 10.9)
     tools.want('before', fed.line(0.5), [])
@@ -162,7 +160,6 @@ def faults_of_open_connections(tools: Tools) -> None:
     """After a second of either clock, and at 65,536 bytes."""
     fault = 'server record 1 byte 20: BadEnum, frame %d'
     fed, talk = Fed(tools), Talk()
-    fed.line()
     fed.send([*talk.opened(), talk.sent(0, ALL[0]), talk.sent(1, fragment(BAD))])
     fed.send([Talk(900).frame(0, ACK)], 2.1)
     tools.want('a second later', fed.line(), row(1, 700, 39, 1, fault % 5))
@@ -181,7 +178,6 @@ def faults_of_open_connections(tools: Tools) -> None:
 def what_is_no_fault_yet(tools: Tools) -> None:
     """A record that is not whole, and a reply whose call comes later."""
     fed, talk = Fed(tools), Talk()
-    fed.line()
     late = talk.opened() + [talk.sent(0, ALL[0]), talk.sent(1, ALL[1][:-9])]
     after = talk.sent(0, stream([call(40, NFS, 3, 0)]))
     fed.send([*late, talk.sent(1, ALL[1][-9:] + stream([success(40)]))])
@@ -201,7 +197,6 @@ def interrupted(tools: Tools) -> None:
     """A signal judges what is open, and prints the sums."""
     for number in (signal.SIGINT, signal.SIGTERM):
         fed, talk = Fed(tools), Talk(701)
-        fed.line()
         fed.send([*whole(), *talk.opened(), talk.sent(0, ALL[0]), talk.sent(1, ALL[1])])
         tools.want('closed', fed.line(), row(1, 700, 39, 39, 'ok'))
         fed.process.send_signal(number)
@@ -295,7 +290,6 @@ def the_same_verdicts(tools: Tools) -> None:
 def many_short_connections(tools: Tools) -> None:
     """Memory and the temporary file stay small."""
     fed, size = Fed(tools), 0
-    fed.line()
     content = stream(write_of(number, 30_000) for number in range(1, 8)), stream(
         written(number, 30_000) for number in range(1, 8))
     for number in range(400):
@@ -314,7 +308,6 @@ def a_long_connection(tools: Tools) -> None:
     """Memory stays small, a fault has its numbers, and late replies their calls."""
     for words, first in (([], 0), ([], 4)):
         fed, talk, size = Fed(tools, *words), Talk(), 0
-        fed.line()
         fed.send([*talk.opened(), talk.sent(0, stream([call(7_000_000, NFS, 3, 0)]))][first:])
         for number in range(1, 1_201):
             frames = [talk.sent(0, fragment(write_of(number, 60_000))),
@@ -359,7 +352,3 @@ def bytes_that_are_forgotten(tools: Tools) -> None:
     tools.want('all is forgotten', (spool.room.end, spool.room.begins, spool.unwritten,
                                     spool.stored), (0, [], 0, {}))
     spool.close()
-
-
-class FollowingTest(FolderTest, make=Tools):
-    """Each test has a folder of its own."""

@@ -15,7 +15,6 @@ from tests.shared.running import ended
 
 from ..nfs3tools.recordings.container import capture_of
 from ..nfs3tools.recordings.taken import NotTaken
-from .cases import FolderTest
 from .recordings import (
     NANOSECONDS, block, cooked, cooked_2, enhanced, extended, interface, loopback, obsolete, pcapng,
     section, simple)
@@ -309,7 +308,3 @@ def internet_layers(tools: Tools) -> None:
     lying[4] = whole()[4][:46] + b'\xf0' + whole()[4][47:58]
     tools.want('a TCP header that lies',
                tools.taken('a TCP header that lies', pcap(lying + whole()[4:5]), [ALL])[-1], told)
-
-
-class FormatsTest(FolderTest, make=Tools):
-    """Each test has a folder of its own."""

@@ -14,7 +14,6 @@ from tests.shared.running import ended
 from ..nfs3tools.commands import cut
 from ..nfs3tools.recordings.extract import frames_of
 from ..nfs3tools.shared.places import Place
-from .cases import FolderTest
 from .recordings import cooked, enhanced, fragments, fragments_6, interface, part_of, section
 from .scripts import ALL, CALLS, FIRST, REPLIES, TOP, Tools, packed, stream, sums, taken_of, whole
 
@@ -355,7 +354,3 @@ def large_messages(**options: Any) -> list[bytes]:
         frames += [talk.sent(side, content[at:at + size]) for at in range(0, len(content), size)]
     # (tshark joins no segments with wrong checksums)
     return [part_of(frame, 0, len(frame)) for frame in (*frames, *talk.closed())]
-
-
-class FramesTest(FolderTest, make=Tools):
-    """Each test has a folder of its own."""

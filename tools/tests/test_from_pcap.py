@@ -20,15 +20,12 @@ from ..nfs3tools.recordings.container import capture_of
 from ..nfs3tools.recordings.frames import Frame
 from ..nfs3tools.recordings.segments import Segments
 from ..nfs3tools.recordings.taken import NotTaken, TakenStream
-from .cases import FolderTest
 from .recordings import fragments, fragments_6
 from .scripts import (
-    ALL, CALLS, MEASURED, REPLIES, TOP, WITH_TOOLS, Tools, exchange, packed, stream, taken_of,
-    whole)
+    ALL, CALL, CALLS, FIFTH, FIFTH_OF_REPLIES, MEASURED, REPLIES, REPLY, TOP, WITH_TOOLS, Tools,
+    exchange, packed, stream, taken_of, whole)
 
 SIZES = ', %d and %d bytes' % (len(ALL[0]), len(ALL[1]))
-CALL, REPLY = len(stream(CALLS[:1])), len(stream(REPLIES[:1]))
-FIFTH, FIFTH_OF_REPLIES = -(-len(ALL[0]) // 5), -(-len(ALL[1]) // 5)
 # Without the second of five segments of calls: the calls before it and behind it, and their
 # replies.
 BEFORE_A_GAP, BEHIND_A_GAP = FIFTH // CALL, -(-2 * FIFTH // CALL)
@@ -83,37 +80,18 @@ def repeated_last_fragments(tools: Tools) -> None:
 # --- Segments ---
 
 def segments_in_any_order(tools: Tools) -> None:
-    """Segments out of order, again, overlapping, and before the end was known."""
-    chance = random.Random(7)
-    for _ in range(20):
-        talk = Talk(first=(chance.choice([1_000, (1 << 32) - 200]),
-                           chance.choice([0, (1 << 32) - 1])))
-        opened, frames = talk.opened(), exchange(talk, 9)
-        frames += chance.choices(frames, k=9)
-        chance.shuffle(frames)
-        tools.told('shuffled', pcap(opened + frames), [ALL], [])
-    tools.taken('wrapping', pcap(whole(first=((1 << 32) - 50, (1 << 32) - 1))), [ALL])
+    """Overlapping segments, a keep-alive, and positions after 12 GB."""
     talk, content = Talk(), stream(CALLS)
     frames = talk.opened() + [talk.frame(0, ACK, content[at:at + 100], at)
                               for at in (0, 150, 60, 240, 200, 30)]
     talk.next[0] += 340
     frames += [talk.frame(0, ACK, b'\0', -1), talk.sent(0, content[340:]), *talk.closed()]
     tools.told('overlapping, and a keep-alive', pcap(frames), [(content, b'')], [])
-    tools.taken('one byte at a time', pcap(bytewise(content)), [(content, b'')])
-    one, two = whole(port=700), whole(port=701, service=111)
-    tools.taken('two at once', pcap([frame for pair in zip(one, two) for frame in pair]),
-                [ALL, ALL])
     stream_of_4_gb = streams.Stream(spool.Spool(), streams.Budget(), None)
     stream_of_4_gb.first, stream_of_4_gb.next = 50, (3 << 32) + 7
     for ahead in (-9, 0, 9, 1 << 30, -(1 << 30)):
         position = stream_of_4_gb.position((50 + (3 << 32) + 7 + ahead) & 0xffffffff)
         tools.want('a position after 12 GB', position, (3 << 32) + 7 + ahead)
-
-
-def bytewise(content: bytes) -> list[bytes]:
-    talk = Talk()
-    return talk.opened() + [talk.sent(0, content[at:at + 1])
-                            for at in range(len(content))] + talk.closed()
 
 
 def bytes_that_came_first(tools: Tools) -> None:
@@ -152,19 +130,6 @@ def bytes_that_came_first(tools: Tools) -> None:
     frames = [*talk.opened(), talk.sent(0, content), talk.frame(0, ACK, b'\xee', -1),
               *talk.closed()]
     tools.told('a keep-alive with another byte', pcap(frames), [(content, b'')], [])
-
-
-def ports_that_are_used_again(tools: Tools) -> None:
-    """SYN again, also after data, begins no connection; a port that is used again has several."""
-    frames, other = whole(), whole(first=(900_000, 800_000))
-    reset = Talk(first=(1_001 + len(ALL[0]), 5_001)).frame(0, RST)
-    for what, recorded, number in (
-            ('SYN again', [frames[0], frames[0], frames[1], frames[1], *frames[2:]], 1),
-            ('SYN again after data', [*frames[:5], frames[0], *frames[5:]], 1),
-            ('a port used again', frames + other, 2), ('with the same numbers', frames + frames, 2),
-            ('after RST', [*frames[:-2], reset, *frames], 2),
-            ('of which SYN is missing', frames + other[1:], 2)):
-        tools.taken(what, pcap(recorded), [ALL] * number)
 
 
 def beginnings_and_ends(tools: Tools) -> None:
@@ -641,7 +606,3 @@ def filters(tools: Tools) -> None:
         answer = tools.tool('from_pcap', '--filter', 'tcp', 'a.pcap', 'out', env=alone)
         tools.want('without tshark', answer,
                    (2, '', 'from_pcap: tshark is missing, which --filter needs\n'))
-
-
-class FromPcapTest(FolderTest, make=Tools):
-    """Each test has a folder of its own."""

@@ -8,7 +8,6 @@ from examples.packets import ACK, RST, SERVER, SYN, Talk, datagram, ethernet, se
 
 from ..nfs3tools.commands.verdicts import Judge
 from ..nfs3tools.recordings.selection import Options
-from .cases import FolderTest
 from .scripts import Tools, sums, taken_of, timed
 
 BEGUN = 1_600_000_000  # 12:26:40 UTC
@@ -176,7 +175,3 @@ def memory_of_connections(tools: Tools) -> None:
         tracemalloc.stop()
     tools.want('verdicts', {verdict.state for verdict in verdicts[:number]}, {'left out'})
     tools.want('bytes of each', most / number < 1_200 or most / number, True)
-
-
-class HangsTest(FolderTest, make=Tools):
-    """Each test has a folder of its own."""

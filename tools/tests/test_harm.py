@@ -17,7 +17,6 @@ from examples.packets import Talk, pcap
 from tests.shared.outputs import AS_IT_WAS, NULL_DEVICE
 from tests.shared.running import Answer, ended, program_named
 
-from .cases import FolderTest
 from .scripts import (
     ALL, CHANGED, EXAMPLES, FIRST, TOP, WITHOUT_PROGRAM, WITH_TOOLS, Tools, packed, whole)
 
@@ -66,16 +65,11 @@ def one_line(tools: Tools, what: str, answer: Answer, status: int, *texts: str) 
 def writers(tools: Tools, file: str, *inputs: str) -> list[list[str]]:
     """The command lines that write a file, of tools with these inputs."""
     compared = [*inputs, *inputs][:2]
-    return [['verdicts', '--program', tools.program, '--junit', file, *inputs],
-            ['verdicts', '--program', tools.program, '--json', file, *inputs],
-            ['verdicts', '--program', tools.program, '--html', file, *inputs],
-            ['compare', '--program', tools.program, '--html', file, *compared],
-            ['compare', '--program', tools.program, '--json', file, *compared],
-            ['compare', '--program', tools.program, '--junit', file, *compared],
-            ['procedures', '--program', tools.program, '--json', file, *inputs],
-            ['procedures', '--program', tools.program, '--csv', file, *inputs],
-            ['procedures', '--program', tools.program, '--html', file, *inputs],
-            ['from_pcap', inputs[-1], file]]
+    forms = [('verdicts', inputs, ('--junit', '--json', '--html')),
+             ('compare', compared, ('--html', '--json', '--junit')),
+             ('procedures', inputs, ('--json', '--csv', '--html'))]
+    return [*([name, '--program', tools.program, form, file, *some]
+              for name, some, own in forms for form in own), ['from_pcap', inputs[-1], file]]
 
 
 def outputs_that_are_inputs(tools: Tools) -> None:
@@ -458,7 +452,3 @@ def refused_lines(tools: Tools) -> None:
         tools.want(name, (status, out, usage), (2, '', f'usage: {name} [OPTION ..] {operands}'))
         tools.want(f'{name} says what is wrong',
                    [line.startswith(f'{name}: error: ') for line in told], [True])
-
-
-class HarmTest(FolderTest, make=Tools):
-    """Each test has a folder of its own."""

@@ -16,7 +16,6 @@ from collections.abc import Callable
 from examples.messages import NFS, call
 from tests.shared.running import Answer, Runs, begin, ended, pipe_of, program_named
 from ..nfs3tools.comparison.values.classes import CLASSES_BY_NAME
-from .cases import FolderTest
 from .scripts import TOP, packed, stream
 
 PROGRAMS = ('nfs3canon', 'nfs3mask')
@@ -520,7 +519,3 @@ def under_a_name_that_is_no_text(place: Place) -> None:
         place.want(repr(name), (done.status, done.error.startswith(b'install: '),
                                 done.error.count(b'\n')), (2, True, 1))
     place.want('what is there', os.listdir(place.folder), [])
-
-
-class InstallingTest(FolderTest, make=Place):
-    """Each test has a folder of its own."""

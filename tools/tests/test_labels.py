@@ -13,7 +13,6 @@ from ..nfs3tools.exchanges.listing import Message, messages_of
 from ..nfs3tools.exchanges.whose import Labels, fields_of
 from ..nfs3tools.comparison.values.classes import Mask, Way, mask_of
 from ..nfs3tools.comparison.verdict.differences import Comparison
-from .cases import FolderTest
 from .comparisons import Conversation
 from .test_findings import FILE, FOLDER, Findings, H, VERIFIER
 
@@ -214,7 +213,7 @@ def fields_are_those_of_labels(place: Findings) -> None:
     place.want('entries', sorted(field for field in fields_of('NFSPROC3_READDIR')
                                  if field.startswith('entry')),
                ['entry', 'entry.cookie', 'entry.fileid', 'entry.name'])
-    for seed in range(60):
+    for seed in range(15):
         place.put('a', *Traffic(seed, Names.drawn(random.Random(seed))).connections)
         listed = messages_of(place.run('show', 'a')[1].splitlines())
         found = {(message.procedure, field) for message in listed for field in all_fields(message)}
@@ -319,7 +318,3 @@ def names_of_removed_files(place: Findings) -> None:
     place.want('without the mask', differing_under(place, {}, listing(b'a', one),
                                                    listing(b'a', other)),
                ['entry.name', 'entry.name'])
-
-
-class LabelsTest(FolderTest, make=Findings):
-    """Each test has a folder of its own."""

@@ -1,20 +1,15 @@
-"""Laws on recordings that are cut, lack frames, or are damaged at random."""
+"""Laws on recordings that are damaged at random."""
 import gzip
 import random
-import typing
 
-from examples.packets import Talk, ethernet, pcap
-from tests.shared.traffic import Names, Traffic
+from examples.packets import ethernet, pcap
 
-from ..nfs3tools.recordings.container import capture_of
 from ..nfs3tools.recordings.frames import Frame
 from ..nfs3tools.recordings.segments import Segments
 from ..nfs3tools.recordings.taken import NotTaken, Taken
-from ..nfs3tools.reporting.messages import recording_lines
 from ..nfs3tools.shared.places import SIDES
-from .cases import FolderTest
 from .recordings import fragments, pcapng
-from .scripts import TOP, Streams, Tools, stream, taken_of, whole
+from .scripts import Tools, taken_of, whole
 
 
 def frames_of(recording: bytes) -> list[bytes]:
@@ -101,137 +96,3 @@ def bytes_not_on_the_wire(taken: Taken, frames: list[bytes]) -> list[int]:
                       if stored.read(brought.begin,
                                      end - brought.begin) not in frames[brought.number - 1][16:]]
     return wrong
-
-
-class Conversation(typing.NamedTuple):
-    """A recording, its frames with their heads, and what is whole in it."""
-    head: bytes
-    frames: list[bytes]
-    taken: Taken
-
-
-def conversations() -> list[Conversation]:
-    """The real recordings of the examples, and random traffic in segments of any size."""
-    recordings = [(TOP / 'examples' / name).read_bytes()
-                  for name in ('ganesha_a.pcap', 'ganesha_b.pcap')]
-    for seed in range(4):
-        recordings.append(random_recording(seed))
-    return [Conversation(content[:24], frames_of(content), taken_of(content))
-            for content in recordings]
-
-
-def random_recording(seed: int) -> bytes:
-    """Connections of random traffic at once, in segments of any size; replies come after their
-    calls."""
-    chance, talks = random.Random(seed), []
-    for number, (calls, replies) in enumerate(Traffic(seed, Names.drawn(chance)).connections):
-        known, several = {body[:4] for body in calls}, []
-        for _ in range(12):
-            several.append((stream(calls), stream(body for body in replies if body[:4] in known)))
-        talks.append(segments_of(chance, Talk(700 + number), several))
-    frames = []
-    while talks := [talk for talk in talks if talk]:
-        frames.append(chance.choice(talks).pop(0))
-    return pcap(frames)
-
-
-def segments_of(chance: random.Random, talk: Talk, exchanges: list[Streams]) -> list[bytes]:
-    frames = talk.opened()
-    for exchanged in exchanges:
-        for side, content in enumerate(exchanged):
-            at = 0
-            while at < len(content):
-                size = chance.choice((chance.randrange(1, 200), 1_448))
-                frames.append(talk.sent(side, content[at:at + size]))
-                at += size
-    return frames + talk.closed()
-
-
-def whole_messages(conversation: Conversation, present: set[int]) -> int:
-    """How many messages have all their bytes in the frames that are present; of replies those whose
-    calls have them, too."""
-    number = 0
-    for connection in conversation.taken.connections:
-        known = set[bytes]()
-        for side in SIDES:
-            taken_stream = connection.stream(side)
-            for record in taken_stream.records():
-                extent = taken_stream.extent(record.number)
-                if extent and all(frame.number in present
-                                  for frame in taken_stream.frames(extent.begin, extent.end)):
-                    if side == 'client':
-                        known.add(record.body[:4])
-                    number += side == 'client' or record.body[:4] in known
-    return number
-
-
-def checked(tools: Tools, what: str, conversation: Conversation, present: list[int]) -> None:
-    """The frames that are present give a well-formed capture, of at least nine in ten of the
-    messages that are whole in them."""
-    content = conversation.head + b''.join(conversation.frames[number - 1] for number in present)
-    taken = taken_of(content)
-    tools.write('a', b''.join(capture_of(taken.pairs())))
-    status, out, error = tools.run('check', 'a')
-    tools.want(what, (status, error), (0, ''))
-    tools.want(what + ', its frames',
-               beside_their_frames(taken, [conversation.frames[number - 1] for number in present]),
-               [])
-    kept = messages_in(taken)
-    tools.want(what + ', kept', kept >= 0.9 * whole_messages(conversation, set(present)), True)
-    told = [line for line in recording_lines(taken) if ': client ' not in line]
-    tools.want(what + ', told', bool(told) or not is_shown(conversation, set(present)), True)
-
-
-def beside_their_frames(taken: Taken, frames: list[bytes]) -> list[str]:
-    """The records whose mark and xid are not in the frame that is said to carry them."""
-    wrong = []
-    for connection in taken.connections:
-        for side in SIDES:
-            for record in connection.stream(side).records():
-                extent = connection.stream(side).extent(record.number)
-                noted = connection.stream(side).frames(extent.begin,
-                                                       extent.begin + 8) if extent else []
-                if extent and len(noted) == 1 and connection.stream(side).read(
-                    extent.begin, 8) not in frames[noted[0].number - 1]:
-                    wrong.append(f'connection {connection.number} {side} record {record.number}')
-    return wrong
-
-
-def messages_in(taken: Taken) -> int:
-    return sum(connection.stream(side).count_records() for connection in taken.connections
-               for side in SIDES)
-
-
-def is_shown(conversation: Conversation, present: set[int]) -> bool:
-    """Whether a frame that is absent brought bytes, and one before and one after it in its stream
-    are there."""
-    for connection in conversation.taken.connections:
-        for side in SIDES:
-            numbers = [frame.number
-                       for frame in connection.stream(side).frames(0, connection.stream(side).size)]
-            there = sorted(present & set(numbers))
-            if there and any(there[0] < number < there[-1] for number in numbers
-                             if number not in present):
-                return True
-    return False
-
-
-def cuts_and_losses(tools: Tools) -> None:
-    """Recordings that begin and end in the middle of connections, or lack frames, give well-formed
-    captures with nearly all that is whole."""
-    chance = random.Random(1)
-    for conversation in conversations():
-        count = len(conversation.frames)
-        for number in range(30):
-            begin = end = 0
-            if number < 18:
-                begin = chance.randrange(count)
-                end = count if chance.random() < 0.5 else chance.randrange(1, count + 1)
-            lost = (0, 0.01, 0.05)[max(0, number // 6 - 2)]
-            present = [at for at in range(begin + 1, max(begin + 1, end or count) + 1)
-                       if at <= count and chance.random() >= lost]
-            checked(tools, f'{number}: {len(present)} of {begin} to {end}', conversation, present)
-
-
-class LossyTest(FolderTest, make=Tools):
-    """Each test has a folder of its own."""

@@ -16,7 +16,6 @@ from tests.shared.traffic import Names, Traffic
 from ..nfs3tools.comparison.parts.marks import Piece, pieces_of
 from ..nfs3tools.recordings.taken import TakenStream, take
 from ..nfs3tools.shared.programs import Died
-from .cases import FolderTest
 from .comparisons import COUNTS, Comparisons, Conversation, is_unchecked
 from .scripts import TOP, WITH_TOOLS, in_turn, measured
 
@@ -428,7 +427,7 @@ def frames_in_another_order(place: Comparisons) -> None:
 
 def random_runs(place: Comparisons) -> None:
     """Random traffic is the same in each part, and no call is lost."""
-    for seed in range(40):
+    for seed in range(20):
         names = Names.drawn(random.Random(seed))
         first, second = (Traffic(seed, some).connections for some in (names, names.turned()))
         place.put('a', *first)
@@ -540,7 +539,3 @@ def many_parts(place: Comparisons) -> None:
     (whole, memory), (parts, more) = costs
     place.want(f'{parts} seconds for {whole}', parts < 3 * whole, True)
     place.want(f'{more} bytes for {memory}', more < memory + 32e6, True)
-
-
-class MarksTest(FolderTest, make=Comparisons):
-    """Each test has a folder of its own."""

@@ -5,7 +5,6 @@ import functools
 import json
 import os
 import random
-import unittest
 from collections.abc import Callable, Iterable, Iterator
 from pathlib import Path
 from typing import Any, NamedTuple, Optional
@@ -24,7 +23,7 @@ from tools.nfs3tools.meaning.rules import RULES, Looked
 from tools.nfs3tools.recordings.selection import Options
 from tools.nfs3tools.recordings.taken import take
 
-from .cases import PROGRAM, FolderTest
+from .cases import PROGRAM
 from .scripts import TOP, Tools, in_turn, timed
 
 FOLDER, FILE, OTHER = b'folder', b'file', b'other'
@@ -226,12 +225,16 @@ MAY_BE = {
     'a preferred size is no multiple': [limits(4000)]}
 
 
+def bodies_of(steps: Iterable[Step]) -> list[tuple[bytes, bytes]]:
+    """The calls with their replies."""
+    return [(call(xid, NFS, 3, NFS_PROCEDURES.index(name), arguments), success(xid, results))
+            for xid, (name, arguments, results) in enumerate(steps, 1)]
+
+
 def frames_of(number: int, steps: Iterable[Step]) -> list[bytes]:
     """The frames of a connection with a server of its own."""
-    asked = [(call(xid, NFS, 3, NFS_PROCEDURES.index(name), arguments), success(xid, results))
-             for xid, (name, arguments, results) in enumerate(steps, 1)]
     return in_turn([Talk(hosts=('192.0.2.7', f'198.51.100.{number}'))],
-                   [(0, side, body) for both in asked for side, body in enumerate(both)])
+                   [(0, side, body) for both in bodies_of(steps) for side, body in enumerate(both)])
 
 
 def meaning(tools: Tools, *words: str) -> tuple[int, Any]:
@@ -270,6 +273,17 @@ def what_is_permitted(tools: Tools) -> None:
     for number, name in enumerate(MAY_BE, 1):
         tools.want(name, [(one['rule'], one['text']) for one in whole['findings']
                           if one['connection'] == number and one['by'] != 'note'], [])
+
+
+def exchanges_that_overlap(tools: Tools) -> None:
+    """What returns was never away only if the three exchanges came one after the other."""
+    bodies = bodies_of([asked(), asked(), asked(now=shown(mtime=LATER, ctime=LATER)), asked()])
+    for order, rules in (('11223344', ['returns']), ('11223434', []), ('11232344', [])):
+        sides = [(order[:at].count(one), int(one) - 1) for at, one in enumerate(order)]
+        frames = in_turn([Talk()], [(0, side, bodies[number][side]) for side, number in sides])
+        tools.write('a.pcap', timed(enumerate(frames), 1_000))
+        found = meaning(tools, 'a.pcap')[1]['findings']
+        tools.want(order, [one['rule'] for one in found], rules)
 
 
 # --- Forms of output ---
@@ -325,10 +339,7 @@ def findings_that_are_accepted(tools: Tools) -> None:
 
 def a_capture(tools: Tools) -> None:
     """It has no frames, so rules about several exchanges are not asked, which is said."""
-    calls = [call(xid, NFS, 3, NFS_PROCEDURES.index(name), arguments)
-             for xid, (name, arguments, _) in enumerate((read(b'alpha'), read(b'alphb', 3)), 1)]
-    replies = [success(xid, results) for xid, (_, _, results)
-               in enumerate((read(b'alpha'), read(b'alphb', 3)), 1)]
+    calls, replies = zip(*bodies_of([read(b'alpha'), read(b'alphb', 3)]))
     tools.write('a.nfs3cap', capture((calls, replies)))
     status, out, _ = tools.tool('meaning', 'a.nfs3cap')
     tools.want('rows', (status, [line.split()[0] for line in out.splitlines()[1:-2]]),
@@ -503,44 +514,42 @@ def is_planted_found(recorded: Recorded, plant: Plant, known: set[tuple[str, int
     return bool(found_in(Changed(recorded.kept, number, plant.changed)) - known)
 
 
-class Recordings(unittest.TestCase):
-    """Tests over recordings, from which a value or an exchange is taken."""
+def recordings_as_they_are(tools: Tools) -> None:
+    """In each there is what is known of it, and nothing else."""
+    for path in RECORDINGS:
+        with recorded_in(path) as recorded:
+            found = collections.Counter(one.rule for one in findings_in(recorded, Looked(), True))
+        tools.want(path.name, found, FOUND.get(path.name.partition('.')[0], {}))
 
-    def test_as_they_are(self) -> None:
-        """In each there is what is known of it, and nothing else."""
-        for path in RECORDINGS:
-            with recorded_in(path) as recorded, self.subTest(path.name):
-                found = findings_in(recorded, Looked(), True)
-                self.assertEqual(collections.Counter(one.rule for one in found),
-                                 FOUND.get(path.name.partition('.')[0], {}))
 
-    def test_planted(self) -> None:
-        """Of the changes of one item, most are found."""
-        told, number = collections.Counter[str](), collections.Counter[str]()
-        for path in RECORDINGS:
-            with recorded_in(path) as recorded:
-                known = found_in(recorded)
-                numbers = [one.source.number for one in recorded.answered()]
-                for name, plant in PLANTS.items():
-                    random.Random(name).shuffle(numbers)
-                    tried = (is_planted_found(recorded, plant, known, number) for number in numbers)
-                    done = [is_found for is_found, _ in zip(
-                        (one for one in tried if one is not None), range(EACH))]
-                    told[name] += sum(done)
-                    number[name] += len(done)
-        self.assertEqual(PLANTS.keys() - +number, set())
-        self.assertGreaterEqual(sum(told.values()), SHARE_FOUND * sum(number.values()), told)
+def planted_changes(tools: Tools) -> None:
+    """Of the changes of one item, most are found."""
+    told, number = collections.Counter[str](), collections.Counter[str]()
+    for path in RECORDINGS:
+        with recorded_in(path) as recorded:
+            known = found_in(recorded)
+            numbers = [one.source.number for one in recorded.answered()]
+            for name, plant in PLANTS.items():
+                random.Random(name).shuffle(numbers)
+                tried = (is_planted_found(recorded, plant, known, number) for number in numbers)
+                done = [is_found for is_found, _ in zip(
+                    (one for one in tried if one is not None), range(EACH))]
+                told[name] += sum(done)
+                number[name] += len(done)
+    tools.want('never planted', PLANTS.keys() - +number, set())
+    tools.want(f'{told}', sum(told.values()) >= SHARE_FOUND * sum(number.values()), True)
 
-    def test_hidden(self) -> None:
-        """Nothing more is found without some exchanges."""
-        alarms = list[str]()
-        for path in (path for path in RECORDINGS if path.name != f'{OLD_CACHE}.pcap'):
-            with recorded_in(path) as recorded:
-                known = found_in(recorded)
-                for hidden in hidings(recorded.kept):
-                    found = found_in(Hiding(recorded.kept, hidden), False) - known
-                    alarms += [f'{path.name}: {one}' for one in found]
-        self.assertLessEqual(len(alarms), ALARMS_AT_MOST, alarms)
+
+def hidden_exchanges(tools: Tools) -> None:
+    """Nothing more is found without some exchanges."""
+    alarms = list[str]()
+    for path in (path for path in RECORDINGS if path.name != f'{OLD_CACHE}.pcap'):
+        with recorded_in(path) as recorded:
+            known = found_in(recorded)
+            for hidden in hidings(recorded.kept):
+                found = found_in(Hiding(recorded.kept, hidden), False) - known
+                alarms += [f'{path.name}: {one}' for one in found]
+    tools.want(f'{alarms}', len(alarms) <= ALARMS_AT_MOST, True)
 
 
 def hidings(kept: Kept) -> Iterator[frozenset[int]]:
@@ -551,7 +560,3 @@ def hidings(kept: Kept) -> Iterator[frozenset[int]]:
         for seed in range(2):
             chosen = random.Random(f'{seed} {share}')
             yield frozenset(number for number in range(len(kept)) if chosen.random() < share)
-
-
-class MeaningTests(FolderTest, make=Tools):
-    """Each test has a folder of its own."""

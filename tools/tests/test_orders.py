@@ -1,193 +1,46 @@
 """Tests of tools/compare on runs whose calls come in another order."""
 import random
-import re
-from collections.abc import Callable, Iterator, Sequence
-from dataclasses import dataclass, field
-from typing import NamedTuple
+from collections.abc import Sequence
 
 from examples import messages
 from examples.messages import (
-    MOUNT, NFS, auth_sys, call, dirop, fattr, fh, hyper, ok, opaque, post_op_attr, sattr, success,
-    wcc, word)
+    MOUNT, NFS, call, dirop, fattr, fh, hyper, ok, opaque, post_op_attr, sattr, success, wcc, word)
 from examples.packets import Talk, pcap
-from tests.shared.running import ended
 
 from ..nfs3tools.comparison.values.classes import (
     Way, default_mask, following, in_any_order, mask_of)
-from .cases import FolderTest
 from .comparisons import Comparisons, Conversation, Exchange, conversation_of
-from .scripts import TOP, in_turn, measured
+from .scripts import measured
 
-GETATTR, SETATTR, LOOKUP, READ, WRITE, CREATE, MKDIR, REMOVE = 1, 2, 3, 6, 7, 8, 9, 12
-
-
-# --- Runs of several clients at once ---
-
-@dataclass
-class Step:
-    """A call of a client: what it asks and what it is answered, of files by their names."""
-    procedure: int
-    asks: Callable[['World'], bytes]
-    answer: Callable[['World'], bytes]
-    program: int = NFS
+GETATTR, LOOKUP, WRITE, CREATE, MKDIR, REMOVE = 1, 3, 7, 8, 9, 12
 
 
-class World:
-    """What a run has its own of: handles, and file ids by the order in which files were made."""
-
-    def __init__(self, chance: random.Random) -> None:
-        self.chance, self.handles, self.ids = chance, dict[str, bytes](), dict[str, int]()
-        self.time = chance.randrange(1 << 31)
-
-    def handle(self, path: str) -> bytes:
-        return self.handles.setdefault(path, self.chance.randbytes(28))
-
-    def attributes(self, path: str, kind: int = 1, size: int = 0, mode: int = 0o644,
-                   nlink: int = 1) -> bytes:
-        fileid = self.ids.setdefault(path, len(self.ids) + 64)
-        return fattr(kind, fileid, size, mode,
-                     nlink)[:60] + b''.join(word(self.time + number) for number in range(6))
-
-
-@dataclass
-class Client:
-    """A client in a folder of its own, with its data, its modes and more steps."""
-    name: str
-    data: bytes = b'some data'
-    mode: int = 0o644
-    more: list[Step] = field(default_factory=list)
-
-    def steps(self) -> Iterator[Step]:
-        top, folder = '/', f'/{self.name}'
-        yield Step(MKDIR, lambda w: dirop(w.handle(top), self.name.encode()) + sattr(mode=0o755),
-                   lambda w: ok(messages.made(w.handle(folder), w.attributes(folder, 2), wcc())))
-        for number in range(4):
-            yield from self.of_file(folder, f'f{number}')
-        yield from self.more
-
-    def of_file(self, folder: str, name: str) -> Iterator[Step]:
-        path = f'{folder}/{name}'
-        yield Step(LOOKUP, lambda w: dirop(w.handle(folder), name.encode()),
-                   lambda w: messages.failed(2, post_op_attr()))
-        yield Step(CREATE, lambda w: dirop(w.handle(folder), name.encode()) + word(0)
-                   + sattr(mode=0o644),
-                   lambda w: ok(messages.made(w.handle(path), w.attributes(path, mode=self.mode),
-                                              wcc())))
-        yield Step(WRITE, lambda w: fh(w.handle(path)) + hyper(0) + word(len(self.data)) + word(0)
-                   + opaque(self.data),
-                   lambda w: ok(wcc(None, w.attributes(path, size=9, mode=self.mode)), word(9),
-                                word(2), b'verifier'))
-        yield Step(READ, lambda w: fh(w.handle(path)) + hyper(0) + word(512),
-                   lambda w: ok(post_op_attr(w.attributes(path, size=9, mode=self.mode)), word(9),
-                                word(1), opaque(self.data)))
-        yield self.asked(path)
-
-    def asked(self, path: str) -> Step:
-        return Step(GETATTR, lambda w: fh(w.handle(path)),
-                    lambda w: ok(w.attributes(path, size=9, mode=self.mode)))
-
-
-def mixed(chance: random.Random, clients: Sequence[Client], connections: int) -> list[Conversation]:
-    """A run of clients at once, whose turns and connections are chance."""
-    world, streams = World(chance), [list(client.steps()) for client in clients]
-    out: list[Conversation] = [([], []) for _ in range(connections)]
-    out.append(([call(1, MOUNT, 3, 1, opaque(b'/'))],
-                [success(1, ok(fh(world.handle('/')), word(0)))]))
-    xids = iter(chance.sample(range(1 << 32), 1_000))
-    while any(streams):
-        steps = chance.choice([steps for steps in streams if steps])
-        step, xid = steps.pop(0), next(xids)
-        calls, replies = out[chance.randrange(connections)]
-        calls.append(call(xid, step.program, 3, step.procedure, step.asks(world),
-                          credential=auth_sys(world.time, b'box', 0, 0, [])))
-        replies.append(success(xid, step.answer(world)))
-    for _, replies in out:
-        at = chance.randrange(len(replies))
-        replies[at:at + 3] = replies[at:at + 3][::-1]
-    chance.shuffle(out)
-    return out
-
-
-def clients() -> list[Client]:
-    return [Client(f'c{number}') for number in range(5)]
-
-
-def calls_of(count: int) -> str:
-    return f'{count} of {count} calls matched'
-
-
-def clients_at_once(place: Comparisons) -> None:
-    """Clients at once are the same in another order, also over more connections."""
-    for seed in range(4):
-        place.put('a', *mixed(random.Random(seed), clients(), 3))
-        place.put('b', *mixed(random.Random(seed + 100), clients(), 3 + seed % 2))
-        status, out, error = place.compare('--order', 'any', 'a', 'b')
-        place.want(f'seed {seed}', (status, out[1].startswith('same in another order: 106 calls; '),
-                                    error, len(out)), (0, True, '', 3))
-        place.want(f'seed {seed} in words', out[2].startswith(calls_of(106)), True)
-        place.want(f'seed {seed} by default', place.compare('a', 'b'), (1, out, ''))
-        status, strict, _ = place.compare('--order', 'strict', 'a', 'b')
-        place.want(f'seed {seed} strictly', (status, strict[1].startswith('differ at '),
-                                             strict[-1].startswith(calls_of(106))),
-                   (1, True, True))
-
-
-def what_differs_is_found(place: Comparisons) -> None:
-    """A changed byte, a changed mode and one call more are all that is found."""
-    names = [f'/c2/f{number}' for number in range(4)]
-    more = Step(MKDIR, lambda w: dirop(w.handle('/c2'), b'more') + sattr(),
-                lambda w: messages.success(0)[24:] + messages.failed(13, wcc()))
-    cases: list[tuple[Client, set[str], list[str]]] = [
-        (Client('c2', data=b'some datA'), {f'NFSPROC3_{name} {path}' for path in names
-                                           for name in ('WRITE', 'READ reply')}, ['data']),
-        (Client('c2', mode=0o640),
-         {f'NFSPROC3_{name} reply {path}' for path in names
-          for name in ('CREATE', 'WRITE', 'READ', 'GETATTR')}, ['mode']),
-        (Client('c2', more=[more]), {'only in the second run: NFSPROC3_MKDIR /c2/more'}, [])]
-    for seed, (client, wanted, fields) in enumerate(cases):
-        place.put('a', *mixed(random.Random(seed), clients(), 3))
-        place.put('b', *mixed(random.Random(seed + 100),
-                              [client if one.name == 'c2' else one for one in clients()], 3))
-        status, out, error = place.compare('--order', 'any', '--all', 'a', 'b')
-        found = {line.partition(': connection')[0] for line in out[2:] if ': connection' in line}
-        place.want(f'{fields}', (status, found, error), (1, wanted, ''))
-        where = re.search(r'connection \d+ \w+ record \d+', out[2])
-        place.want(f'{fields} in any order', out[1].removesuffix(' of the second run'),
-                   f'differ in any order at {where and where[0]}')
-        place.want(f'{fields} by default', place.compare('--all', 'a', 'b')[1][2:], out[2:])
-        values = {line[4:].partition('=')[0] for line in out if line.startswith('  ')}
-        place.want(f'fields {fields}', sorted({value.rpartition('.')[2] for value in values}),
-                   fields)
+def asked_again(number: int) -> Conversation:
+    """LOOKUP of a file, and GETATTRs of it."""
+    return conversation_of([
+        (LOOKUP, dirop(b'top', b'f'), ok(fh(b'f'), post_op_attr(), post_op_attr())),
+        *[(GETATTR, fh(b'f'), ok(fattr(1, 5)))] * number])
 
 
 def calls_that_only_ask(place: Comparisons) -> None:
     """GETATTR of one run alone is left out in any order, and told, but not with --extra none."""
-    asking = Client('c2')
-    asking.more = [asking.asked('/c2/f1')] * 3
-    place.put('a', *mixed(random.Random(1), [asking, Client('c1')], 2))
-    place.put('b', *mixed(random.Random(2), [Client('c2'), Client('c1')], 2))
-    status, out, _ = place.compare('--order', 'any', 'a', 'b')
-    place.want('left out', (status, '; left out: 3 GETATTR of the first run' in out[1]), (0, True))
-    where = out[2].partition(': ')
-    place.want('listed',
-               (where[0],
-                re.fullmatch(r'3 NFSPROC3_GETATTR /c2/f1, first: connection \d client record \d+',
-                             where[2]) is not None),
-               ('left out of the first run', True))
-    place.want('in words', out[3].endswith('; left out: 3 GETATTR only in the first run'), True)
+    place.put_both(asked_again(4), asked_again(1))
+    asked, where = '3 NFSPROC3_GETATTR ?/f', ', first: connection 1 client record '
+    out = place.says('left out', 0, 'same but for calls left out', '--order', 'any')
+    place.want('listed', ('; left out: 3 GETATTR of the first run' in out[1],
+                          out[2].startswith(f'left out of the first run: {asked}{where}'),
+                          out[3].endswith('; left out: 3 GETATTR only in the first run')),
+               (True, True, True))
     every = [line for line in place.compare('--order', 'any', '--all', 'a', 'b')[1]
              if line.startswith('left out of the first run: 1 ')]
     place.want('all', (len(every), len(set(every))), (3, 3))
-    place.want('by default', place.compare('a', 'b')[0], 1)
     status, out, _ = place.compare('b', 'a')
-    place.want('of the second', '; left out: 3 GETATTR of the second run' in out[1], True)
-    status, out, _ = place.compare('--order', 'any', '--extra', 'none', 'a', 'b')
-    found = [line for line in out
-             if line.startswith(
-                 'only in the first run: 3 calls of NFSPROC3_GETATTR /c2/f1, first: ')]
-    place.want('none',
-               (status, len(found), out[-1].partition('; ')[2].endswith('3 only in the first run')),
-               (1, 1, True))
+    place.want('of the second', (status, '; left out: 3 GETATTR of the second run' in out[1]),
+               (1, True))
+    out = place.says('none', 1, 'differ in any order', '--order', 'any', '--extra', 'none')
+    found = f'only in the first run: 3 calls of NFSPROC3_GETATTR ?/f{where}'
+    place.want('none, listed', ([line.startswith(found) for line in out].count(True),
+                                out[-1].endswith('; 3 only in the first run')), (1, True))
 
 
 def looked_up(*names: bytes) -> Conversation:
@@ -242,137 +95,6 @@ def a_client_without_commit(place: Comparisons) -> None:
         status, out, _ = place.compare('--order', order, 'a', 'b')
         place.want(order, (status, out[2].partition(': connection')[0]),
                    (1, 'only in the first run: NFSPROC3_COMMIT'))
-
-
-Half = tuple[int, int, bytes]  # a message: the shell, its side, 0 for a call, and its body
-MKDIR_OK = ok(messages.made(None, None, wcc()))
-
-
-def shared_folder(*steps: Half) -> bytes:
-    """Two shells in one folder, each over its own connection, message by message."""
-    return pcap(in_turn([Talk(700), Talk(701)], steps))
-
-
-class Asked(NamedTuple):
-    """What a shell, 0 or 1, asks and is answered."""
-    shell: int
-    xid: int
-    procedure: int
-    arguments: bytes
-    results: bytes
-
-    def call(self) -> Half:
-        return self.shell, 0, call(self.xid, NFS, 3, self.procedure, self.arguments)
-
-    def reply(self) -> Half:
-        return self.shell, 1, success(self.xid, self.results)
-
-
-def made_in_folder(xid: int, name: bytes, shell: int = 1) -> Asked:
-    return Asked(shell, xid, MKDIR, dirop(b'folder', name) + sattr(), MKDIR_OK)
-
-
-def listed_names(xid: int, *names: bytes) -> Asked:
-    """READDIR of the folder, with these names."""
-    entries = messages.entries(fattr(2, 1), bytes(8),
-                               [messages.entry(1, name, 0) for name in names], is_end=True)
-    return Asked(0, xid, 16, fh(b'folder') + bytes(16) + word(512), ok(entries))
-
-
-def in_folder(xid: int, name: bytes, found: int | None) -> Asked:
-    """LOOKUP of a name, which is there if it has a mode."""
-    answer = messages.failed(2, post_op_attr())
-    if found is not None:
-        answer = ok(fh(b'at ' + name), post_op_attr(fattr(1, 9, mode=found)), post_op_attr())
-    return Asked(0, xid, LOOKUP, dirop(b'folder', name), answer)
-
-
-def one_by_one(*steps: Asked) -> bytes:
-    return shared_folder(*(half for step in steps for half in (step.call(), step.reply())))
-
-
-def in_which_others_worked(place: Comparisons) -> None:
-    """What a folder shows may depend on which call came first: it is left out."""
-    top = Asked(0, 1, LOOKUP, dirop(b'top', b'w'),
-                ok(fh(b'folder'), post_op_attr(), post_op_attr()))
-    new, last = made_in_folder(5, b'new'), Asked(0, 9, GETATTR, fh(b'top'), ok(fattr(2, 3)))
-    without, with_new, wrong = listed_names(7, b'x'), listed_names(7, b'x', b'new'), listed_names(
-        7, b'x', b'another')
-    failing, elsewhere = new._replace(results=messages.failed(17, wcc())), new._replace(
-        arguments=dirop(b'other', b'new') + sattr())
-    during = [top.call(), top.reply(), new.call(), without.call(), without.reply(), new.reply(),
-              last.call(), last.reply()]
-    rows: list[tuple[str, bytes, bytes, int]] = [
-        ('before and after', one_by_one(top, without, new, last),
-         one_by_one(top, new, with_new, last), 0),
-        ('during', one_by_one(top, new, with_new, last), shared_folder(*during), 0),
-        ('as before', one_by_one(top, new, with_new, last), one_by_one(top, new, wrong, last), 1),
-        ('after both', one_by_one(top, without, new, last), one_by_one(top, wrong, new, last), 1),
-        ('a change that fails', one_by_one(top, without, failing, last),
-         one_by_one(top, failing, wrong, last), 1),
-        ('a name that comes', one_by_one(top, in_folder(7, b'new', None), new, last),
-         one_by_one(top, new, in_folder(7, b'new', 0o755), last), 0),
-        ('another name', one_by_one(top, in_folder(7, b'x', 0o644), new, last),
-         one_by_one(top, new, in_folder(7, b'x', 0o600), last), 1),
-        ('another folder', one_by_one(top, without, elsewhere, last),
-         one_by_one(top, elsewhere, with_new, last), 1)]
-    for what, first, second, wanted in rows:
-        place.write('a', first)
-        place.write('b', second)
-        for words in (['a', 'b'], ['b', 'a']):
-            status, out, error = place.compare('--order', 'any', *words)
-            place.want(f'{what} {words}', (status, error), (wanted, ''))
-            listed = [line for line in out if line.startswith('left out: 1 ')]
-            place.want(f'{what} {words}: listed', len(listed), 1 - wanted)
-        for more in (['--extra', 'none', '--order', 'any'], ['--order', 'strict']):
-            place.want(f'{what} {more}', place.compare(*more, 'a', 'b')[0], 1)
-
-
-def what_is_left_out_is_listed(place: Comparisons) -> None:
-    """What others overtook is in the verdict and listed, in each form."""
-    top = Asked(0, 1, LOOKUP, dirop(b'top', b'w'),
-                ok(fh(b'folder'), post_op_attr(), post_op_attr()))
-    new, last = made_in_folder(5, b'new'), Asked(0, 9, GETATTR, fh(b'top'), ok(fattr(2, 3)))
-    place.write('a', one_by_one(top, listed_names(7, b'x'), new, last))
-    place.write('b', one_by_one(top, new, listed_names(7, b'x', b'new'), last))
-    status, out, _ = place.compare('--order', 'any', '--json', 'out.json', '--html', 'out.html',
-                                   '--junit', 'out.xml', 'a', 'b')
-    why = 'MKDIR ?/w/new at connection 2 client record 1 of the second run'
-    line = ('left out: 1 NFSPROC3_READDIR ?/w, explained by order: connection 1 client record 2 '
-            '(frame 9) | '
-            f'connection 1 client record 2 (frame 11), by {why}')
-    place.want('the verdict', out[1],
-               'same in another order, 1 answer explained by order: 3 calls; left out: 1 READDIR '
-               'of ?/w, explained by order')
-    place.want('the list', out[2], line)
-    found = place.json('out.json')['left_out']
-    first, second = ({'position': 'connection 1 client record 2', 'frames': [frame]}
-                     for frame in (9, 11))
-    place.want('JSON', found, [{'procedure': 'NFSPROC3_READDIR', 'path': '?/w', 'first': first,
-                                'second': second, 'kind': 'explained', 'why': why}])
-    for name in ('out.html', 'out.xml'):
-        place.want(name, line.encode() in (place.read(name) or b''), True)
-    for name in 'ab':
-        captured = ended([str(TOP / 'tools/from_pcap'), name, f'{name}.nfs3cap'],
-                         place.folder).status
-        place.want('captured', captured, 0)
-    place.want('captures', place.compare('--order', 'any', 'a.nfs3cap', 'b.nfs3cap')[0], 1)
-
-
-def ids_and_orders(place: Comparisons) -> None:
-    """File ids that are given out in another order and again are no difference."""
-    def run(*names: bytes) -> Conversation:
-        return conversation_of((LOOKUP, dirop(b'top', name),
-                                ok(fh(name), post_op_attr(fattr(1, fileid)),
-                            post_op_attr()))
-                        for name, fileid in zip(names, (7, 8, 7)))
-    place.put_both(run(b'1', b'2', b'3'), run(b'2', b'1', b'3'))
-    words = '3 calls; 1 reordered; 1 reply reordered; fsids and ids follow their objects'
-    place.wants('ids', 0, ['3 of 3 calls matched; 1 reordered; 1 reply reordered'], '--order',
-                'any')
-    place.want('told', place.compare('a', 'b')[1][1], 'same in another order: ' + words)
-    out = place.says('compared', 1, 'differ in any order', '--mask=+ids=number', '--order', 'any')
-    place.want('found', any('fileid' in line for line in out), True)
 
 
 def seen_in_the_middle(place: Comparisons) -> None:
@@ -627,7 +349,3 @@ def many_in_another_order(place: Comparisons) -> None:
     place.want('same', (status, lines[1][:36]), (0, 'same in another order: 8,000 calls; '))
     place.want(f'{seconds} seconds', seconds < 8, True)
     place.want(f'{memory} bytes', memory < 80e6, True)
-
-
-class OrdersTest(FolderTest, make=Comparisons):
-    """Each test has a folder of its own."""

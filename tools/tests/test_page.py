@@ -9,7 +9,6 @@ from examples.messages import (
 from examples.packets import Talk, pcap
 
 from .browser import Browser
-from .cases import FolderTest
 from .comparisons import Comparisons, Conversation, Exchange, conversation_of
 from .pages import (
     HERE, HOSTILE, SHOWN, VISIBLE, WIDTHS, Node, Pages, asked_of_others, broken_links, find,
@@ -301,10 +300,6 @@ def differences_that_say_the_same(place: Compared) -> None:
     place.want('more', (article.texts('summary'), article.texts('p')[-1]),
                (['351 positions more'], '.. and 51 more'))
     place.want('how many', page.texts('h2')[1], '1 difference in 352 messages')
-    article, = place.page_of(worked(SENTENCE), worked(SENTENCE, 30)).all('article')
-    place.want('a call of one run', (article.texts('h3'), changes_of(article)),
-               (['1 only in the second run: NFSPROC3_SETATTR call /hold/f1'],
-                ['+ set.mode=0640 (416)']))
     calls, replies = asked([1])
     more = conversation_of([(GETATTR, fh(b'0'), ok(fattr(1, 2, 0, 1)))], 9)
     page = place.page_of((calls, replies), (calls + more[0], replies + more[1]), '--extra=none')
@@ -606,6 +601,12 @@ def keys_and_buttons(place: Compared) -> None:
         browser.press('n')
         place.want('a letter', (browser.value('find.value'), browser.value(HERE)), ('n', ['f2']))
         find(browser, '0150 (104)')
+        shown = [one.attributes['id'] for some in (page.all('article'), page.all('details', 'row'))
+                 for one in some if '0150 (104)' in one.text()]
+        place.want('found', (browser.value(VISIBLE % 'article, .row, .gap'),
+                             browser.value('found.textContent')[:12], browser.value(HEADS)),
+                   (shown, '1 difference', ['1 difference in 1 message', 'Calls',
+                                            'connection 1 | connection 1']))
         browser.value('find.blur()')
         browser.press('n')
         place.want('of those that are found', browser.value(HERE), ['f12'])
@@ -622,70 +623,10 @@ def keys_and_buttons(place: Compared) -> None:
             browser.click(f'#{rows[number - 1]} summary a')
             place.want(f'{width}, row of {number}', browser.value('location.hash'), f'#f{number}')
         place.want('errors', browser.errors, [])
-
-
-# Two runs with two findings, in 30 of 80 messages.
-TWO_FINDINGS = asked([0o640] * 40), asked([0o640, 0o600, 0o600, 0o601] * 10)
-
-
-@in_chromium
-def searching(place: Compared) -> None:
-    """The field hides what does not have its text, and counts what has it."""
-    place.put_both(*TWO_FINDINGS)
-    with place.browser() as browser:
-        page = place.opened(browser)
-        whole = [browser.value(VISIBLE % one) for one in ('article', '.row', '.gap')]
-        heads = browser.value(HEADS)
-        place.want('all', (whole[0], heads[:2]),
-                   (['f1', 'f2'], ['What differs', '2 differences in 30 messages']))
-        for text, found in (('/m/f13', 1), ('SERVER record 29', 1), ('0601 (385)', 1),
-                            ('nothing', 0)):
-            browser.click('#find')
-            browser.value('find.select()')
-            browser.type(text)
-            wanted = [[one.attributes['id'] for one in some if text.lower() in one.text().lower()]
-                      for some in (page.all('article'), page.all('details', 'row'))]
-            place.want(text, [browser.value(VISIBLE % one) for one in ('article', '.row', '.gap')],
-                       [*wanted, []])
-            place.want(f'{text}: counted',
-                       (len(wanted[0]), browser.value('found.textContent')[:12]),
-                       (found, f'{found} difference'))
-        place.want('none', browser.value(HEADS), [])
-        find(browser, '/m/f31')
-        place.want('one', browser.value(HEADS),
-                   ['1 difference in 10 messages', 'Calls', 'connection 1 | connection 1'])
-        find(browser, '')
-        place.want('all again',
-                   ([browser.value(VISIBLE % one) for one in ('article', '.row', '.gap')],
-                    browser.value(HEADS)), (whole, heads))
-        place.want('errors', browser.errors, [])
-
-
-@in_chromium
-def what_opens_and_is_copied(place: Compared) -> None:
-    """What is folded opens on a click, and a button copies its filter."""
-    place.put_both(*TWO_FINDINGS)
-    with place.browser() as browser:
-        place.opened(browser)
-        for selector, inner in (('#f1 details', 'li'), ('.row', '.fields'),
-                                ('.row.told', '.fields')):
-            states = []
-            for _ in range(3):
-                states.append(browser.value(
-                    f'document.querySelector("{selector} {inner}").checkVisibility()'))
-                browser.click(f'{selector} summary' + ' .mark' * (inner == '.fields'))
-            place.want(selector, states, [False, True, False])
         place.opened(browser, *CONCURRENT[::2])
         wanted_filter = browser.value('document.querySelector("#f2 .filter").textContent')
         browser.click('#f2 .copy')
-        place.want('copied', browser.value('document.querySelector("#f2 .copy.copied") !== null'),
-                   True)
         browser.click('#find')
         browser.ask('Input.dispatchKeyEvent', type='keyDown', key='v', commands=['paste'])
-        place.want('pasted', (browser.value('find.value'), wanted_filter[:16]),
+        place.want('copied', (browser.value('find.value'), wanted_filter[:16]),
                    (wanted_filter, 'frame.number == '))
-        place.want('errors', browser.errors, [])
-
-
-class PageTest(FolderTest, make=Compared):
-    """Each test has a folder of its own."""

@@ -2,7 +2,7 @@
 import random
 import struct
 from collections import defaultdict
-from collections.abc import Callable, Iterable, Iterator, Sequence
+from collections.abc import Callable, Iterable, Iterator
 from dataclasses import dataclass, replace
 from itertools import chain, islice
 from typing import NamedTuple
@@ -13,7 +13,6 @@ from examples.packets import Talk, pcap
 from ..nfs3tools.recordings.selection import Options
 from ..nfs3tools.recordings.taken import take
 from ..nfs3tools.shared.layouts import BY_NAME, BodyReader as Body, PlacedItem, procedures
-from .cases import FolderTest
 from .comparisons import Comparisons
 from .scripts import TOP
 
@@ -272,7 +271,5 @@ def on(name: str, test: Callable[[Comparisons, str], None]) -> Callable[[Compari
     return tested
 
 
-NAMES: Sequence[str] = ('knfsd-plain', 'knfsd-writes', 'natural-folder', 'natural-parallel')
-class PlantedTest(FolderTest, make=Comparisons, tests=[
-        on(name, test) for name in NAMES for test in (plants_are_found, calls_are_found)]):
-    """Each test has a folder of its own."""
+NAMES = ('knfsd-plain', 'knfsd-writes', 'natural-folder', 'natural-parallel')
+TESTS = [on(name, test) for name in NAMES for test in (plants_are_found, calls_are_found)]

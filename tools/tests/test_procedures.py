@@ -1,22 +1,15 @@
-"""Tests of `tools/procedures`. Without tshark, what needs it is skipped, with a word."""
+"""Tests of `tools/procedures`."""
 import csv
 import io
 import re
-import shutil
-import unittest
 from typing import Any, NamedTuple
 
 from examples.messages import (
     AUTH_NONE, MOUNT, NFS, call, dirop, failed, fattr, fh, fragment, ok, opaque, post_op_attr,
     success, word)
-from examples.packets import ACK, Talk, pcap
-from tests.shared.running import ended
+from examples.packets import Talk, pcap
 
-from .cases import FolderTest
-from .recordings import interface, section, simple
-from .scripts import (
-    TOP, TSHARK, Tools, in_fragments, measured, of_tshark, stream, sums as sum_line, whole,
-    write_faulty)
+from .scripts import Tools, measured, stream, sums as sum_line, whole, write_faulty
 
 GETATTR, LOOKUP, MNT = 1, 3, 1  # by their numbers
 HEADS = ['procedure', 'calls', 'again', 'replies', 'no reply', 'call bytes',
@@ -148,43 +141,6 @@ def counts_by_hand(tools: Tools) -> None:
                 '87', ['a.pcap 2:1 frame 24', 'a.pcap 1:1 frame 4']))
 
 
-def times_of_records(tools: Tools) -> None:
-    """A record is complete by the last frame that brought its bytes."""
-    talk, asked, answer = Talk(), call(1, NFS, 3, GETATTR,
-                                       fh(b'a')), fragment(success(1, ATTRIBUTES))
-    # 4 and 5
-    frames = talk.opened() + [talk.sent(0, fragment(asked)[:9]), talk.sent(0, fragment(asked)[9:])]
-    # 6 to 8
-    frames += [talk.frame(1, ACK, answer[at:end], ahead=at)
-               for at, end in ((0, 20), (60, 999), (20, 60))]
-    frames += [talk.sent(1, answer)]  # 9, all of it again
-    # Two calls in frame 10 with the first bytes of a third, its rest in frame 11 with a fourth;
-    # their replies in the frames 12 to 14.
-    calls = stream([call(number, NFS, 3, 0) for number in range(2, 6)])
-    replies = stream([success(number) for number in range(2, 6)])
-    frames += [talk.sent(0, calls[:98]), talk.sent(0, calls[98:])]
-    frames += [talk.sent(1, replies[at:end]) for at, end in ((0, 30), (30, 57), (57, 999))]
-    tools.write('a.pcap', pcap(frames))
-    found = {row['procedure']: row for row in tables_of(tools, 'a.pcap')[0]['procedures']}
-    ranks = {name: (row['latencies'], row['median_ns'], row['p99_ns'], row['most_ns'])
-             for name, row in found.items()}
-    # Replies of 28 bytes: the first is complete in frame 12, the second in 13, the others in 14.
-    # Latencies 2, 3, 3 and 3.
-    tools.want('latencies', ranks, {'NFSPROC3_GETATTR': (1, 3_000, 3_000, 3_000),
-                                    'NFSPROC3_NULL': (4, 3_000, 3_000, 3_000),
-                                    'in all': (5, 3_000, 3_000, 3_000)})
-    whole_record, cut = stream([call(6, NFS, 3, 0)]), in_fragments(success(6), 5)
-    other = Talk(701)
-    frames = [*other.opened(), other.sent(0, whole_record),
-              *(other.sent(1, cut[at:at + 7]) for at in range(0, len(cut), 7))]
-    tools.write('b.pcap', pcap(frames))
-    # Five fragments of at most 5 bytes are 44 bytes: seven frames.
-    tools.want('fragments', tables_of(tools, 'b.pcap')[0]['procedures'][0]['most_ns'], 7_000)
-    tools.write('c.pcap', section() + interface() + b''.join(map(simple, whole())))
-    tools.want('frames without times',
-               [row['latencies'] for row in tables_of(tools, 'c.pcap')[0]['procedures']], [0, 0])
-
-
 def ranks_of_latencies(tools: Tools) -> None:
     """The median is the lower of two; of 100 latencies the 99th is the last but one."""
     for number, median, p99 in ((1, 1, 1), (2, 1, 2), (3, 2, 3), (99, 50, 99), (100, 50, 99),
@@ -247,22 +203,6 @@ def judged_in_part(tools: Tools) -> None:
     _, tables, _ = procedures(tools, 'worse.pcap')
     tools.want('no call before the fault',
                [table for title, table in tables.items() if 'counted up to there' in title], [[]])
-
-
-def captures_have_no_times(tools: Tools) -> None:
-    """The table of a capture is that of its recording without latencies."""
-    for name in ('ganesha_a', 'concurrent_a'):
-        recording = str(TOP / f'examples/{name}.pcap')
-        tools.want('from_pcap', tools.tool('from_pcap', recording, 'a.nfs3cap')[0], 0)
-        without = dict.fromkeys(('median_ns', 'p99_ns', 'most_ns', 'mean_ns',
-                                 'sum_ns', 'most_position', 'most_frame'))
-        wanted = [[{**row, 'latencies': 0, **without} for row in table['procedures']]
-                  for table in tables_of(tools, recording)]
-        tools.want(name, [table['procedures'] for table in tables_of(tools, 'a.nfs3cap')], wanted)
-        _, tables, _ = procedures(tools, '--total', 'a.nfs3cap')
-        tools.want('dashes',
-                   {cell for table in tables.values() for cells in table[1:]
-                    for cell in cells[7:LONGEST + 1]}, {'-'})
 
 
 def sorted_rows(tools: Tools) -> None:
@@ -377,49 +317,6 @@ def files_for_others(tools: Tools) -> None:
                {'NFS3ERR_STALE': 2, 'AUTH_BADCRED': 1})
 
 
-def counts_of_tshark(tools: Tools, recording: str, program: int) -> dict[str, tuple[int, int]]:
-    """The calls of each procedure of a program, and the longest time, as tshark has them."""
-    words = [*TSHARK, recording, '-q', '-z', f'rpc,srt,{program},3']
-    rows = re.findall(r'^ +\d+ +(\w+) +(\d+) +[\d.]+ +([\d.]+) ',
-                      ended(words, tools.folder).out.decode(), re.M)
-    prefix = 'NFSPROC3_' if program == NFS else 'MOUNTPROC3_'
-    return {prefix + name: (int(calls), round(float(most) * 1_000_000))
-            for name, calls, most in rows}
-
-
-@unittest.skipUnless(shutil.which('tshark'), 'tshark is not there')
-def as_tshark_counts(tools: Tools) -> None:
-    """Numbers, times, errors, bytes and the median are those of tshark."""
-    talk = Talk()
-    made = [*one_of_each(talk)[0], *talk.closed()]
-    tools.write('made.pcap', pcap(made))
-    examples = [str(TOP / f'examples/{name}.pcap')
-                for name in ('ganesha_a', 'ganesha_changed', 'concurrent_a', 'concurrent_b')]
-    for recording in ('made.pcap', *examples):
-        rows = {row['procedure']: row for row in tables_of(tools, recording)[-1]['procedures']}
-        timed = {name: (row['latencies'], round(row['most_ns'] / 1_000))
-                 for name, row in rows.items()
-                 if name[0] in 'NM' and row['latencies']}
-        if recording != 'made.pcap':
-            tools.want(recording, timed, counts_of_tshark(tools, recording, NFS)
-                       | counts_of_tshark(tools, recording, MOUNT))
-        fields = of_tshark(tools, recording, 'rpc', 'rpc.msgtyp', 'nfs.status3', 'rpc.fraglen',
-                                  'rpc.time', 'rpc.call.dup')
-        kinds, states, sizes, times, repeated = (
-            [value for row in fields for value in row[at].split(',') if value] for at in range(5))
-        tools.want('calls and replies', [rows['in all'][name] for name in ('calls', 'replies')],
-                   [kinds.count('0'), kinds.count('1')])
-        errors = sum(number for name, number in rows['in all']['errors'].items()
-                     if name.startswith('NFS3'))
-        tools.want('errors', errors, sum(state != '0' for state in states))
-        tools.want('bytes', rows['in all']['call_bytes'] + rows['in all']['reply_bytes'],
-                   sum(int(piece) + 4 for piece in sizes))
-        tools.want('again', rows['in all']['again'], len(repeated))
-        if recording != 'made.pcap':
-            ordered = sorted(round(float(time) * 1_000_000_000) for time in times)
-            tools.want('median', rows['in all']['median_ns'], ordered[(len(ordered) + 1) // 2 - 1])
-
-
 def many_calls(tools: Tools) -> None:
     """Memory, and processor time beside that of tools/verdicts."""
     talk = Talk()
@@ -435,7 +332,3 @@ def many_calls(tools: Tools) -> None:
         tools.want(name, (status, memory <= MOST_MEMORY or memory), (0, True))
     tools.want('what it printed', lines[-1].split()[2:6], [f'{MANY}', '0', f'{MANY}', '0'])
     tools.want('processor time', spent['procedures'] <= 4 * spent['verdicts'] or spent, True)
-
-
-class ProceduresTest(FolderTest, make=Tools):
-    """Each test has a folder of its own."""

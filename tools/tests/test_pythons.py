@@ -5,7 +5,6 @@ from pathlib import Path
 
 from tests.shared.running import ended
 
-from .cases import FolderTest
 from .scripts import TOP, Tools
 
 OLDEST = (3, 9)
@@ -58,7 +57,3 @@ def is_told(tools: Tools, python: str) -> None:
         tools.want(f'{name} by {python}', ended([python, '-B', str(TOP / 'tools' / name), '--help'],
                                                 tools.folder).text(),
                    (3, '', f'{name}: needs Python 3.9 or later; this is {full}'))
-
-
-class PythonsTest(FolderTest, make=Tools):
-    """Each test has a folder of its own."""

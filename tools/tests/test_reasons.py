@@ -3,7 +3,6 @@ import re
 
 from tests.shared.rows import SMALL, capture_in, rows_of
 
-from .cases import FolderTest
 from .scripts import TOP, Tools
 
 # Words that tell what is said of each reason from what is said of any other.
@@ -58,7 +57,3 @@ def explained_as_documented(tools: Tools) -> None:
     for name in ('ganesha_a.pcap', 'bad_bool.pcap'):
         status, out, error = tools.tool('explain', str(TOP / 'examples' / name), 'file 0: BadMagic')
         tools.want('a recording', (status, out, 'tools/from_pcap' in error), (2, '', True))
-
-
-class ReasonsTest(FolderTest, make=Tools):
-    """Each test has a folder of its own."""

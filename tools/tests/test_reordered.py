@@ -11,7 +11,6 @@ from tests.shared.traffic import Names, Traffic
 from ..nfs3tools.comparison.exchanges.reordered import Numbered, Rewriting, write_in_order
 from ..nfs3tools.recordings.taken import take
 from ..nfs3tools.shared.programs import Died
-from .cases import FolderTest
 from .comparisons import Comparisons, Conversation
 
 Said = tuple[bytes, tuple[bytes, ...]]  # a call and its replies, without their xids
@@ -112,7 +111,3 @@ def orders_that_are_none(place: Comparisons) -> None:
             place.want(name, type(died).__name__, 'WrongOrder')
     place.want('left out', written(place, [second], [first]),
                [(call(8, NFS, 3, 0)[4:], (success(8)[4:],))])
-
-
-class ReorderedTest(FolderTest, make=Comparisons):
-    """Each test has a folder of its own."""

@@ -9,18 +9,18 @@ from examples.messages import (
     sattr, success, wcc, word)
 from examples.packets import Talk, pcap
 
-from .cases import FolderTest
 from .comparisons import Comparisons
 from .scripts import in_turn
 
 (GETATTR, SETATTR, LOOKUP, ACCESS, WRITE, CREATE, MKDIR, REMOVE, RENAME, READDIR, READDIRPLUS,
  FSINFO) = 1, 2, 3, 4, 7, 8, 9, 12, 14, 16, 17, 19
-NOENT, IO, ACCES, STALE, SERVERFAULT, BADHANDLE = 2, 5, 13, 70, 10006, 10001
+NOENT, IO, ACCES, EXIST, STALE, SERVERFAULT, BADHANDLE = 2, 5, 13, 17, 70, 10006, 10001
 TOP = b'top'
 
 
 class Step(NamedTuple):
-    """A call and its results; how often both were sent, and by which user."""
+    """A call and its results; how often both were sent, by which user and which client, and whether
+    its replies come after the next call was answered."""
     procedure: int
     arguments: bytes
     results: bytes
@@ -28,16 +28,19 @@ class Step(NamedTuple):
     answered: int = 1
     user: int = 1000
     client: int = 0
+    is_slow: bool = False
 
 
 def recorded(steps: Iterable[Step]) -> bytes:
     """A recording of clients each with a connection, one call after the other."""
-    steps, said = list(steps), list[tuple[int, int, bytes]]()
+    steps, said, late = list(steps), list[tuple[int, int, bytes]](), list[tuple[int, int, bytes]]()
     for xid, step in enumerate(steps, 1):
         user = auth_sys(1, b'box', step.user, 100, [])
         body = call(xid, NFS, 3, step.procedure, step.arguments, credential=user)
         said += [(step.client, 0, body)] * step.sent
-        said += [(step.client, 1, success(xid, step.results))] * step.answered
+        late = [(step.client, 1, success(xid, step.results))] * step.answered + late
+        if not step.is_slow:
+            said, late = said + late, []
     talks = [Talk(700 + number) for number in range(1 + max(step.client for step in steps))]
     return pcap(in_turn(talks, said))
 
@@ -145,18 +148,54 @@ def listed_entries(names: Sequence[bytes], fileid: int = 50) -> Step:
     return Step(READDIR, fh(b'folder') + bytes(16) + word(512), results)
 
 
+FOLDER = looked(b'w', b'folder', 3)
+NEW = Step(CREATE, dirop(b'folder', b'z') + word(0) + sattr(),
+           ok(made(b'handle z', fattr(1, 52), wcc())), client=1)
+BEFORE, AFTER = listed_entries([b'x', b'y']), listed_entries([b'x', b'y', b'z'])
+
+
 def entries_that_an_order_explains(place: Comparisons) -> None:
     """A listing may lack a name that is made meanwhile, and no other."""
-    folder = looked(b'w', b'folder', 3)
-    new = Step(CREATE, dirop(b'folder', b'z') + word(0) + sattr(),
-               ok(made(b'handle z', fattr(1, 52), wcc())), client=1)
-    before, after = listed_entries([b'x', b'y']), listed_entries([b'x', b'y', b'z'])
-    said = any_order(place, [ROOT, folder, before, new, F], [ROOT, folder, new, after, F])
-    place.want('made', (said.status, said.json['left_out'][0]['kind']), (0, 'explained'))
+    first = [ROOT, FOLDER, BEFORE, NEW, F]
+    for what, one, other in (('made', first, [ROOT, FOLDER, NEW, AFTER, F]),
+                             ('during', [ROOT, FOLDER, NEW, AFTER, F],
+                              [ROOT, FOLDER, NEW._replace(is_slow=True), BEFORE, F])):
+        said = any_order(place, one, other)
+        place.want(what, (said.status, [left['kind'] for left in said.json['left_out']]),
+                   (0, ['explained']))
+        for words, status in (('any b a', 0), ('strict a b', 1), ('any --extra none a b', 1)):
+            place.want(f'{what} {words}', place.compare('--order', *words.split())[0], status)
     for names in ([b'x', b'z'], [b'y', b'x', b'z'], [b'x', b'y', b'z', b'q']):
-        other = listed_entries(names)
-        said = any_order(place, [ROOT, folder, before, new, F], [ROOT, folder, new, other, F])
+        said = any_order(place, first, [ROOT, FOLDER, NEW, listed_entries(names), F])
         place.want(f'{names}', (said.status, said.found), (1, ['changed READDIR']))
+    for what, change in (('a change that fails', NEW._replace(results=failed(EXIST, wcc()))),
+                         ('another folder', NEW._replace(
+                             arguments=dirop(b'other', b'z') + word(0) + sattr()))):
+        said = any_order(place, [ROOT, FOLDER, BEFORE, change, F],
+                         [ROOT, FOLDER, change, AFTER, F])
+        place.want(what, said.status, 1)
+
+
+def what_is_left_out_is_listed(place: Comparisons) -> None:
+    """What others overtook is in the verdict and listed, in each form."""
+    said = compared(place, [FOLDER, BEFORE, NEW, ROOT], [FOLDER, NEW, AFTER, ROOT],
+                    '--order', 'any', '--html', 'out.html', '--junit', 'out.xml')
+    why = 'CREATE ?/w/z at connection 2 client record 1 of the second run'
+    line = ('left out: 1 NFSPROC3_READDIR ?/w, explained by order: connection 1 client record 2 '
+            f'(frame 9) | connection 1 client record 2 (frame 11), by {why}')
+    place.want('printed', said.lines[1:3], [
+        'same in another order, 1 answer explained by order: 3 calls; left out: 1 READDIR '
+        'of ?/w, explained by order', line])
+    first, second = ({'position': 'connection 1 client record 2', 'frames': [frame]}
+                     for frame in (9, 11))
+    place.want('JSON', said.json['left_out'], [
+        {'procedure': 'NFSPROC3_READDIR', 'path': '?/w', 'first': first, 'second': second,
+         'kind': 'explained', 'why': why}])
+    for name in ('out.html', 'out.xml'):
+        place.want(name, line.encode() in (place.read(name) or b''), True)
+    for name in 'ab':
+        place.want('captured', place.tool('from_pcap', name, f'{name}.nfs3cap')[0], 0)
+    place.want('captures', place.compare('--order', 'any', 'a.nfs3cap', 'b.nfs3cap')[0], 1)
 
 
 # --- Calls of one run alone ---
@@ -205,13 +244,6 @@ def changed_users(place: Comparisons) -> None:
     place.want('elsewhere', (said.status, said.found), (1, ['only ACCESS'] * 2))
     said = any_order(place, [*BOTH, access(1), access(1)], [*BOTH, access(1), access(1, user=0)])
     place.want('there', (said.status, said.found), (1, ['changed ACCESS']))
-
-
-def changed_ids(place: Comparisons) -> None:
-    """A wrong file id or file system in one reply."""
-    for what, wrong in (('fileid', got(b'handle f', 77)), ('fsid', got(b'handle f', 7, fsid=1))):
-        said = any_order(place, [*BOTH, BOTH[3], F], [*BOTH, wrong, F])
-        place.want(what, (said.status, said.found), (1, ['changed GETATTR']))
 
 
 def ids_that_follow_their_objects(place: Comparisons) -> None:
@@ -337,7 +369,3 @@ def parts_by_the_same_rules(place: Comparisons) -> None:
         status, lines, error = place.compare('--order', 'any', '--marks', 'test_*', 'a', 'b')
         place.want(what, (status, error), (wanted, ''))
         place.want(f'{what}: explained', '1 answer explained by order' in lines[1], True)
-
-
-class RulesTest(FolderTest, make=Comparisons):
-    """Each test has a folder of its own."""

@@ -5,7 +5,6 @@ from typing import Any
 
 from examples.packets import pcap
 
-from .cases import FolderTest
 from .comparisons import Comparisons
 from .schemas import FOLDER, NOTES, KEYWORDS, Schema
 from .scripts import EXAMPLES, FIRST, SECOND, Tools, whole, write_faulty
@@ -128,7 +127,3 @@ def accepted_files_fit(tools: Tools) -> None:
     place.compare('--accept-new', 'new', 'a', 'b')
     tools.want('entries', len(fits(tools, 'accepted.json', place.read('new').decode())['accepted']),
                3)
-
-
-class TestSchemas(FolderTest, make=Tools):
-    """The schemas of JSON."""

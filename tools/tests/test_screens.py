@@ -24,7 +24,6 @@ from ..nfs3tools.recordings.frames import Recording, Source, opened
 from ..nfs3tools.recordings.taken import share_of, size_of
 from ..nfs3tools.shared.progress import Progress
 from ..nfs3tools.shared.screens import Colour, Screen, Styled, panels, table_lines
-from .cases import FolderTest
 from .comparisons import Comparisons
 from .scripts import TOP, Tools, connection_of, sums, whole
 from .test_accepted import run
@@ -343,7 +342,3 @@ def comparisons_say_how_far_they_are(tools: Tools) -> None:
     text = written_to(tools, 80, 'stderr', 'compare', '--order', 'any', 'a', 'b')[1]
     tools.want('an error', text.split('\r\x1b[K')[-1],
                'compare: nothing to compare: no call of b is taken\r\n')
-
-
-class TestScreens(FolderTest, make=Tools):
-    """What is printed on a terminal."""

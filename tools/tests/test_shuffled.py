@@ -16,9 +16,9 @@ from examples.packets import ACK, CLIENT, FIN, RST, SERVER, SYN, datagram, ether
 from ..nfs3tools.judgement.verdict import Verdict, is_row, status_of
 from ..nfs3tools.recordings.coverage import Allowed
 from ..nfs3tools.shared.places import SIDES
-from .cases import SeedsTest
+from .cases import try_seeds
 from .recordings import fragments
-from .scripts import both_ways, stream, taken_of
+from .scripts import Tools, both_ways, stream, taken_of
 
 FAR = 1 << 30
 CALL, REPLY = 44, 28  # bytes of a record of each
@@ -460,13 +460,11 @@ def wrong_of_change(program: str, seed: int) -> list[str]:
         f'of {sum(left.values())} and {sum(every.values())}']
 
 
-class ShuffledTest(SeedsTest):
-    """Random recordings, plain and with --follow."""
+def seeds(tools: Tools) -> None:
+    """Both ways say what the model says."""
+    try_seeds(tools, 1_500, wrong_of_seed)
 
-    def test_seeds(self) -> None:
-        """Both ways say what the model says."""
-        self.check(1_500, wrong_of_seed)
 
-    def test_changed_frames(self) -> None:
-        """Nothing is called valid but what is whole."""
-        self.check(1_000, wrong_of_change)
+def changed_frames(tools: Tools) -> None:
+    """Nothing is called valid but what is whole."""
+    try_seeds(tools, 1_000, wrong_of_change)

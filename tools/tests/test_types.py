@@ -4,7 +4,6 @@ import unittest
 
 from tests.shared.running import ended
 
-from .cases import FolderTest
 from .scripts import TOP, Tools
 
 
@@ -14,7 +13,3 @@ def types_are_right(tools: Tools) -> None:
     status, out, error = ended(['mypy', '--cache-dir', tools.path('cache')], TOP / 'tools',
                                limit=None).text()
     tools.want('mypy', (status, out if status else '', error), (0, '', ''))
-
-
-class TypesTest(FolderTest, make=Tools):
-    """Each test has a folder of its own."""

@@ -10,7 +10,6 @@ from examples.messages import (
 from examples.packets import Talk, pcap
 
 from ..nfs3tools.pages.time_line import PIXEL_COLUMNS, Dot, TimeLine, of_time_line
-from .cases import FolderTest
 from .pages import (
     HERE, HOSTILE, SHOWN, VISIBLE, WIDTHS, Node, Pages, asked_of_others, broken_links, find,
     in_chromium, light_of, table_of, tree_of)
@@ -372,7 +371,3 @@ def keys_and_buttons(tools: Written) -> None:
         browser.click('#f2 .copy')
         tools.want('copied', browser.value(SHOWN % '#f2 .copied' + '.length'), 1)
         tools.want('errors', browser.errors, [])
-
-
-class VerdictPagesTest(FolderTest, make=Written):
-    """Each test has a folder of its own."""

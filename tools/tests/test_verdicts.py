@@ -10,20 +10,16 @@ import signal
 import time
 import unittest
 
-from examples.messages import NFS, call, fh, hyper, opaque, success, word
+from examples.messages import NFS, call, success
 from examples.packets import ACK, Talk, ethernet, pcap
 from tests.shared.running import begin, ended, pipe_of
 
 from ..nfs3tools.shared.places import SIDES, Place
-from .cases import FolderTest
 from .recordings import NANOSECONDS, fragments, interface, section, simple
 from .scripts import (
-    ALL, CALLS, FAULTS, FIRST, REPLIES, TOP, Tools, connection_of, exchange, in_fragments,
-    of_tshark, stream, sums, taken_of, whole)
+    ALL, CALL, CALLS, FAULTS, FIRST, REPLIES, TOP, VERDICTS, Tools, connection_of, exchange,
+    in_fragments, of_tshark, stream, sums, taken_of, whole)
 
-VERDICTS = str(TOP / 'tools/verdicts')
-CALL, REPLY = len(stream(CALLS[:1])), len(stream(REPLIES[:1]))
-FIFTH_OF_REPLIES = -(-len(ALL[1]) // 5)
 # words, and the status of what is in part
 ALLOWING: list[tuple[list[str], int]] = [([], 1), (['--allow-losses'], 0)]
 HEAD = 'connection 1 %s: client 192.0.2.7:700, server 192.0.2.1:2049, tcp.stream == 0'
@@ -354,43 +350,6 @@ def rows_of_files_that_are_not_whole(tools: Tools) -> None:
         tools.want(name + ', the other', found[-1][-1], 'ok')
 
 
-def ok_in_part(tools: Tools) -> None:
-    """Missing bytes are counted apart, and are 0 with --allow-losses."""
-    good, one, last = whole(port=701), whole(), Talk(first=((1 << 32) - 9, 5))
-    large = stream([call(1, NFS, 3, 0)]) + stream(
-        [call(2, NFS, 3, 7, fh(b'abcd') + hyper(0) + word(27_000) + word(0)
-              + opaque(bytes(27_000)))])
-    long = [*last.opened(), last.sent(0, large), last.sent(1, stream(REPLIES[:1])), *last.closed()]
-    lost_first, lost_last = one[:3] + one[4:], one[:12] + one[-1:]
-    replies = 4 * FIFTH_OF_REPLIES // REPLY
-    cases: list[tuple[str, bytes, str, tuple[int, int]]] = [
-        # The bytes 344 to 687 have a part of each call from the 8th to the 16th, and the first 344
-        # one of each of the first 8.
-        ('a frame', pcap(one[:4] + one[5:]), 'ok in part: 30 calls, 344 bytes missing', (30, 30)),
-        ('the first frame', pcap(lost_first), 'ok in part: 31 calls, 344 bytes missing', (31, 31)),
-        ('the last reply, as FIN shows', pcap(lost_last),
-         f'ok in part: 39 calls, {len(ALL[1]) - 4 * FIFTH_OF_REPLIES} bytes missing',
-         (39, replies)),
-        # A frame of 1,000 bytes has 946 of its segment, and the call after the first 44 has 72
-        # bytes before its data.
-        ('a frame that is cut', pcap(long, 1_000),
-         f'ok in part: 1 call, {44 + 72 + 27_000 - 946:,} bytes missing', (1, 1))]
-    for what, recording, verdict, numbers in cases:
-        tools.write('a.pcap', pcap(good) + recording[24:])
-        for words, status in ALLOWING:
-            found, rows, last_line, _ = verdicts(tools, *words, 'a.pcap')
-            tools.want(what, (found, [row[1] for row in rows], [row[-1] for row in rows],
-                              last_line),
-                       (status, ['1', '2'], ['ok', verdict],
-                        sums(1, 1, silent=numbers[0] - numbers[1])))
-            tools.want(what + ', its numbers', rows[1][-3:-1], [str(number) for number in numbers])
-    wrong = (TOP / 'examples/bad_bool.pcap').read_bytes()
-    tools.write('a.pcap', pcap(one[:4] + one[5:]))
-    tools.write('b.pcap', wrong)
-    tools.want('a fault beside it', verdicts(tools, '--allow-losses', 'a.pcap', 'b.pcap')[::2],
-               (1, sums(0, 1, 1)))
-
-
 def notes_on_a_recording(tools: Tools) -> None:
     """A note on a whole recording is none of its first connection."""
     frames, other = whole(port=701) + whole(), whole(service=900)[0]
@@ -512,7 +471,3 @@ def talk_in_turns(talk: Talk) -> list[bytes]:
     for at in range(0, len(CALLS), 3):
         frames += [talk.sent(0, stream(CALLS[at:at + 3])), talk.sent(1, stream(REPLIES[at:at + 3]))]
     return [*frames, *talk.closed()]
-
-
-class VerdictsTest(FolderTest, make=Tools):
-    """Each test has a folder of its own."""
