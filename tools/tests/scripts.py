@@ -182,7 +182,7 @@ class Tools(Runs):
 
     def taken(self, what: str, recording: bytes, wanted: list[Streams],
               **options: typing.Any) -> list[str]:
-        """The recording gives just these connections. Returns what is told of it."""
+        """The recording gives just these connections. Returns what is reported of it."""
         try:
             taken = taken_of(recording, **options)
         except NotTaken as refused:
@@ -193,7 +193,7 @@ class Tools(Runs):
 
     def told(self, what: str, recording: bytes, wanted: list[Streams], lines: list[str],
              **options: typing.Any) -> None:
-        """The recording gives just these connections, and this is told besides a line for each."""
+        """The recording gives just these connections, and this is reported, with a line for each."""
         told = self.taken(what, recording, wanted, **options)
         self.want('told: ' + what, [line for line in told if ': client ' not in line], lines)
 

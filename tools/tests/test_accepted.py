@@ -66,7 +66,7 @@ def a_field_is_accepted_by_procedure_path_and_values(place: Comparisons) -> None
 
 
 def what_is_left_decides(place: Comparisons) -> None:
-    """A second field that differs is told alone, with its own position."""
+    """A second field that differs is printed alone, with its own position."""
     place.put_both(run(1, 1, 1), run(1, 2, 3))
     accepts(place, NLINK)
     status, out, _ = place.compare('--accept', 'known', 'a', 'b')

@@ -34,7 +34,7 @@ Answer = tuple[int, list[list[str]], str]
 
 
 def calls(tools: Tools, *words: str, stdin: bytes | None = None) -> Answer:
-    """The status of a run, the cells of its lines, and what is told on standard error."""
+    """The status of a run, the cells of its lines, and what is on standard error."""
     status, out, error = tools.tool('calls', *words, stdin=stdin)
     return status, [re.split('  +', line.strip()) for line in out.splitlines()], error
 
@@ -62,7 +62,7 @@ def talked(talk: Talk, order: list[tuple[int, bytes]]) -> list[bytes]:
 
 
 class Told(NamedTuple):
-    """A call and its reply, and what should be told of them."""
+    """A call and its reply, and what should be printed of them."""
     procedure: int
     arguments: bytes
     results: bytes
@@ -349,7 +349,7 @@ ALLOWED = ['--allow-losses', '--allow-not-checked']
 
 
 def as_verdicts_judges(tools: Tools) -> None:
-    """The status, the counts, and what is told are those of tools/verdicts, in each form."""
+    """The status, the counts, and what is reported are those of tools/verdicts, in each form."""
     faulty, talk = write_faulty(tools), Talk()
     version_4 = [(0, call(1, NFS, 4, 1, bytes(8))), (1, success(1, bytes(8)))]
     tools.write('four.pcap', pcap([*talk.opened(), *talked(talk, version_4)]))
@@ -399,7 +399,7 @@ def forms_for_programs(tools: Tools) -> None:
 
 
 def long_names(tools: Tools) -> None:
-    """Of a long name the first 1,000 characters are told, and no byte that is spelled is cut."""
+    """Of a long name the first 1,000 characters are printed, and no byte that is spelled is cut."""
     names = {b'a' + b'\xff' * 400: 'a' + '\\xff' * 249 + '..', b'b' * 1_000: 'b' * 1_000,
              b'c' * 1_001: 'c' * 1_000 + '..'}
     sent = [asked(xid, LOOKUP, dirop(b'other', name)) for xid, name in enumerate(names)]

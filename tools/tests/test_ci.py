@@ -40,7 +40,7 @@ def of_gitlab(text: str) -> str:
 
 
 def write_scripts(tools: Tools, scripts: dict[str, str]) -> None:
-    """Writes what stands for programs that are not run here, and the user's tests."""
+    """Writes what replaces programs that are not run here, and the user's tests."""
     os.mkdir(tools.path('bin'))
     for name, script in {**{f'bin/{name}': script for name, script in scripts.items()},
                          'run-nfs-tests.sh': '[ -s run.pcap ]'}.items():

@@ -80,7 +80,7 @@ def retransmissions_are_linear(place: Comparisons) -> None:
 
 
 def words_of_masks(place: Comparisons) -> None:
-    """The first line tells what is masked; words that are none are refused."""
+    """The first line says what is masked; words that are none are refused."""
     def masked(*words: str) -> set[str]:
         return {*place.compare(*words, 'a', 'b')[1][0].removeprefix('masked: ').split(',')}
     place.put_both(*[([call(1, NFS, 3, 0)], [success(1)])] * 2)
@@ -209,7 +209,7 @@ def statuses_that_differ(place: Comparisons) -> None:
 
 
 def bound_values(place: Comparisons) -> None:
-    """Two files where the other run has one are told, whatever their handles."""
+    """Two files where the other run has one are found, whatever their handles."""
     first, second = Made(7), Made(8)
     place.put('a', first.conversation())
     second.handles[2] = second.handles[1]
@@ -344,7 +344,7 @@ def many_calls(first_handle: int, *changed: int) -> Conversation:
 
 
 def one_bit_of_many_calls(place: Comparisons) -> None:
-    """A changed bit costs little time and memory, and is told with its path."""
+    """A changed bit costs little time and memory, and is printed with its path."""
     place.put_both(many_calls(1), many_calls(7_000, 20_001))
     status, lines, seconds, memory = measured(place, 'compare', '--program', place.program, 'a',
                                               'b')

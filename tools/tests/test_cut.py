@@ -14,7 +14,7 @@ ONE = 'ok connections=1 calls=1 replies=1 handles=0'
 
 
 def cut(tools: Tools, *words: str) -> tuple[int, list[str], str]:
-    """The status of a run, its lines, and what is told on standard error."""
+    """The status of a run, its lines, and what is on standard error."""
     status, out, error = tools.tool('cut', *words)
     return status, out.splitlines(), error
 
@@ -49,7 +49,7 @@ def exchanges(tools: Tools) -> None:
 
 
 def on_standard_output(tools: Tools) -> None:
-    """`-` has the capture alone; a folder that is not there is told first."""
+    """`-` has the capture alone; a folder that is not there is reported first."""
     tools.write('1', capture((CALLS, REPLIES)))
     place = 'connection 1 client record 3'
     done = ended([str(TOP / 'tools/cut'), '--program', tools.program, '1', place, '-'],

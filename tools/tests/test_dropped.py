@@ -46,7 +46,8 @@ def with_times(frames: list[bytes], seconds: dict[int, int]) -> bytes:
 
 
 def judged(tools: Tools, recording: bytes) -> list[tuple[int, list[str], str]]:
-    """The status, the verdicts of all rows, and what is told besides, plain and with --follow."""
+    """The status, the verdicts of all rows, and what else is reported, plain and with
+    --follow."""
     found = []
     for verdicts in both_ways(tools.program, recording):
         notes = [note for verdict in verdicts
@@ -94,7 +95,7 @@ def much_is_missing_at_the_end(tools: Tools) -> None:
 
 
 def one_frame_that_is_far(tools: Tools) -> None:
-    """An acknowledgement that no other frame agrees with is told."""
+    """An acknowledgement that no other frame agrees with is reported."""
     for far in (1 << 30, 3_000_000_000):
         talk = Talk()
         frames = [*talk.opened(), *exchanged(talk, range(10))]
@@ -138,7 +139,7 @@ def stray_resets(tools: Tools) -> None:
 
 
 def what_comes_after_a_line(tools: Tools) -> None:
-    """--follow tells bytes that come after a line, which the plain tool judges."""
+    """--follow reports bytes that come after a line, which the plain tool judges."""
     talk = Talk()
     frames = [*talk.opened(), *exchanged(talk, range(10)), talk.frame(1, RST),
               *exchanged(talk, range(10, 20), 15), *talk.closed()]
@@ -159,7 +160,7 @@ def what_comes_after_a_line(tools: Tools) -> None:
 
 
 def many_idle_connections(tools: Tools) -> None:
-    """A connection that was judged early is told if it has bytes later."""
+    """A connection that was judged early is reported if it has bytes later."""
     talks = [Talk(1_000 + number) for number in range(32)]
     frames = [frame for talk in talks for frame in talk.opened()]
     frames += [frame for talk in talks for frame in exchanged(talk, range(2))]
@@ -213,7 +214,7 @@ def stray_beginnings(tools: Tools) -> None:
 
 
 def ports_that_are_used_again(tools: Tools) -> None:
-    """Connections of one port are told apart, also by late segments."""
+    """Connections of one port are distinguished, also by late segments."""
     first, second = Talk(), Talk(first=(900_000, 800_000))
     older = [*first.opened(), *exchanged(first, range(10)), *first.closed()]
     newer = [*second.opened(), *exchanged(second, range(10)), *second.closed()]
@@ -317,7 +318,7 @@ def stale_fragments(tools: Tools) -> None:
 
 
 def a_file_that_becomes_shorter(tools: Tools) -> None:
-    """With --follow that is told, and the status is 1."""
+    """With --follow that is reported, and the status is 1."""
     tools.write('a.pcap', pcap(whole()))
     process = begin([VERDICTS, '--follow', '--program', tools.program, 'a.pcap'], tools.folder)
     out = pipe_of(process.stdout)

@@ -139,7 +139,7 @@ def long_names(place: Findings) -> None:
 
 
 def long_handles(place: Findings) -> None:
-    """A handle that stands for two is whole; raw bytes have the other run's handles."""
+    """A handle that corresponds to two is whole; raw bytes have the other run's handles."""
     one, two, other = bytes(range(64)), bytes(range(1, 65)), bytes(range(2, 66))
     def asked(first: bytes, second: bytes, acl: bytes, rest: bytes) -> Conversation:
         return [call(1, NFS, 3, 1, fh(first)), call(2, NFS, 3, 1, fh(second)),

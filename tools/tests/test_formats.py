@@ -101,7 +101,7 @@ def taken_as_whole(recording: bytes) -> bytes | None:
 
 
 def what_is_not_decompressed(tools: Tools) -> None:
-    """A large window is refused, and a zstd that dies is told."""
+    """A large window is refused, and a zstd that dies is reported."""
     large = lzma.compress(pcap(whole()), filters=[{'id': lzma.FILTER_LZMA2, 'dict_size': 1 << 30}])
     tools.refused('a window of 1 GB', large,
                   'the compressed file is damaged: Memory usage limit exceeded')
@@ -204,7 +204,7 @@ def recordings_that_end_early(tools: Tools) -> None:
 
 
 def blocks_that_are_damaged(tools: Tools) -> None:
-    """What is before a damaged block of pcapng is taken, and the damage is told."""
+    """What is before a damaged block of pcapng is taken, and the damage is reported."""
     frames = whole()
     blocks = pcapng(frames)
     for what, damage, words in (

@@ -25,7 +25,7 @@ OF_FRAME_5 = range(8, 17)
 
 
 def tool(tools: Tools, name: str, *words: str) -> tuple[int, list[str], str]:
-    """The status of a run, its lines, and what is told on standard error."""
+    """The status of a run, its lines, and what is on standard error."""
     program = ['--program', tools.program] if name == 'cut' else []
     status, out, error = tools.tool(name, *program, *words)
     return status, out.splitlines(), error
@@ -91,7 +91,7 @@ def frames_without_a_record(tools: Tools) -> None:
 
 
 def words_of_a_position(tools: Tools) -> None:
-    """An unfinished or a superfluous word is refused, and an example is told."""
+    """An unfinished or a superfluous word is refused, and an example is given."""
     tools.write('a.pcap', pcap(whole()))
     good = (
         'connection 1 client record 2', ' 1 client 2 ', '1 client 2 xid=2 NFSPROC3_NULL mtype=0',

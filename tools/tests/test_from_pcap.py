@@ -60,7 +60,7 @@ def datagrams_in_fragments(tools: Tools) -> None:
 
 
 def repeated_last_fragments(tools: Tools) -> None:
-    """Repetitions cost what their bytes cost; too many are given up and told."""
+    """Repetitions cost what their bytes cost; too many are given up and reported."""
     last = ethernet(fragments(datagram(CLIENT, SERVER, bytes(65_508)), 65_504)[-1])
     begin = os.times()
     told = 'in part: 3 datagrams of TCP are not taken, since not all fragments of them came in time'
@@ -95,7 +95,7 @@ def segments_in_any_order(tools: Tools) -> None:
 
 
 def bytes_that_came_first(tools: Tools) -> None:
-    """Of bytes that came twice the first are taken, and a difference is told."""
+    """Of bytes that came twice the first are taken, and a difference is reported."""
     content, other = ALL[0], bytes(255 - byte for byte in ALL[0])
     told = ('connection 1 1 frame repeats bytes with other content, first frame %d; the bytes that '
             'came first are taken')
@@ -246,7 +246,7 @@ def bytes_are_missing(tools: Tools) -> None:
 
 
 def several_gaps(tools: Tools) -> None:
-    """Two gaps are told together; a wrong mark beside one stays, and half a closing is none."""
+    """Two gaps are reported together; a wrong mark beside one stays, and half a closing is none."""
     frames, calls, replies = whole(), *ALL
     present = [at for at in range(39) if at < BEFORE_A_GAP or 2 * FIFTH <= at * CALL and at * CALL
                + CALL <= 3 * FIFTH or at * CALL >= 4 * FIFTH]
@@ -550,7 +550,7 @@ def memory(tools: Tools) -> None:
 
 
 def streamed(tools: Tools, count: int, lost: int) -> tuple[int, list[str]]:
-    """Feeds frames of 64 KB of records, and gives the memory and what is told."""
+    """Feeds frames of 64 KB of records, and gives the memory and what is reported."""
     body = call(1, NFS, 3, 7, messages.fh(b'a') + messages.hyper(0) + messages.word(65_336)
                 + messages.word(0) + messages.opaque(bytes(65_336)))
     record, talk = stream([body]), Talk()

@@ -112,7 +112,7 @@ def outputs_that_are_recordings(tools: Tools) -> None:
 
 
 def full_disks(tools: Tools) -> None:
-    """What does not fit on the disk leaves the old file, and a full device is told."""
+    """What does not fit on the disk leaves the old file, and a full device is reported."""
     for name, mode in (('a', 0), ('b', 1)):
         asked = [call(xid, NFS, 3, 1, fh(b'f')) for xid in range(60)]
         tools.write(name,

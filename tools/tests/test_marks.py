@@ -161,7 +161,7 @@ def few_runs_for_parts_that_differ(place: Comparisons) -> None:
 
 
 def parts_listed_at_once(place: Comparisons) -> None:
-    """What is told of parts is the same if each is listed by itself."""
+    """What is printed of parts is the same if each is listed by itself."""
     def run(seed: int, draws: int, share: float) -> Run:
         run, common, own = Run(seed), random.Random(draws), random.Random(f'{draws} {seed}')
         for part in range(8):
@@ -501,7 +501,7 @@ def files_for_others(place: Comparisons) -> None:
 
 
 def bytes_that_are_missing(place: Comparisons) -> None:
-    """They are told once, and are a status unless they are allowed."""
+    """They are reported once, and are a status unless they are allowed."""
     run = Run(1).mark('test 1').get('x').mark('test 2').get('x')
     talk = Talk(700)
     frames = [*talk.opened(), *(talk.sent(side, fragment(body)) for _, side, body in run.sent)]

@@ -23,7 +23,7 @@ def asked_again(number: int) -> Conversation:
 
 
 def calls_that_only_ask(place: Comparisons) -> None:
-    """GETATTR of one run alone is left out in any order, and told, but not with --extra none."""
+    """GETATTR of one run alone is left out in any order, and listed, but not with --extra none."""
     place.put_both(asked_again(4), asked_again(1))
     asked, where = '3 NFSPROC3_GETATTR ?/f', ', first: connection 1 client record '
     out = place.says('left out', 0, 'same but for calls left out', '--order', 'any')
@@ -182,7 +182,7 @@ def raw_bodies_in_any_order(place: Comparisons) -> None:
 
 
 def values_that_stand_for_others(place: Comparisons) -> None:
-    """Equal values that stand for others elsewhere are told so."""
+    """Equal values that correspond to others elsewhere are marked so."""
     def run(*verifiers: bytes) -> Conversation:
         return conversation_of((CREATE, dirop(b'top', b'f%d' % at) + messages.how(2, verifier),
                          ok(messages.made(None, None, wcc())))

@@ -235,7 +235,7 @@ def sorted_rows(tools: Tools) -> None:
 
 
 def clock_that_goes_back(tools: Tools) -> None:
-    """A reply with an earlier time has a negative latency, which is told."""
+    """A reply with an earlier time has a negative latency, which is reported."""
     talk = Talk()
     messages = [(0, call(1, NFS, 3, 0)), (1, success(1)), (0, call(2, NFS, 3, 0)), (1, success(2))]
     frames = talk.opened() + [talk.sent(side, fragment(body)) for side, body in messages]

@@ -126,7 +126,7 @@ def a_lookup_of_something_else(place: Comparisons) -> None:
 
 
 def what_an_order_explains(place: Comparisons) -> None:
-    """A name that another client makes before or after it is looked up. The change is told."""
+    """A name that another client makes before or after it is looked up. The change is named."""
     new = created(b'new', b'handle new', 9, client=1)
     found = looked(b'new', b'handle new', 9)
     said = any_order(place, [*BOTH, not_found(b'new'), new, ROOT], [*BOTH, new, found, ROOT])
@@ -225,7 +225,7 @@ def calls_that_are_many(place: Comparisons) -> None:
 
 
 def calls_alone_that_tell_something_else(place: Comparisons) -> None:
-    """Another size, mode, owner or id than its run tells elsewhere of the object."""
+    """Another size, mode, owner or id than its run has elsewhere for the object."""
     others: list[dict[str, Any]] = [{'size': 5}, {'mode': 0o600}, {'uid': 0}, {'fsid': 9}]
     for other in others:
         said = any_order(place, BOTH, [*BOTH, got(b'handle f', 7, **other)])

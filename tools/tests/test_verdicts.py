@@ -163,7 +163,7 @@ def write_parts(tools: Tools, frames: list[bytes]) -> None:
 
 
 def parts_of_a_recording(tools: Tools) -> None:
-    """A pattern stands for the parts of one recording, by their times."""
+    """A pattern means the parts of one recording, by their times."""
     write_parts(tools, whole() + whole(port=701))
     status, rows, last, error = verdicts(tools, 'run.pcap*')
     tools.want('verdicts', (status, [row[-3:] for row in rows], last, error),
@@ -252,7 +252,7 @@ def rows_of(tools: Tools, name: str) -> list[dict[str, object]]:
 
 def verdicts(tools: Tools, *words: str,
              stdin: bytes | None = None) -> tuple[int, list[list[str]], str, str]:
-    """The status, the cells of the rows, the last line, and what is told on standard error."""
+    """The status, the cells of the rows, the last line, and what is on standard error."""
     status, out, error = tools.tool('verdicts', *words, stdin=stdin)
     lines = out.splitlines() or ['', '']
     return status, [re.split('  +', line) for line in lines[1:-1]], lines[-1], error
@@ -449,7 +449,7 @@ def take_interrupts() -> None:
 
 
 def parts_without_quotes(tools: Tools) -> None:
-    """Parts that are named one by one are told to be parts."""
+    """Parts that are named one by one are reported as parts."""
     frames = talk_in_turns(Talk())
     tools.write('run1.pcap', pcap(frames[:13]))
     tools.write('run2.pcap', pcap(frames[13:]))
