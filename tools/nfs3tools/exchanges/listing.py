@@ -1,11 +1,9 @@
-"""The listing of a capture, as `nfs3canon show` prints it: messages, and the exchanges that they
-make up."""
+"""The listing of a capture, as `nfs3canon show` prints it: lines and messages."""
 from __future__ import annotations
 
 import contextlib
 import re
 import tempfile
-from collections import defaultdict
 from collections.abc import Iterable, Iterator
 from dataclasses import dataclass, field
 from functools import cached_property
@@ -15,7 +13,6 @@ from ..recordings.coverage import call_named
 from ..recordings.taken import Completion, TakenConnection
 from ..shared.layouts import RAW
 from ..shared.programs import lines_of_program
-from .answering import Answering
 from .stored import LongValues, Value
 
 ITEM = re.compile(r' ([^=]+)=("[^"]*"|[^ ]*)')
@@ -121,19 +118,9 @@ class Message:
 
 @dataclass
 class Exchange:
-    """A call, its replies, and its retransmissions."""
+    """A call and its replies."""
     call: Message
     replies: list[Message] = field(default_factory=list)
-    again: list[Message] = field(default_factory=list)
-
-    @property
-    def procedure(self) -> str:
-        return self.call.procedure
-
-    @property
-    def calls(self) -> list[Message]:
-        """Its call each time that it was sent."""
-        return [self.call, *self.again]
 
 
 def message_of(line: str, values: LongValues | None = None) -> Message:
@@ -146,26 +133,6 @@ def message_of(line: str, values: LongValues | None = None) -> Message:
 def messages_of(lines: Iterable[str], values: LongValues | None = None) -> Iterator[Message]:
     """Returns the messages of a listing, line by line."""
     return (message_of(line, values) for line in lines)
-
-
-def exchanges_of(messages: Iterable[Message]) -> dict[int, list[Exchange]]:
-    """Returns the exchanges of each connection, in the order of their calls."""
-    exchanges = defaultdict[int, list[Exchange]](list)
-    owners = defaultdict[int, list[Exchange]](list)  # the exchange of each call
-    answering = defaultdict[int, Answering](Answering)
-    for message in messages:
-        own, rule = owners[message.connection], answering[message.connection]
-        if not message.is_call:
-            own[rule.reply(message.xid)].replies.append(message)
-            continue
-        earlier = rule.call(message.xid, message.text)
-        if earlier is None:
-            exchanges[message.connection].append(Exchange(message))
-            own.append(exchanges[message.connection][-1])
-        else:
-            own[earlier].again.append(message)
-            own.append(own[earlier])
-    return dict(exchanges)
 
 
 def name_of_call(name: str, said: str) -> str:

@@ -129,7 +129,7 @@ class Paths:
         folder = call.value_of('fh') or ''
         name = (call.value_of('name') or call.value_of('dirpath') or '').strip('"')
         for reply in exchange.replies:
-            self.take_reply(exchange.procedure, folder, name, reply.items)
+            self.take_reply(call.procedure, folder, name, reply.items)
 
     def take_reply(self, procedure: str, folder: str, name: str, items: Sequence[Item],
                    frame: int = 0) -> None:

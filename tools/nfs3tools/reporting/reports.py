@@ -48,7 +48,7 @@ def json_of_comparison(report: Report, compared: Compared, left_out: Counter[tup
         'left_out': [{'procedure': one.message.procedure, 'path': one.path,
                       'first': of_message(one.first, framings[0]),
                       'second': of_message(one.second, framings[1]),
-                      'kind': one.kind, 'why': one.why or None} for one in compared.silent],
+                      'kind': one.kind, 'why': one.remark or None} for one in compared.silent],
         'accepted': report.accepted and accepted_object(report.accepted, framings)}
     yield json.dumps(head, indent=1).removesuffix('\n}').encode() + b',\n "findings": ['
     for number, finding in enumerate(compared.findings):

@@ -16,7 +16,7 @@ from itertools import groupby
 from operator import attrgetter
 
 from ...exchanges.answering import Answering
-from ...exchanges.listing import Line, Message, line_of
+from ...exchanges.listing import Line, LinePlace, Message, line_of, place_of
 from ...exchanges.objects import LISTING, MAKING
 from ...exchanges.searches import (
     alike_in, first_handle_in, first_name_in, handles_in, names_and_handles_in, pattern_of_items)
@@ -306,11 +306,21 @@ class Outlines:
                 if (line.record == self.records[at] if line.is_call
                     else line.record not in self.repeated.get(at, ())))
 
-    def exchanges_of_messages(self, messages: Iterable[Message]) -> set[int]:
-        """Returns the exchanges of some messages."""
+    def exchanges_of_messages(self, messages: Iterable[Message]) -> list[int]:
+        """Returns the exchange of each of some messages."""
         calls, replies = cache(self.exchanges_of_calls), cache(self.exchanges_of_replies)
-        return {(calls if message.is_call else replies)(
-            self.place_of(message.connection))[message.record] for message in messages}
+        return [(calls if message.is_call else replies)(
+            self.place_of(message.connection))[message.record] for message in messages]
+
+    def lines_of(self, some: Iterable[int], lines: Iterable[str]) -> Iterator[tuple[int, str]]:
+        """Iterates over the lines of some exchanges, but for retransmissions and replies that say
+        the same again, each with its exchange."""
+        places = dict[LinePlace, int]()
+        for at in some:
+            connection, record = self.record_of(at)
+            places[LinePlace(connection, True, record)] = at
+            places.update((LinePlace(connection, False, reply), at) for reply in self.replies_of(at))
+        return ((places[place], line) for line in lines if (place := place_of(line)) in places)
 
     def objects_of(self, at: int) -> list[int]:
         """Returns the handles of a call."""
@@ -319,18 +329,17 @@ class Outlines:
     def calls_alike(self, lines: Iterable[str], wanted: set[int]) -> dict[int, tuple[object, ...]]:
         """Returns of some exchanges what alike calls have in common: procedure, objects, names and
         offset. The lines are those of the listing."""
-        return {at: (self.procedure_of(at), alike_in(line.text),
+        return {at: (self.procedure_of(at), alike_in(line),
                      *map(self.identities.__getitem__, self.objects_of(at)))
-                for at, line in self.located(map(line_of, lines)) if line.is_call and at in wanted}
+                for at, line in self.lines_of(wanted, lines) if place_of(line).is_call}
 
     def said_again(self, lines: Iterable[str], wanted: set[int],
                    mask: Mask) -> dict[int, tuple[int, ...]]:
         """Returns what is said in some exchanges, by the listing under another mask."""
         out, pattern = {at: [self.asked[at], self.identities[self.found[at]]]
                         for at in wanted}, renamed_values(mask)
-        for at, line in self.located(map(line_of, lines)):
-            if at in wanted:
-                out[at].append(hash(pattern.sub('', line.text)))
+        for at, line in self.lines_of(wanted, lines):
+            out[at].append(hash(pattern.sub('', line_of(line).text)))
         return {at: tuple(said) for at, said in out.items()}
 
     def with_origins(self, exchanges: Iterable[int]) -> set[int]:

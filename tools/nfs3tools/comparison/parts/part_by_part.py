@@ -12,7 +12,6 @@ from collections import Counter
 from collections.abc import Iterator, Sequence
 from contextlib import contextmanager
 from dataclasses import replace
-from functools import cache
 from pathlib import Path
 
 from ...exchanges.listing import Message
@@ -20,7 +19,7 @@ from ...recordings.taken import Taken
 from ...shared.printed import escaped
 from ..exchanges.outlines import Outlines
 from ..verdict.decision import Judged, judged_runs, run_of, same_of
-from ..verdict.findings import Compared, Finding, ParsedExchanges, Run, Silent
+from ..verdict.findings import Compared, Finding, ParsedExchanges, Run
 from ..verdict.ignored import Ignored, without_ignored
 from ..verdict.orders import Choices, NothingToCompare
 from ..verdict.report import PartReport
@@ -31,24 +30,6 @@ from .marks import Both, MarkedRun, NoMark, PartName, RunPart, is_cut_by_records
 # How many parts are judged at once, and by what that is divided if they are not the same
 PARTS_AT_ONCE, FEWER = 64, 8
 CONNECTIONS_AT_MOST = 4_000  # of a run in parts that are judged at once
-
-
-class PathsInRun:
-    """The paths of what is found in the parts of a run, by the whole run."""
-
-    def __init__(self, run: Run, marked: MarkedRun, messages: Sequence[Message]) -> None:
-        outlines = marked.outlines() if messages else Outlines((), {})
-        replies = cache(outlines.exchanges_of_replies)
-        self.exchanges = dict[str, int]()
-        for message in messages:
-            place = outlines.place_of(message.connection)
-            self.exchanges[message.place] = (outlines.starts[place] + message.record - 1
-                                             if message.is_call
-                                             else replies(place)[message.record])
-        self.apart = ParsedExchanges(run, outlines, set(self.exchanges.values()))
-
-    def path(self, message: Message) -> str | None:
-        return self.apart.path(self.exchanges[message.place])
 
 
 class PartByPart:
@@ -150,14 +131,13 @@ class PartByPart:
             said = judged_runs(trial, runs, sizes, self.choices)
         except NothingToCompare:  # (then what one run alone has is all that there is)
             said = judged_runs(trial, runs, sizes, replace(self.choices, leaves_out=frozenset()))
-        compared = said.found.compared
-        findings = [replace(finding, first=finding.first and one.in_the_whole(finding.first),
+        def placed(findings: Sequence[Finding]) -> list[Finding]:
+            return [replace(finding, first=finding.first and one.in_the_whole(finding.first),
                             second=finding.second and other.in_the_whole(finding.second))
-                            for finding in compared.findings]
-        silent = [replace(call, first=call.first and one.in_the_whole(call.first),
-                          second=call.second and other.in_the_whole(call.second))
-                  for call in compared.silent]
-        found = replace(said.found, compared=replace(compared, findings=findings, silent=silent))
+                    for finding in findings]
+        compared = said.found.compared
+        found = replace(said.found, compared=replace(
+            compared, findings=placed(compared.findings), silent=placed(compared.silent)))
         return said._replace(verdict=said.verdict.partition(' at ')[0], found=found)
 
     @contextmanager
@@ -173,29 +153,22 @@ class PartByPart:
     def with_paths(self, compared: Sequence[Compared]) -> list[Compared]:
         """Returns what was found in the parts, and what is left out, with the paths that are known
         from the whole runs."""
-        messages: tuple[list[Message], list[Message]] = ([], [])
-        found: list[Finding | Silent] = []
-        for one in compared:
-            found += one.findings
-            found += one.silent
-        for message, is_second in map(named_by, found):
-            messages[is_second].append(message)
-        places = [PathsInRun(run, marked, some)
-                  for run, marked, some in zip(self.runs, self.marked, messages)]
-
-        def path_of(finding: Finding | Silent) -> str | None:
-            message, is_second = named_by(finding)
-            return places[is_second].path(message)
+        found = [finding for one in compared for finding in (*one.findings, *one.silent)]
+        paths = [paths_in(run, marked, [finding.message for finding in found
+                                        if (finding.first is None) == is_second])
+                 for run, marked, is_second in zip(self.runs, self.marked, (False, True))]
 
         def with_path(finding: Finding) -> Finding:
-            return (finding if finding.kind in ('order', 'connection')
-                    else replace(finding, path=path_of(finding)))
+            return (finding if finding.kind in ('order', 'connection') else replace(
+                finding, path=paths[finding.first is None][finding.message.place]))
         return [replace(one, findings=list(map(with_path, one.findings)),
-                        silent=[replace(call, path=path_of(call)) for call in one.silent])
-                for one in compared]
+                        silent=list(map(with_path, one.silent))) for one in compared]
 
 
-def named_by(finding: Finding | Silent) -> tuple[Message, bool]:
-    """Returns the message by which a finding or a call that is left out is named, and whether it is
-    of the second run."""
-    return finding.message, finding.first is None
+def paths_in(run: Run, marked: MarkedRun, messages: Sequence[Message]) -> dict[str, str | None]:
+    """Returns the paths of what messages are about that were found in the parts of a run, by their
+    places and by the whole run."""
+    outlines = marked.outlines() if messages else Outlines((), {})
+    exchanges = outlines.exchanges_of_messages(messages)
+    apart = ParsedExchanges(run, outlines, exchanges)
+    return {message.place: apart.path(at) for message, at in zip(messages, exchanges)}

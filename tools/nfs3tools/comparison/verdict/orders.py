@@ -148,7 +148,7 @@ class Orders:
         """Finds what differs under a mask in any order, or that nothing does."""
         if self.explaining.tells_lonely() or not self.is_same(mask):
             return Outcome(self.explained(mask))
-        if not len(self.explaining.firsts):
+        if not len(self.explaining.runs[0].order):
             raise NothingToCompare('nothing to compare: no call of one run is in the other')
         return Outcome(self.explained(mask), mask)
 
@@ -199,4 +199,4 @@ def pairs_of(pairing: Pairing, findings: Sequence[Finding]) -> list[Pair]:
     """Returns the matched exchanges of which findings are."""
     some = pairing.here.exchanges_of_messages(
         finding.first for finding in findings if finding.first and finding.second)
-    return [(at, pairing.partners[at]) for at in sorted(some)]
+    return [(at, pairing.partners[at]) for at in sorted({*some})]
