@@ -41,8 +41,8 @@ class TwoRuns:
         self.taken, self.pairing = (taken[0], taken[1]), pairing
         here, there = pairing.here, pairing.there
         self.unequal = [(at, to) for at, to in pairing.pairs() if here.said[at] != there.said[to]]
-        self.extras = (extras_of(here, pairing.only_first(), leaves_out),
-                       extras_of(there, pairing.only_second(), leaves_out))
+        self.extras = (extras_of(here, pairing.alone(0), leaves_out),
+                       extras_of(there, pairing.alone(1), leaves_out))
         self.listed = listed
 
     @cached_property
@@ -96,8 +96,7 @@ class TwoRuns:
             found = ((pair, explainer.explained(pair)) for pair in self.doubtful)
             out.pairs = {pair: changes for pair, changes in found if changes is not None}
         if any(self.extras):
-            paired = [set(some) for some in (self.pairing.order_of_first(),
-                                             self.pairing.order_of_second())]
+            paired = [set(self.pairing.matched(run)) for run in (0, 1)]
             first, second = (Extras(run, facts, some, own, self.changes) for run, (
                 facts, some, own) in enumerate(zip(self.facts, self.extras, paired)))
             out.counted = refused((first, second))

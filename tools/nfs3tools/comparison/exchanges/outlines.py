@@ -243,14 +243,6 @@ class Outlines:
         return range(self.starts[place],
                      self.starts[place + 1] if place + 1 < len(self.starts) else len(self))
 
-    def first_asked(self, place: int, number: int) -> tuple[int, ...]:
-        """Returns what the first calls of a connection ask, so many of them."""
-        return tuple(self.asked[at] for at in self.exchanges_of(place)[:number])
-
-    def first_procedures(self, place: int, number: int) -> tuple[str, ...]:
-        """Returns their procedures."""
-        return tuple(map(self.procedure_of, self.exchanges_of(place)[:number]))
-
     def record_of(self, at: int) -> tuple[int, int]:
         """Returns the number of a call's connection, and the call's record."""
         return self.connections[self.connection_of(at)], self.records[at]

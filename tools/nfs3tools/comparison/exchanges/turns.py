@@ -88,10 +88,10 @@ class Turns:
 
 def turns_of(taken: tuple[Taken, Taken], pairing: Pairing) -> tuple[Turns, Turns]:
     """Returns when the calls of both runs were sent and answered."""
-    partners = {to: at for at, to in pairing.pairs()}
     return (Turns(taken[0], pairing.here,
                   lambda at: at if pairing.partners[at] != NOBODY else -2 - 2 * at),
-            Turns(taken[1], pairing.there, lambda to: partners.get(to, -3 - 2 * to)))
+            Turns(taken[1], pairing.there,
+                  lambda to: at if (at := pairing.owners[to]) != NOBODY else -3 - 2 * to))
 
 
 def is_quiet(turns: tuple[Turns, Turns], pair: Pair) -> bool:

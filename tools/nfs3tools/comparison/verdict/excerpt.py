@@ -6,7 +6,6 @@ from array import array
 from bisect import bisect_left
 from collections.abc import Callable, Iterable, Iterator, Sequence
 from dataclasses import dataclass, field
-from functools import cached_property
 from itertools import accumulate, groupby
 from typing import NamedTuple
 
@@ -71,23 +70,12 @@ class Shown:
         exchanges of the first run that are reported."""
         self.pairing, self.here, self.there = pairing, pairing.here, pairing.there
         self.told = set(told)
+        # By connections of the second run: after which exchange of the first run each of its
+        # exchanges comes
+        self.followed = dict[int, 'array[int]']()
         self.told_of_first = sorted({*(at for at, _ in self.told if at != NOBODY), *besides})
         chosen = sorted(self.told, key=self.key_of)[:around.most]
         self.pairs = {*chosen, *(pair for one in chosen for pair in self.near(one, around.pairs))}
-
-    @cached_property
-    def partners(self) -> 'array[int]':
-        """For each exchange of the second run that of the first, or NOBODY."""
-        out = array('i', [NOBODY]) * len(self.there)
-        for at, to in self.pairing.pairs():
-            out[to] = at
-        return out
-
-    @cached_property
-    def followed(self) -> dict[int, 'array[int]']:
-        """By connections of the second run: after which exchange of the first run each of its
-        exchanges comes."""
-        return {}
 
     def comes_after(self, to: int) -> int:
         """Returns which exchange of the first run is before one of the second, in connections that
@@ -97,9 +85,9 @@ class Shown:
         own, home = (self.there.exchanges_of(place),
                      self.here.exchanges_of(self.place_of((NOBODY, to))))
         if place not in self.followed:
-            paired = [at in home for at in self.partners[own.start:own.stop]]
+            paired = [at in home for at in self.pairing.owners[own.start:own.stop]]
             before = [home.start - 1, *sorted(filter(home.__contains__,
-                                                     self.partners[own.start:own.stop]))]
+                                                     self.pairing.owners[own.start:own.stop]))]
             self.followed[place] = array('i', (before[number]
                                                for number in accumulate(paired, initial=0)))
         return self.followed[place][to - own.start]
@@ -127,7 +115,7 @@ class Shown:
         at, to = pair
         outlines, middle, partners = (
             (self.here, at, self.pairing.partners) if at != NOBODY
-            else (self.there, to, self.partners))
+            else (self.there, to, self.pairing.owners))
         own = outlines.exchanges_of(outlines.connection_of(middle))
         some = range(max(own.start, middle - number), min(own.stop, middle + number + 1))
         return ((one, partners[one]) if at != NOBODY else (partners[one], one) for one in some

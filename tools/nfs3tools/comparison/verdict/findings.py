@@ -142,16 +142,15 @@ class OneOfTwo:
 
     def __init__(self, number: int, run: Run, pairing: Pairing, leaves_out: frozenset[str],
                  explanation: Explanation) -> None:
-        self.number, self.run, self.outlines = number, run, (pairing.here, pairing.there)[number]
-        self.order = (pairing.order_of_first, pairing.order_of_second)[number]()
+        self.number, self.run, self.outlines = number, run, pairing.runs[number]
+        self.order = pairing.matched(number)
         # Calls of the procedures that are left out which count all the same
         self.counted = explanation.counted[number]
         self.told, self.silent, self.connections = list[int](), list[int](), dict[int, int]()
-        explained, procedure_of = {pair[number] for pair in explanation.pairs}, (
-            self.outlines.procedure_of)
-        only = (pairing.only_first, pairing.only_second)[number]()
-        for place, group in itertools.groupby((at for at in only if at not in explained),
-                                              self.outlines.connection_of):
+        explained = {pair[number] for pair in explanation.pairs}
+        only = (at for at in pairing.alone(number) if at not in explained)
+        procedure_of = self.outlines.procedure_of
+        for place, group in itertools.groupby(only, self.outlines.connection_of):
             some = list(group)
             silent = [at for at in some
                       if procedure_of(at) in leaves_out and at not in self.counted]

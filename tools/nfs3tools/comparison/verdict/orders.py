@@ -100,7 +100,7 @@ class Orders:
         accepted. That is the word of the program, as without them."""
         mask = found.compared.mask
         rest = self.pairing.without(pairs_of(self.pairing, accepted))
-        if not len(rest.order_of_first()):
+        if not len(rest.matched(0)):
             return found
         self.captures = self.trial.in_one_order(rest)
         if self.is_in_own_order():

@@ -17,7 +17,7 @@ from ...shared.programs import (
     CHECKED, COMPARED, lines_of_program, run_program, run_side_by_side)
 from ...shared.progress import Progress
 from ..exchanges.outlines import Outlines, When
-from ..exchanges.pairing import InOrder, Listing, Pairing, Relaxed, Repeats, paired
+from ..exchanges.pairing import InOrder, Listing, Pairing, paired, repeats_of
 from ..exchanges.reordered import write_in_order
 from ..values.classes import Mask, mask_text
 from ..values.masking import write_both_masked
@@ -147,8 +147,7 @@ class Trial:
         listings = self.canonical(self.captures, mask)
         here, there = (Outlines(listing(), mask, when_of(taken))
                        for listing, taken in zip(listings, self.runs))
-        relaxed = (lambda: Relaxed(more[0],
-                                   self.canonical(self.captures, more[0]))) if more else None
+        relaxed = (lambda: (more[0], self.canonical(self.captures, more[0]))) if more else None
         self.progress.begin(f'bringing {len(here) + len(there):,} calls together')
         return paired(here, there, listings, lonely, relaxed)
 
@@ -157,9 +156,8 @@ class Trial:
         partner, each call once. Returns the captures' names."""
         self.progress.begin('writing both runs in one order')
         names = self.named()
-        sides = ((pairing.here, pairing.order_of_first(), pairing.only_first()),
-                 (pairing.there, pairing.order_of_second(), pairing.only_second()))
-        for taken, name, (outlines, order, only) in zip(self.runs, names, sides):
-            left_out = chain(InOrder(outlines, only), Repeats(outlines))
-            write_in_order(taken, InOrder(outlines, order), left_out, name)
+        for run, (taken, name) in enumerate(zip(self.runs, names)):
+            outlines = pairing.runs[run]
+            left_out = chain(InOrder(outlines, pairing.alone(run)), repeats_of(outlines))
+            write_in_order(taken, InOrder(outlines, pairing.matched(run)), left_out, name)
         return names
