@@ -7,6 +7,7 @@ import tempfile
 from collections.abc import Iterable, Iterator
 from dataclasses import dataclass, field
 from functools import cached_property
+from itertools import starmap
 from typing import IO, NamedTuple
 
 from ..recordings.coverage import call_named
@@ -28,6 +29,12 @@ class Line(NamedTuple):
     xid: int
     procedure: str
     text: str
+
+    def message(self, values: LongValues | None = None) -> Message:
+        """Returns its message. A long value is put among `values`, if there are some."""
+        return Message(self.connection, 'client' if self.is_call else 'server', self.record,
+                       self.xid, self.procedure, values.cut(self.text) if values else self.text,
+                       values)
 
 
 def line_of(line: str) -> Line:
@@ -111,9 +118,18 @@ class Message:
             return tuple(map(Item._make, some))
         return tuple(Item(name, self.values.value(word)) for name, word in some)
 
-    def value_of(self, name: str) -> str | None:
-        """The text of the first item of this name."""
-        return next((str(item.value) for item in self.items if item.name == name), None)
+    def value_of(self, name: str, some: range | None = None) -> str | None:
+        """The text of the first item of this name, of all or of some."""
+        items = self.items if some is None else self.items[some.start:some.stop]
+        return next((str(item.value) for item in items if item.name == name), None)
+
+    def entries(self) -> tuple[range, list[range], range]:
+        """Returns the items before the entries of a folder, those of each, and those after them."""
+        begins = [at for at, item in enumerate(self.items) if item.name == 'entry']
+        if not begins:
+            return range(len(self.items)), [], range(0)
+        return (range(begins[0]), list(starmap(range, zip(begins, begins[1:]))),
+                range(begins[-1], len(self.items)))
 
 
 @dataclass
@@ -123,16 +139,9 @@ class Exchange:
     replies: list[Message] = field(default_factory=list)
 
 
-def message_of(line: str, values: LongValues | None = None) -> Message:
-    """Returns the message of a line of a listing. Long values are put among `values`."""
-    read = line_of(line)
-    return Message(read.connection, 'client' if read.is_call else 'server', read.record, read.xid,
-                   read.procedure, values.cut(read.text) if values else read.text, values)
-
-
 def messages_of(lines: Iterable[str], values: LongValues | None = None) -> Iterator[Message]:
     """Returns the messages of a listing, line by line."""
-    return (message_of(line, values) for line in lines)
+    return (line_of(line).message(values) for line in lines)
 
 
 def name_of_call(name: str, said: str) -> str:

@@ -1,4 +1,5 @@
-"""The changes of a run, and which of them stand otherwise to a question in the other run.
+"""The changes of a run, which of them stand otherwise to a question in the other run, and whether an
+answer agrees with the others of its run.
 
 A change is a SETATTR, WRITE, CREATE, MKDIR, SYMLINK, MKNOD, REMOVE, RMDIR, RENAME or LINK that was
 answered OK. It changes the objects of its handles, the object that it makes, that to which its name
@@ -7,13 +8,17 @@ led, and its names. Which came first is known by frames. Whose a change is does 
 from __future__ import annotations
 
 from collections import defaultdict
-from collections.abc import Iterator
+from collections.abc import Iterator, Sequence
+from functools import partial
 from typing import NamedTuple, Union
 
-from .facts import LINK, Facts
+from ...exchanges.searches import SpelledAttributes
+from .facts import LINK, Fact, Facts, Statement
 from .matching import Pair
+from .pairing import Pairing
 from .turns import Turns
 
+NOTHING_ELSE = 'no other answer has attributes of the object'
 GONE, ANY_OBJECT = 0, -1  # what a name leads to after a removal, and if that is not known
 REMOVING = frozenset(('NFSPROC3_REMOVE', 'NFSPROC3_RMDIR'))
 RENAME = 'NFSPROC3_RENAME'
@@ -38,19 +43,26 @@ class MetChanges(NamedTuple):
 
 
 class Changes:
-    """The changes of a run, by what they are of."""
+    """The changes of a run, 0 or 1, by what they are of, and what its answers say. If frames do not
+    say when calls were sent, no change is known."""
 
-    def __init__(self, turns: Turns, facts: Facts) -> None:
-        self.turns, self.facts, self.outlines = turns, facts, facts.outlines
-        self.frames_of, self.named = turns.of, turns.named
+    def __init__(self, pairing: Pairing, run: int, facts: Facts, turns: Turns | None) -> None:
+        self.facts, self.turns, self.outlines = facts, turns, facts.outlines
+        self.named = partial(pairing.name_of, run)
         self.of_key = defaultdict[ChangeKey, list[int]](list)
-        for at in facts.changing:
+        changing = facts.changing if turns else []
+        for at in changing:
             keys: set[ChangeKey] = {*self.names_of(at), *self.objects_of(at)}
             for key in keys:
                 self.of_key[key].append(at)
-        for at in facts.changing:
+        for at in changing:
             if self.outlines.procedure_of(at) in REMOVING | {RENAME}:
                 self.take_removed(at)
+
+    def frames_of(self, at: int) -> tuple[int, int]:
+        """Returns the frames with which a call and its reply begin."""
+        assert self.turns
+        return self.turns.begins[at], self.turns.ends[at]
 
     def take_removed(self, at: int) -> None:
         """Notes a change of the objects to which its names led."""
@@ -120,11 +132,57 @@ class Changes:
         return max(told)[1] or ANY_OBJECT if told else ANY_OBJECT
 
 
+    # --- Whether an answer agrees with others ---
+
+    def disagrees(self, at: int, told: Statement) -> str:
+        """Returns why the attributes in an answer are not those of other answers, or nothing. With
+        an equal ctime all have to be equal. If there is none, the object has to be the same before
+        and after, with the mode and owners of one of both, and a known size."""
+        if told.attributes is None or told.name:
+            return ''
+        own = told.attributes
+        others = [fact for fact in self.facts.told[told.handle] if fact.at != at]
+        beside = [fact.attributes for fact in others if fact.ctime == told.ctime]
+        if beside:
+            return '' if own in beside else 'other attributes at the same ctime'
+        if not others:
+            return NOTHING_ELSE
+        near = neighbours(others, told.ctime)
+        has_owner = any((one.mode, one.uid, one.gid) == (own.mode, own.uid, own.gid)
+                        for one in near)
+        if not has_owner or any(constant(one) != constant(own) for one in near):
+            return 'other attributes than before and after'
+        is_known = (any(fact.attributes.size == own.size for fact in others)
+                    or int(own.size) <= self.end_of_writes(at, self.identity(told.handle)))
+        return '' if is_known else 'a size that no other answer has'
+
+    def end_of_writes(self, at: int, identity: int) -> int:
+        """Returns the largest end of the WRITEs to an object that were sent before an answer, or
+        -1."""
+        return max((self.facts.ends[one] for one in self.of_key.get(identity, ())
+                    if one in self.facts.ends
+                    and self.frames_of(one)[0] < self.frames_of(at)[1]), default=-1)
+
+
+def constant(one: SpelledAttributes) -> tuple[str, ...]:
+    """Returns what does not change of an object."""
+    return one.type, one.rdev1, one.rdev2, one.fsid, one.fileid
+
+
+def neighbours(others: Sequence[Fact], ctime: int) -> list[SpelledAttributes]:
+    """Returns what answers say of an object with the ctimes before and after one."""
+    before = max((fact for fact in others if fact.ctime < ctime),
+                 key=lambda fact: fact.ctime, default=None)
+    after = min((fact for fact in others if fact.ctime > ctime),
+                key=lambda fact: fact.ctime, default=None)
+    return [fact.attributes for fact in (before, after) if fact]
+
+
 class BothChanges:
     """The changes of two runs whose exchanges are brought together."""
 
-    def __init__(self, turns: tuple[Turns, Turns], facts: tuple[Facts, Facts]) -> None:
-        self.runs = Changes(turns[0], facts[0]), Changes(turns[1], facts[1])
+    def __init__(self, first: Changes, second: Changes) -> None:
+        self.runs = first, second
 
     def otherwise(self, pair: Pair, key: ChangeKey) -> list[Change]:
         """Returns the changes of a key that stand otherwise to a question: in one run they were

@@ -10,10 +10,10 @@ from collections import Counter
 from collections.abc import Container, Iterable
 
 from ...exchanges.in_words import LISTINGS, short_name
+from ...exchanges.listing import Message
 from ...exchanges.searches import names_in
-from .agreement import disagrees
 from .changes import ANY_OBJECT, GONE, BothChanges
-from .facts import ACCESS, DONE, LOOKUP, NO_ENTRY, Facts, facts_in_reply, is_silly
+from .facts import ACCESS, DONE, LOOKUP, NO_ENTRY, is_silly
 
 FEW, SHARE = 10, 10  # so many calls of a procedure, or one of so many
 Question = tuple[str, int, tuple[str, ...]]  # the procedure, the object, and the name
@@ -23,19 +23,18 @@ ReasonsOfCalls = tuple[dict[int, str], dict[int, str]]  # calls of both runs, ea
 class Extras:
     """The calls of a run that the other run does not have, and only ask."""
 
-    def __init__(self, run: int, facts: Facts, some: Iterable[int], paired: Container[int],
-                 changes: BothChanges | None) -> None:
+    def __init__(self, both: BothChanges, run: int, some: Iterable[int],
+                 paired: Container[int]) -> None:
         """`paired` are the exchanges that the other run has, too."""
-        self.facts, self.outlines, self.some = facts, facts.outlines, sorted(some)
-        self.changes = changes.runs[run] if changes else None
-        self.both, self.run = changes, run
+        self.both, self.run, self.some, self.changes = both, run, sorted(some), both.runs[run]
+        self.facts, self.outlines = self.changes.facts, self.changes.outlines
         self.objects = set(self.outlines.identities) - {0}
         own = set(self.some)
         # Handles of calls that the other run has, too: it knows what they are.
         self.shared = {handle for at in range(len(self.outlines)) if at in paired
                        for handle in (*self.outlines.objects_of(at), self.outlines.found[at])}
-        self.names = {(self.outlines.identities[self.outlines.folders[at]], name)
-                      for at, names in facts.names.items() if at not in own for name in names}
+        self.names = {(self.folder(at), name) for at, names in self.facts.names.items()
+                      if at not in own for name in names}
 
     def asked(self, at: int) -> Question:
         """Returns what a call asks, whoever asks."""
@@ -70,16 +69,14 @@ class Extras:
         names = [(self.folder(at), name) for name in self.facts.names.get(at, ())]
         if not other.names.issuperset(names):
             return 'the other run does not know the name'
-        return (self.wrong_attributes(at, call.procedure, replies[0].text)
+        return (self.wrong_attributes(at, replies[0])
                 or self.wrong_access(at) or self.wrong_lead(at, status)
                 or self.wrong_entries(at, call.value_of('cookie') or '', replies[0].text, other))
 
-    def wrong_attributes(self, at: int, procedure: str, text: str) -> str:
-        told = facts_in_reply(procedure, self.outlines.objects_of(at),
-                              self.facts.names.get(at, ('',))[0], text).told
+    def wrong_attributes(self, at: int, reply: Message) -> str:
         if at in self.facts.odd:
             return 'it has another file id than its run elsewhere'
-        found = (disagrees(self.facts, self.changes, at, one) for one in told)
+        found = (self.changes.disagrees(at, one) for one in self.facts.said_in(at, reply).told)
         return next(filter(None, found), '')
 
     def wrong_access(self, at: int) -> str:
@@ -93,7 +90,7 @@ class Extras:
 
     def wrong_lead(self, at: int, status: str) -> str:
         """Returns why a LOOKUP leads elsewhere than the changes of its run say, or nothing."""
-        if self.outlines.procedure_of(at) != LOOKUP or not self.both or not self.changes:
+        if self.outlines.procedure_of(at) != LOOKUP or not self.changes.turns:
             return ''
         name = self.folder(at), self.facts.names[at][0]
         handle = self.outlines.found[at]
@@ -106,7 +103,7 @@ class Extras:
 
     def wrong_entries(self, at: int, cookie: str, text: str, other: 'Extras') -> str:
         """Returns why a listing has not the names that the changes of its run leave, or nothing."""
-        if self.outlines.procedure_of(at) not in LISTINGS or not self.changes:
+        if self.outlines.procedure_of(at) not in LISTINGS or not self.changes.turns:
             return ''
         folder, names = self.folder(at), set(names_in(text))
         leads = {key[1]: self.changes.leads(at, key) for key in self.changes.of_key
@@ -122,18 +119,16 @@ class Extras:
         return 'it lacks a name' if is_whole and wanted - names else ''
 
 
-def refused(extras: tuple[Extras, Extras]) -> ReasonsOfCalls:
+def refused(first: Extras, second: Extras) -> ReasonsOfCalls:
     """Returns the calls that are differences all the same, of the first and of the second run, each
     with the reason."""
-    first, second = extras
     common = set(map(first.asked, first.some)) & set(map(second.asked, second.some))
     out: ReasonsOfCalls = {}, {}
     for run, other, found in ((first, second, out[0]), (second, first, out[1])):
         more = run.more_than(other)
         for at in run.some:
-            why = run.wrong(at, other) or more.get(run.outlines.procedure_of(at), '')
-            if not why and run.asked(at) in common:
-                why = 'the other run has such a call alone, too'
+            again = 'the other run has such a call alone, too' * (run.asked(at) in common)
+            why = run.wrong(at, other) or more.get(run.outlines.procedure_of(at), again)
             if why:
                 found[at] = why
     return out

@@ -34,11 +34,7 @@ class Statement(NamedTuple):
     fileid: str
 
 
-class Lead(NamedTuple):
-    """A name in a folder, and the object to which it leads, 0 for none."""
-    folder: int
-    name: str
-    handle: int
+Lead = tuple[int, str, int]  # a folder, a name in it, and to which object it leads, 0 for none
 
 
 class ReplyFacts(NamedTuple):
@@ -68,7 +64,7 @@ def facts_in_reply(procedure: str, handles: Sequence[int], name: str, text: str)
                                    owners_of(procedure, handles, found, is_done))
             if part.attributes and owner]
     is_lead = procedure in MAKING and found or procedure == LOOKUP and ' status=2' in text
-    return ReplyFacts(told, [Lead(handles[0], name, found)] if is_lead else [])
+    return ReplyFacts(told, [(handles[0], name, found)] if is_lead else [])
 
 
 def statement_of(part: ReplyPart, handle: int, name: str = '') -> Statement:
@@ -87,7 +83,7 @@ def entry_facts(folder: int, parts: Iterable[ReplyPart]) -> ReplyFacts:
         elif part.attributes:
             told.append(statement_of(part, *of_name(folder, name or '.')))
         elif part.handle is not None and name is not None:
-            leads.append(Lead(folder, name, part.handle))
+            leads.append((folder, name, part.handle))
             told[first:] = [one._replace(handle=part.handle, name='') for one in told[first:]]
     return ReplyFacts(told, leads)
 
@@ -143,7 +139,7 @@ class Facts:
     def take_call(self, at: int, line: Line) -> None:
         text = line.text
         if at in self.wanted:
-            self.messages[at] = message_without_data(line), []
+            self.messages[at] = line.message(), []
         names = names_in(text)
         if names:
             self.names[at] = tuple(names)
@@ -159,12 +155,12 @@ class Facts:
 
     def take_reply(self, at: int, line: Line) -> None:
         if at in self.wanted:
-            self.messages[at][1].append(message_without_data(line))
+            self.messages[at][1].append(line.message())
         handles = self.outlines.objects_of(at)
         if self.objects is not None and line.procedure not in LISTINGS and not any(
                 handle in self.objects for handle in (*handles, self.outlines.found[at])):
             return
-        answer = facts_in_reply(line.procedure, handles, self.names.get(at, ('',))[0], line.text)
+        answer = self.said_in(at, line)
         for one in answer.told:
             self.take_told(at, one)
         for folder, name, handle in answer.leads:
@@ -176,6 +172,11 @@ class Facts:
             granted = access_in(line.text)
             if granted is not None:
                 self.bits[handles[0], self.asked_bits[at]].append((at, granted))
+
+    def said_in(self, at: int, reply: Line | Message) -> ReplyFacts:
+        """Returns what a reply of an exchange says."""
+        return facts_in_reply(reply.procedure, self.outlines.objects_of(at),
+                              self.names.get(at, ('',))[0], reply.text)
 
     def take_told(self, at: int, one: Statement) -> None:
         own = one.handle, one.name
@@ -218,12 +219,6 @@ class Facts:
         """Iterates over what answers say of an object."""
         return (fact for handle in self.handles.get(identity, ())
                 for fact in self.told.get(handle, ()))
-
-
-def message_without_data(line: Line) -> Message:
-    """Returns the message of a line, without the digits of data, which are compared elsewhere."""
-    return Message(line.connection, 'client' if line.is_call else 'server', line.record, line.xid,
-                   line.procedure, line.text)
 
 
 def is_silly(name: str) -> bool:

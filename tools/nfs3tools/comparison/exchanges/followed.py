@@ -9,7 +9,7 @@ other id stays, and differs.
 from __future__ import annotations
 
 from collections import Counter, defaultdict
-from collections.abc import Iterable, Iterator, Mapping
+from collections.abc import Iterable, Iterator, Mapping, Sequence
 
 from ...exchanges.in_words import LISTINGS
 from ...exchanges.listing import Line, LinePlace, line_of
@@ -19,7 +19,7 @@ from ...recordings.spool import Spool, Stored
 from ...recordings.taken import Taken, TakenStream, whole
 from ...shared.layouts import BY_NAME, BodyReader
 from ...shared.places import SIDES, Side
-from .facts import Facts, Known, facts_in_reply
+from .facts import Facts, Known
 from .pairing import Listing, Pairing
 
 CREATE = 'NFSPROC3_CREATE'
@@ -45,7 +45,7 @@ class Followed:
     """Which values of the second run become which of the first."""
 
     def __init__(self, pairing: Pairing, listings: tuple[Listing, Listing],
-                 facts: tuple[Facts, Facts], classes: frozenset[str]) -> None:
+                 facts: Sequence[Facts], classes: frozenset[str]) -> None:
         """The listings are those of the canonical forms without a mask."""
         self.pairing, self.facts = pairing, facts
         self.partners = partners_of(pairing)
@@ -97,12 +97,10 @@ class Followed:
                 if (new := self.cookies.get((folder, cookie)))}
 
     def of_reply(self, at: int, line: Line) -> Replacements:
-        there = self.pairing.there
         values = self.of_cookies(at, line.text) if line.procedure in LISTINGS else {}
         if not self.has_ids:
             return values
-        name = self.facts[1].names.get(at, ('',))[0]
-        for one in facts_in_reply(line.procedure, there.objects_of(at), name, line.text).told:
+        for one in self.facts[1].said_in(at, line).told:
             own, other = self.facts[1].ids[one.handle, one.name], self.id_of((one.handle, one.name))
             fsid = one.attributes.fsid if one.attributes else ''
             if other:

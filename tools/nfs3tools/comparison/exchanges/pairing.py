@@ -74,6 +74,12 @@ class Pairing:
             out.partners[at] = out.owners[to] = NOBODY
         return out
 
+    def name_of(self, run: int, at: int) -> int:
+        """Returns what an exchange of a run is called in both: the same as its partner."""
+        if run == 0:
+            return at if self.partners[at] != NOBODY else -2 - 2 * at
+        return self.owners[at] if self.owners[at] != NOBODY else -3 - 2 * at
+
     def matched(self, run: int) -> 'array[int]':
         """Returns the exchanges of a run, 0 or 1, that have a partner, in the order of the first
         run."""

@@ -9,15 +9,14 @@ from __future__ import annotations
 import operator
 from array import array
 from bisect import bisect_left
-from collections.abc import Callable
-from functools import cached_property
+from functools import cached_property, partial
 from itertools import accumulate
 from typing import NamedTuple, Optional
 
 from ...recordings.taken import Taken
 from .matching import Pair
-from .outlines import CHANGING, Outlines
-from .pairing import NOBODY, Pairing
+from .outlines import CHANGING
+from .pairing import Pairing
 
 NEVER_ANSWERED = 1 << 62  # when a call is answered that has no reply
 
@@ -30,24 +29,23 @@ class ChangesBefore(NamedTuple):
 
 
 class Turns:
-    """When the calls of a run were sent and answered, and its changes.
+    """When the calls of a run, 0 or 1, were sent and answered, and its changes.
 
-    named: what an exchange is called in both runs
     begins, ends: by exchanges, the frame with which the call begins, and that of its first reply
     """
 
-    def __init__(self, taken: Taken, outlines: Outlines, named: Callable[[int], int]) -> None:
-        self.outlines, self.named = outlines, named
+    def __init__(self, taken: Taken, pairing: Pairing, run: int) -> None:
+        self.outlines, self.named = pairing.runs[run], partial(pairing.name_of, run)
         self.begins, self.ends = array('Q'), array('Q')
         connections = {one.number: one for one in taken.connections}
-        for place, number in enumerate(outlines.connections):
-            own = outlines.exchanges_of(place)
+        for place, number in enumerate(self.outlines.connections):
+            own = self.outlines.exchanges_of(place)
             calls = array('Q', connections[number].client.first_frames())
             self.begins.extend(calls[record - 1]
-                               for record in outlines.records[own.start:own.stop])
+                               for record in self.outlines.records[own.start:own.stop])
             replies = array('Q', connections[number].server.first_frames())
             self.ends.extend(replies[record - 1] if record else NEVER_ANSWERED
-                             for record in outlines.replies[own.start:own.stop])
+                             for record in self.outlines.replies[own.start:own.stop])
 
     def of(self, at: int) -> tuple[int, int]:
         """Returns the frames with which a call and its reply begin."""
@@ -84,14 +82,6 @@ class Turns:
         number = bisect_left(self.answered, begin)
         others = bisect_left(self.sent, end) - (self.is_change(at) and begin < end)
         return ChangesBefore(number, self.digests[number]) if number == others else None
-
-
-def turns_of(taken: tuple[Taken, Taken], pairing: Pairing) -> tuple[Turns, Turns]:
-    """Returns when the calls of both runs were sent and answered."""
-    return (Turns(taken[0], pairing.here,
-                  lambda at: at if pairing.partners[at] != NOBODY else -2 - 2 * at),
-            Turns(taken[1], pairing.there,
-                  lambda to: at if (at := pairing.owners[to]) != NOBODY else -3 - 2 * to))
 
 
 def is_quiet(turns: tuple[Turns, Turns], pair: Pair) -> bool:

@@ -19,7 +19,7 @@ from operator import itemgetter
 from typing import NamedTuple
 
 from ...exchanges.answering import Answering
-from ...exchanges.listing import Line, Message, line_of, message_of
+from ...exchanges.listing import Line, Message, line_of
 from ...recordings.records import Window, extents
 from ...recordings.taken import Taken, TakenConnection, TakenStream
 from ...shared.places import SIDES, Side
@@ -158,7 +158,7 @@ class MarkedRun:
                 connection.add_reply(read.xid)
                 continue
             connection.add_call(read)
-            name = message_of(line).value_of('name') if read.procedure in MARKING else None
+            name = read.message().value_of('name') if read.procedure in MARKING else None
             if name is not None and pattern.match(os.fsdecode(bytes_of(name))):
                 frame = self.sent[read.connection][connection.calls - 1] if self.sent else 0
                 yield Mark((frame, read.connection, connection.calls), name)

@@ -51,7 +51,8 @@ class RunMessage:
     """A message of one run, with the call to which it belongs if it is a reply."""
 
     def __init__(self, message: Message, call: Message | None) -> None:
-        self.items, self.is_call, self.labels = message.items, message.is_call, Labels(message)
+        self.message, self.labels = message, Labels(message)
+        self.items, self.is_call = message.items, message.is_call
         self.asking = message if message.is_call else call
 
     def offset(self) -> int | None:
@@ -77,11 +78,6 @@ class Comparison:
             self.owners[key] = next((one for one in CLASSES if one.name in self.mask
                                      and one.has(name, is_call)), None)
         return self.owners[key]
-
-    def owner_of(self, side: RunMessage, at: int) -> ValueClass | None:
-        """Returns the masked class of an item."""
-        owner = self.class_of(side.items[at].name, side.is_call)
-        return owner if owner is not None and is_of(owner, side, at) else None
 
     def is_length_of_a_machine(self, item: Item) -> bool:
         """A machine's name has a length, which is left out with it."""
@@ -156,8 +152,8 @@ class Comparison:
         here, there = RunMessage(first, call), RunMessage(second, other)
         if first.is_call or first.procedure not in ('NFSPROC3_READDIR', 'NFSPROC3_READDIRPLUS'):
             return self.of_items(here, range(len(first.items)), there, range(len(second.items)))
-        head, entries, tail = ranges_of_entries(first.items)
-        other_head, other_entries, other_tail = ranges_of_entries(second.items)
+        head, entries, tail = first.entries()
+        other_head, other_entries, other_tail = second.entries()
         found = self.of_items(here, head, there, other_head)
         if any(difference.name in DECIDING for difference in found):
             return found
@@ -187,9 +183,10 @@ class Comparison:
 
     def key_of_entry(self, side: RunMessage, entry: range) -> str:
         """Returns the name of an entry, in quotes, or the class of its name if that is masked."""
-        at = at_name(side, entry)
-        owner = None if at is None else self.owner_of(side, at)
-        return entry_name(side, entry) if owner is None else owner.name
+        at = next((at for at in entry if side.items[at].name == 'name'), None)
+        owner = None if at is None else self.class_of('name', side.is_call)
+        return (owner.name if owner and at is not None and is_of(owner, side, at)
+                else entry_name(side, entry))
 
 
 def in_both(here: RunMessage, first: range, there: RunMessage,
@@ -229,23 +226,8 @@ def by_name(entries: Iterable[tuple[str, range]]) -> Entries:
     return out
 
 
-def at_name(side: RunMessage, entry: range) -> int | None:
-    return next((at for at in entry if side.items[at].name == 'name'), None)
-
-
 def entry_name(side: RunMessage, entry: range) -> str:
-    at = at_name(side, entry)
-    return '' if at is None else str(side.items[at].value)
-
-
-def ranges_of_entries(items: Sequence[Item]) -> tuple[range, list[range], range]:
-    """Returns the items of a READDIR or READDIRPLUS reply before its entries, those of each entry,
-    and those after them."""
-    begins = [at for at, item in enumerate(items) if item.name == 'entry']
-    if not begins:
-        return range(len(items)), [], range(0)
-    return range(begins[0]), [range(at, end)
-                              for at, end in zip(begins, begins[1:])], range(begins[-1], len(items))
+    return side.message.value_of('name', entry) or ''
 
 
 # --- What is said of a difference ---

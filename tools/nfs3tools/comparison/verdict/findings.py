@@ -8,7 +8,7 @@ from collections.abc import Callable, Iterable, Iterator, Sequence
 from dataclasses import dataclass, field, replace
 
 from ...exchanges.in_words import short_name
-from ...exchanges.listing import Exchange, Message, message_of
+from ...exchanges.listing import Exchange, Message, line_of
 from ...exchanges.objects import Paths, below
 from ...exchanges.stored import LongValues
 from ...recordings.selection import count, plural
@@ -114,7 +114,7 @@ class ParsedExchanges:
         self.exchanges, self.paths, values = dict[int, Exchange](), Paths(), LongValues()
         kept = outlines.with_origins(wanted)
         for at, line in outlines.lines_of(kept, run.listing() if kept else ()):
-            message = message_of(line, values)
+            message = line_of(line).message(values)
             if message.is_call:
                 self.exchanges[at] = Exchange(message)
             else:
