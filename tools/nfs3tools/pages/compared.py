@@ -17,10 +17,10 @@ from typing import NamedTuple, Optional
 from ..comparison.values.classes import mask_text
 from ..comparison.verdict import summary
 from ..comparison.verdict.cover import NotJudged, losses_of
+from ..comparison.verdict.decision import Report
 from ..comparison.verdict.excerpt import ExcerptConnection, ExcerptRow, HiddenCalls
 from ..comparison.verdict.findings import RUNS, Compared, Finding, Run
 from ..comparison.verdict.ignored import Ignored
-from ..comparison.verdict.report import Report
 from ..exchanges.listing import Message
 from ..recordings.coverage import named_calls
 from ..recordings.parts import Part

@@ -1,5 +1,5 @@
-"""The changes of a run, which of them stand otherwise to a question in the other run, and whether an
-answer agrees with the others of its run.
+"""The changes of a run, which of them stand otherwise to a question in the other run, and whether
+an answer agrees with the others of its run.
 
 A change is a SETATTR, WRITE, CREATE, MKDIR, SYMLINK, MKNOD, REMOVE, RMDIR, RENAME or LINK that was
 answered OK. It changes the objects of its handles, the object that it makes, that to which its name

@@ -311,7 +311,8 @@ class Outlines:
         for at in some:
             connection, record = self.record_of(at)
             places[LinePlace(connection, True, record)] = at
-            places.update((LinePlace(connection, False, reply), at) for reply in self.replies_of(at))
+            places.update((LinePlace(connection, False, record), at)
+                          for record in self.replies_of(at))
         return ((places[place], line) for line in lines if (place := place_of(line)) in places)
 
     def objects_of(self, at: int) -> list[int]:

@@ -45,6 +45,11 @@ class PartName(NamedTuple):
     name: str | None
     number: int
 
+    @property
+    def plain(self) -> str | None:
+        """The name without its quotes."""
+        return self.name and self.name[1:-1]
+
     def __str__(self) -> str:
         if self.name is None:
             return 'before the first mark'

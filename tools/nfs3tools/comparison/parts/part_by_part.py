@@ -11,18 +11,18 @@ import tempfile
 from collections import Counter
 from collections.abc import Iterator, Sequence
 from contextlib import contextmanager
-from dataclasses import replace
+from dataclasses import dataclass, replace
 from pathlib import Path
 
 from ...exchanges.listing import Message
 from ...recordings.taken import Taken
 from ...shared.printed import escaped
 from ..exchanges.outlines import Outlines
-from ..verdict.decision import Judged, judged_runs, run_of, same_of
-from ..verdict.findings import Compared, Finding, ParsedExchanges, Run
+from ..verdict.cover import Size
+from ..verdict.decision import Report, judged_runs, run_of, same_of
+from ..verdict.findings import RUNS, Compared, Finding, ParsedExchanges, Run
 from ..verdict.ignored import Ignored, without_ignored
 from ..verdict.orders import Choices, NothingToCompare
-from ..verdict.report import PartReport
 from ..verdict.trial import Trial
 from .listed_parts import ListedParts, PartTrial, listed_at_once
 from .marks import Both, MarkedRun, NoMark, PartName, RunPart, is_cut_by_records
@@ -30,6 +30,35 @@ from .marks import Both, MarkedRun, NoMark, PartName, RunPart, is_cut_by_records
 # How many parts are judged at once, and by what that is divided if they are not the same
 PARTS_AT_ONCE, FEWER = 64, 8
 CONNECTIONS_AT_MOST = 4_000  # of a run in parts that are judged at once
+
+
+@dataclass(frozen=True)
+class PartReport:
+    """What is said of a part of two runs.
+
+    size: how much it has in the first run, or else in the second
+    only: 'first' or 'second' if one run alone has it
+    report, compared, left_out: if both runs have it, as of whole runs
+    """
+    name: PartName
+    size: Size
+    only: str | None
+    report: Report | None
+    compared: Compared
+    left_out: Counter[tuple[str, str]]
+
+    @property
+    def is_good(self) -> bool:
+        """Whether it is the same, if the order counts as was asked for."""
+        return self.report is not None and self.report.is_same
+
+    def word(self) -> str:
+        return self.report.word() if self.report else f'only in the {self.only} run'
+
+    def line(self) -> str:
+        """What is printed of it."""
+        said = self.report.line() if self.report else f'{self.word()}: {self.size}'
+        return f'{self.name}: {said}'
 
 
 class PartByPart:
@@ -57,31 +86,17 @@ class PartByPart:
         both = [(part, second[name]) for name, part in first.items() if name in second]
         found = {pair[0].name: one for pair, one in self.judged(both)}
         compared = dict(zip(found, self.with_paths([one.found.compared for one in found.values()])))
-        return [self.report(first.get(name), second.get(name), found.get(name),
-                            *without_ignored(compared.get(name, Compared()), ignored))
-                for name in (*first, *(name for name in second if name not in first))]
+        return [PartReport(name, (first.get(name) or second[name]).size(),
+                           None if name in found else RUNS[name not in first], found.get(name),
+                           *without_ignored(compared.get(name, Compared()), ignored))
+                for name in dict.fromkeys((*first, *second))]
 
-    def report(self, one: RunPart | None, other: RunPart | None, said: Judged | None,
-               compared: Compared, left_out: Counter[tuple[str, str]]) -> PartReport:
-        part = one or other
-        assert part
-        name = part.name.name and part.name.name[1:-1]
-        if one is None or other is None or said is None:
-            only = 'first' if one else 'second'
-            line = f'{part.name}: only in the {only} run: {part.size()}'
-            return PartReport(str(part.name), name, part.name.number, line, False, only, None,
-                              compared, left_out)
-        report = said.report(self.choices, self.names, [one.size(), other.size()])
-        line = f'{part.name}: {said.line(self.choices, part.size())}'
-        return PartReport(str(part.name), name, part.name.number, line, said.is_same, None, report,
-                          compared, left_out)
-
-    def judged(self, pairs: Sequence[Both]) -> Iterator[tuple[Both, Judged]]:
+    def judged(self, pairs: Sequence[Both]) -> Iterator[tuple[Both, Report]]:
         """Judges parts: first those that are the same, and then each of the others."""
         same = set[PartName]()
         for pair in self.same(pairs):
             same.add(pair[0].name)
-            yield pair, same_of([part.size() for part in pair], self.choices.order)
+            yield pair, same_of(self.names, [part.size() for part in pair], self.choices)
         for some in listed_at_once(pair for pair in pairs if pair[0].name not in same):
             yield from self.each(some)
 
@@ -111,7 +126,7 @@ class PartByPart:
         with self.trial(pairs) as trial:
             return trial.same(trial.captures, self.choices.masks[0]) == 'same'
 
-    def each(self, pairs: Sequence[Both]) -> Iterator[tuple[Both, Judged]]:
+    def each(self, pairs: Sequence[Both]) -> Iterator[tuple[Both, Report]]:
         """Judges each of some parts. They are listed at once, unless it is one, which may be
         large."""
         if len(pairs) == 1:
@@ -123,14 +138,15 @@ class PartByPart:
             for at, pair in enumerate(pairs):
                 yield pair, self.alone(PartTrial(listed, at, self.taken([pair])), *pair)
 
-    def alone(self, trial: Trial, one: RunPart, other: RunPart) -> Judged:
+    def alone(self, trial: Trial, one: RunPart, other: RunPart) -> Report:
         """Judges a part. The places of what is found are those in the whole runs."""
         runs = [run_of(trial, *each) for each in zip(trial.runs, trial.captures, self.names)]
         sizes = [one.size(), other.size()]
         try:
-            said = judged_runs(trial, runs, sizes, self.choices)
+            said = judged_runs(trial, runs, self.names, sizes, self.choices)
         except NothingToCompare:  # (then what one run alone has is all that there is)
-            said = judged_runs(trial, runs, sizes, replace(self.choices, leaves_out=frozenset()))
+            said = judged_runs(trial, runs, self.names, sizes,
+                               replace(self.choices, leaves_out=frozenset()))
         def placed(findings: Sequence[Finding]) -> list[Finding]:
             return [replace(finding, first=finding.first and one.in_the_whole(finding.first),
                             second=finding.second and other.in_the_whole(finding.second))
@@ -138,7 +154,7 @@ class PartByPart:
         compared = said.found.compared
         found = replace(said.found, compared=replace(
             compared, findings=placed(compared.findings), silent=placed(compared.silent)))
-        return said._replace(verdict=said.verdict.partition(' at ')[0], found=found)
+        return replace(said, verdict=said.verdict.partition(' at ')[0], found=found)
 
     @contextmanager
     def trial(self, pairs: Sequence[Both]) -> Iterator[Trial]:

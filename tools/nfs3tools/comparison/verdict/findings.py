@@ -188,12 +188,13 @@ class Explaining:
     """Tells what differs between two runs whose exchanges are brought together. What is in one run
     alone is reported, unless its procedure is one of those that are left out."""
 
-    def __init__(self, first: Run, second: Run, pairing: Pairing, leaves_out: frozenset[str],
+    def __init__(self, runs: Sequence[Run], pairing: Pairing, leaves_out: frozenset[str],
                  explanation: Explanation) -> None:
         """Pairs that are explained were taken apart again, and are left out."""
         self.pairing, self.by_order = pairing, explanation.pairs
-        self.runs = (OneOfTwo(0, first, pairing, leaves_out, explanation),
-                     OneOfTwo(1, second, pairing, leaves_out, explanation))
+        first, second = (OneOfTwo(number, run, pairing, leaves_out, explanation)
+                         for number, run in enumerate(runs))
+        self.runs = first, second
 
     def explained(self, unequal: set[int], named: set[int], mask: Mask, tells_order: bool,
                   around: Around | None) -> Compared:

@@ -67,8 +67,8 @@ class NothingToCompare(Exception):
 class Orders:
     """Two runs whose exchanges are brought together, and their captures in one order."""
 
-    def __init__(self, trial: Trial, first: Run, second: Run, choices: Choices) -> None:
-        self.trial, self.runs, self.choices = trial, (first, second), choices
+    def __init__(self, trial: Trial, runs: Sequence[Run], choices: Choices) -> None:
+        self.trial, self.runs, self.choices = trial, runs, choices
         is_strict, (mask, *more) = choices.order == 'strict', choices.masks
         self.leaves_out = frozenset[str]() if is_strict else choices.leaves_out
         # (to bring exchanges together it is all one whether a class is numbered or zero)
@@ -81,7 +81,7 @@ class Orders:
         self.is_in_place = self.pairing.is_in_place
         self.captures = (self.trial.captures if self.is_in_place
                          else self.trial.in_one_order(self.pairing))
-        self.explaining = Explaining(*self.runs, self.pairing, self.leaves_out, explanation)
+        self.explaining = Explaining(self.runs, self.pairing, self.leaves_out, explanation)
 
     def found(self) -> Outcome:
         """Finds what differs, or that nothing does in another order, and what of it was
