@@ -322,7 +322,7 @@ class Outlines:
     def calls_alike(self, lines: Iterable[str], wanted: set[int]) -> dict[int, tuple[object, ...]]:
         """Returns of some exchanges what alike calls have in common: procedure, objects, names and
         offset. The lines are those of the listing."""
-        return {at: (self.procedure_of(at), alike_in(line),
+        return {at: (self.procedure_of(at), *alike_in(line),
                      *map(self.identities.__getitem__, self.objects_of(at)))
                 for at, line in self.lines_of(wanted, lines) if place_of(line).is_call}
 

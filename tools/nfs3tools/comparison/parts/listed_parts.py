@@ -15,10 +15,10 @@ from itertools import accumulate, groupby
 from ...exchanges.listing import place_of, with_connection
 from ...recordings.container import capture_of
 from ...recordings.taken import Taken
+from ...shared.programs import MASKED, run_program
 from ..exchanges.outlines import classes_of_items, renamed_values
 from ..exchanges.pairing import Listing
 from ..values.classes import Mask, mask_text
-from ..values.masking import write_masked
 from ..verdict.trial import Trial
 from .marks import Both
 
@@ -90,7 +90,8 @@ class PartTrial(Trial):
             super().mask(captures, names, mask)
             return
         for taken, name in zip(self.runs, names):
-            write_masked(self.program, '/dev/stdin', name, mask, capture_of(taken.pairs()))
+            program, *words = self.masking('/dev/stdin', name, mask)
+            run_program(program, words, MASKED, capture_of(taken.pairs()))
 
     def listing(self, capture: str) -> Listing:
         if capture not in self.captures:
