@@ -60,22 +60,14 @@ class Reply:
         self.labels = Labels(self.message)
         self.procedure = self.message.procedure
         self.status = self.message.value_of('status')
+        # The object of the first handle of the call, and that which is found, or made
+        self.folder, found = self.outlines.object_of(at), self.outlines.found[at]
+        self.found = self.outlines.identities[found] if found else 0
 
     def identity_of(self, handle: str) -> int:
         number = int(handle, 16) if 0 < len(handle) <= 8 else 0
         identities = self.outlines.identities
         return identities[number] if number < len(identities) else 0
-
-    @property
-    def folder(self) -> int:
-        """The object of the first handle of the call."""
-        return self.outlines.identities[self.outlines.folders[self.at]]
-
-    @property
-    def found(self) -> int:
-        """The object that the answer has found, or made."""
-        handle = self.outlines.found[self.at]
-        return self.outlines.identities[handle] if handle else 0
 
     def owner_of(self, word: str) -> int:
         """Returns the object of a part of the reply."""

@@ -33,15 +33,13 @@ class Extras:
         # Handles of calls that the other run has, too: it knows what they are.
         self.shared = {handle for at in range(len(self.outlines)) if at in paired
                        for handle in (*self.outlines.objects_of(at), self.outlines.found[at])}
-        self.names = {(self.folder(at), name) for at, names in self.facts.names.items()
+        self.names = {(self.outlines.object_of(at), name) for at, names in self.facts.names.items()
                       if at not in own for name in names}
 
     def asked(self, at: int) -> Question:
         """Returns what a call asks, whoever asks."""
-        return (self.outlines.procedure_of(at), self.folder(at), self.facts.names.get(at, ()))
-
-    def folder(self, at: int) -> int:
-        return self.outlines.identities[self.outlines.folders[at]]
+        return (self.outlines.procedure_of(at), self.outlines.object_of(at),
+                self.facts.names.get(at, ()))
 
     def more_than(self, other: 'Extras') -> dict[str, str]:
         """Returns the procedures of which this run has too many more calls, and what is said of
@@ -64,9 +62,10 @@ class Extras:
             return '' if replies[0].value_of('accept_stat') == DONE else 'it is not accepted'
         if status not in (DONE, NO_ENTRY):
             return 'it has failed'
-        if self.outlines.folders[at] not in self.shared and self.folder(at) not in other.objects:
+        folder = self.outlines.object_of(at)
+        if self.outlines.folders[at] not in self.shared and folder not in other.objects:
             return 'the other run does not know the object'
-        names = [(self.folder(at), name) for name in self.facts.names.get(at, ())]
+        names = [(folder, name) for name in self.facts.names.get(at, ())]
         if not other.names.issuperset(names):
             return 'the other run does not know the name'
         return (self.wrong_attributes(at, replies[0])
@@ -82,17 +81,16 @@ class Extras:
     def wrong_access(self, at: int) -> str:
         if self.outlines.procedure_of(at) != ACCESS:
             return ''
-        key = self.outlines.folders[at], self.facts.asked_bits[at]
-        some = self.facts.bits[key]
-        own = [bits for one, bits in some if one == at]
-        others = [bits for one, bits in some if one != at]
-        return '' if not others or set(own) <= set(others) else 'it grants something else'
+        some = self.facts.bits[self.outlines.folders[at], self.facts.asked_bits[at]]
+        own, others = ({bits for one, bits in some if (one == at) is is_own}
+                       for is_own in (True, False))
+        return '' if not others or own <= others else 'it grants something else'
 
     def wrong_lead(self, at: int, status: str) -> str:
         """Returns why a LOOKUP leads elsewhere than the changes of its run say, or nothing."""
         if self.outlines.procedure_of(at) != LOOKUP or not self.changes.turns:
             return ''
-        name = self.folder(at), self.facts.names[at][0]
+        name = self.outlines.object_of(at), self.facts.names[at][0]
         handle = self.outlines.found[at]
         to = self.outlines.identities[handle] if status == DONE else GONE
         pair = (at, -1) if self.run == 0 else (-1, at)
@@ -105,7 +103,7 @@ class Extras:
         """Returns why a listing has not the names that the changes of its run leave, or nothing."""
         if self.outlines.procedure_of(at) not in LISTINGS or not self.changes.turns:
             return ''
-        folder, names = self.folder(at), set(names_in(text))
+        folder, names = self.outlines.object_of(at), set(names_in(text))
         leads = {key[1]: self.changes.leads(at, key) for key in self.changes.of_key
                  if not isinstance(key, int) and key[0] == folder}
         if any(leads.get(name) == {GONE} for name in names):

@@ -79,18 +79,13 @@ def entry_facts(folder: int, parts: Iterable[ReplyPart]) -> ReplyFacts:
     for part in parts:
         if part.name is not None:
             first, name = len(told), part.name
-            told.append(statement_of(part, *of_name(folder, name)))
+            told.append(statement_of(part, folder, '' if name == '.' else name))
         elif part.attributes:
-            told.append(statement_of(part, *of_name(folder, name or '.')))
+            told.append(statement_of(part, folder, '' if name is None or name == '.' else name))
         elif part.handle is not None and name is not None:
             leads.append((folder, name, part.handle))
             told[first:] = [one._replace(handle=part.handle, name='') for one in told[first:]]
     return ReplyFacts(told, leads)
-
-
-def of_name(folder: int, name: str) -> tuple[int, str]:
-    """Returns by what an entry without a handle is known."""
-    return (folder, '') if name == '.' else (folder, name)
 
 
 class Fact(NamedTuple):

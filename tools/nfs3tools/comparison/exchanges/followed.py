@@ -19,7 +19,7 @@ from ...recordings.spool import Spool, Stored
 from ...recordings.taken import Taken, TakenStream, whole
 from ...shared.layouts import BY_NAME, BodyReader
 from ...shared.places import SIDES, Side
-from .facts import Facts, Known
+from .facts import Facts
 from .pairing import Listing, Pairing
 
 CREATE = 'NFSPROC3_CREATE'
@@ -101,18 +101,15 @@ class Followed:
         if not self.has_ids:
             return values
         for one in self.facts[1].said_in(at, line).told:
-            own, other = self.facts[1].ids[one.handle, one.name], self.id_of((one.handle, one.name))
+            own = self.facts[1].ids[one.handle, one.name]
+            # (that of the first run)
+            other = self.facts[0].ids.get((self.partners.get(one.handle, 0), one.name))
             fsid = one.attributes.fsid if one.attributes else ''
             if other:
                 values.update(swapped_ids('fileid', one.fileid, own[1], other[1]))
             if other and fsid and own[0] and other[0]:
                 values.update(swapped_ids('fsid', fsid, own[0], other[0]))
         return values
-
-    def id_of(self, own: Known) -> tuple[str, str] | None:
-        """Returns the first run's id of an object of the second run."""
-        partner = self.partners.get(own[0])
-        return None if partner is None else self.facts[0].ids.get((partner, own[1]))
 
 
 def swapped_ids(name: str, told: str, own: str, other: str) -> Replacements:

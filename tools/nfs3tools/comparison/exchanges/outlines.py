@@ -80,17 +80,14 @@ class HandleOrigins:
         """Returns the exchange that says where an object is."""
         return self.origins[handle] if handle < len(self.known) and self.known[handle] else None
 
-    def settle(self, when: Callable[[int], int]) -> None:
-        """Of several places of an object the one counts that was said first."""
+    def identities(self, when: Callable[[int], int]) -> 'array[int]':
+        """Returns a number for each object that is the same in all runs: of its path, and of how
+        many were made there before. It is 0 if the path is not known. Of several places of an
+        object the one counts that was said first."""
         for handle, rivals in self.rivals.items():
             own = self.origins[handle], self.folders[handle], self.names[handle]
             self.place(handle, *min((own, *rivals), key=lambda rival: when(rival[0])))
         self.rivals = {}
-
-    def identities(self, when: Callable[[int], int]) -> 'array[int]':
-        """Returns a number for each object that is the same in all runs: of its path, and of how
-        many were made there before. It is 0 if the path is not known."""
-        self.settle(when)
         below = defaultdict[int, dict[int, list[int]]](dict)
         for handle, known in enumerate(self.known):
             if known:
@@ -225,10 +222,9 @@ class Outlines:
     def procedure_of(self, at: int) -> str:
         return self.names[self.kinds[at]]
 
-    def about(self, at: int) -> tuple[str, int]:
-        """Returns the procedure of a call, and the object that it is about: the folder of a
-        name."""
-        return self.procedure_of(at), self.identities[self.folders[at]]
+    def object_of(self, at: int) -> int:
+        """Returns the object that a call is about: the folder of a name."""
+        return self.identities[self.folders[at]]
 
     def connection_of(self, at: int) -> int:
         """Returns the place of an exchange's connection among all."""
@@ -256,30 +252,22 @@ class Outlines:
         """Returns the records of a call's replies."""
         return [self.replies[at], *self.further.get(at, ())] if self.replies[at] else []
 
-    def all_replies_of(self, at: int) -> list[int]:
-        """Returns the records of a call's replies, with those that say the same again."""
+    def all_records_of(self, at: int, is_call: bool) -> list[int]:
+        """Returns the records of a call, or of its replies, each time that it was sent."""
+        if is_call:
+            return [self.records[at], *self.again.get(at, ())]
         return [*self.replies_of(at), *self.repeated.get(at, ())]
 
-    def last_reply(self, place: int) -> int:
-        """Returns the largest record of a reply of a connection, or 0."""
-        return max((max(self.all_replies_of(at)) for at in self.exchanges_of(place)
-                    if self.replies[at]), default=0)
+    def last_record(self, place: int, is_call: bool) -> int:
+        """Returns the largest record of a call of a connection, or of a reply, or 0."""
+        return max((max(self.all_records_of(at, is_call), default=0)
+                    for at in self.exchanges_of(place)), default=0)
 
-    def exchanges_of_replies(self, place: int) -> 'array[int]':
-        """Returns the exchange of each reply of a connection, by its record."""
-        out = array('I', [0]) * (1 + self.last_reply(place))
+    def by_record(self, place: int, is_call: bool) -> 'array[int]':
+        """Returns the exchange of each call of a connection, or of each reply, by its record."""
+        out = array('I', [0]) * (1 + self.last_record(place, is_call))
         for at in self.exchanges_of(place):
-            for record in self.all_replies_of(at):
-                out[record] = at
-        return out
-
-    def exchanges_of_calls(self, place: int) -> 'array[int]':
-        """Returns the exchange of each call of a connection, by its record."""
-        own = self.exchanges_of(place)
-        number = len(own) + sum(len(self.again[at]) for at in own if at in self.again)
-        out = array('I', [0]) * (1 + number)
-        for at in own:
-            for record in (self.records[at], *self.again.get(at, ())):
+            for record in self.all_records_of(at, is_call):
                 out[record] = at
         return out
 
@@ -287,7 +275,7 @@ class Outlines:
         """Iterates over the lines of a listing of the run, each with its exchange."""
         for connection, some in groupby(lines, attrgetter('connection')):
             place = self.place_of(connection)
-            calls, replies = self.exchanges_of_calls(place), self.exchanges_of_replies(place)
+            replies, calls = self.by_record(place, False), self.by_record(place, True)
             for line in some:
                 yield (calls if line.is_call else replies)[line.record], line
 
@@ -300,9 +288,9 @@ class Outlines:
 
     def exchanges_of_messages(self, messages: Iterable[Message]) -> list[int]:
         """Returns the exchange of each of some messages."""
-        calls, replies = cache(self.exchanges_of_calls), cache(self.exchanges_of_replies)
-        return [(calls if message.is_call else replies)(
-            self.place_of(message.connection))[message.record] for message in messages]
+        by_record = cache(self.by_record)
+        return [by_record(self.place_of(one.connection), one.is_call)[one.record]
+                for one in messages]
 
     def lines_of(self, some: Iterable[int], lines: Iterable[str]) -> Iterator[tuple[int, str]]:
         """Iterates over the lines of some exchanges, but for retransmissions and replies that say

@@ -164,7 +164,7 @@ class Pairing:
         """Returns the records of the second run's replies, in the order of those of a connection of
         the first run to which they belong."""
         own, home = self.here.exchanges_of(place), self.home_of(place)
-        turns = array('I', [0]) * (1 + self.here.last_reply(place))
+        turns = array('I', [0]) * (1 + self.here.last_record(place, is_call=False))
         for at in own:
             if self.partners[at] in home:
                 for record, other in zip(self.here.replies_of(at),
@@ -337,5 +337,6 @@ def paired(here: Outlines, there: Outlines, listings: tuple[Listing, Listing],
                                there.calls_alike(listings[1](), others)))
         pairing.in_gaps(keys_in({at: here.procedure_of(at) for at in left},
                                 {to: there.procedure_of(to) for to in others}), len(there))
-    pairing.as_often((here.about, there.about))
+    pairing.as_often((lambda at: (here.procedure_of(at), here.object_of(at)),
+                      lambda to: (there.procedure_of(to), there.object_of(to))))
     return pairing

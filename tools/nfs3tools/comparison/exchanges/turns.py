@@ -11,7 +11,7 @@ from array import array
 from bisect import bisect_left
 from functools import cached_property, partial
 from itertools import accumulate
-from typing import NamedTuple, Optional
+from typing import Optional
 
 from ...recordings.taken import Taken
 from .matching import Pair
@@ -21,11 +21,9 @@ from .pairing import Pairing
 NEVER_ANSWERED = 1 << 62  # when a call is answered that has no reply
 
 
-class ChangesBefore(NamedTuple):
-    """The changes that were answered before a call was sent: how many, and a hash of them that is
-    the same in both runs."""
-    number: int
-    digest: int
+# The changes that were answered before a call was sent: how many, and a hash of them that is the
+# same in both runs
+ChangesBefore = tuple[int, int]
 
 
 class Turns:
@@ -46,10 +44,6 @@ class Turns:
             replies = array('Q', connections[number].server.first_frames())
             self.ends.extend(replies[record - 1] if record else NEVER_ANSWERED
                              for record in self.outlines.replies[own.start:own.stop])
-
-    def of(self, at: int) -> tuple[int, int]:
-        """Returns the frames with which a call and its reply begin."""
-        return self.begins[at], self.ends[at]
 
     def is_change(self, at: int) -> bool:
         return self.outlines.procedure_of(at) in CHANGING and at not in self.outlines.unmade
@@ -78,10 +72,10 @@ class Turns:
 
     def before(self, at: int) -> Optional[ChangesBefore]:
         """Returns the changes before a call, or None if some overlap it."""
-        begin, end = self.of(at)
+        begin, end = self.begins[at], self.ends[at]
         number = bisect_left(self.answered, begin)
         others = bisect_left(self.sent, end) - (self.is_change(at) and begin < end)
-        return ChangesBefore(number, self.digests[number]) if number == others else None
+        return (number, self.digests[number]) if number == others else None
 
 
 def is_quiet(turns: tuple[Turns, Turns], pair: Pair) -> bool:
