@@ -77,9 +77,6 @@ class KeptExchange:
         self.kept, self.at, self.part = kept, at, kept.parts[kept.part_of[at]]
         self.record, self.frame, self.time = kept.records[at], kept.frames[at], kept.times[at]
         self.procedure = kept.names[kept.kinds[at]]
-        # What was asked for.
-        self.known_asked: Asked | None = None
-        self.known_answers: list[str] | None = None
 
     @property
     def latency(self) -> int | None:
@@ -114,12 +111,10 @@ class KeptExchange:
         return [Message(self.part.number, 'server', one.record, *call, kept.answering[number],
                         kept.values, one.frame, one.time) for one, number in some]
 
-    @property
+    @cached_property
     def asked(self) -> Asked:
         """What is asked, in words."""
-        if self.known_asked is None:
-            self.known_asked = asked_in(self.kept.listed_name(self.at), self.kept.asking[self.at])
-        return self.known_asked
+        return asked_in(self.kept.listed_name(self.at), self.kept.asking[self.at])
 
     @property
     def path(self) -> str | None:
@@ -132,7 +127,7 @@ class KeptExchange:
         if not self.part.paths.moves:
             return []
         handle = self.asked.handle if self.asked.entry is None else self.made
-        names = self.part.paths.all_of(handle) if handle else []
+        names = self.part.paths.names.all_of(handle) if handle else []
         return [name for name in names if name != self.path]
 
     @property
@@ -150,14 +145,11 @@ class KeptExchange:
         asked = self.asked
         return self.part.path(asked.other, asked.other_entry, self.frame or self.at + 1)
 
-    @property
+    @cached_property
     def answers(self) -> list[str]:
         """What each reply says, in words."""
-        if self.known_answers is None:
-            name, texts = self.kept.listed_name(self.at), self.kept.answering
-            self.known_answers = [answer_in(name, texts[number])
-                                  for number in self.kept.replies_of(self.at)]
-        return self.known_answers
+        name, texts = self.kept.listed_name(self.at), self.kept.answering
+        return [answer_in(name, texts[number]) for number in self.kept.replies_of(self.at)]
 
     @property
     def answer(self) -> str:

@@ -30,21 +30,17 @@ PartLines = tuple[list[str], ...]  # of a part in both runs
 
 def listed_at_once(pairs: Iterable[Both]) -> Iterator[list[Both]]:
     """Iterates over parts, as many at once as may be listed together. A larger one is by itself."""
-    some, share = list[Both](), 0.0
+    some, share = list[Both](), 0.0  # of what may be listed at once
     for pair in pairs:
-        share += share_of_limits(pair)
+        own = max(max(part.bytes() / BYTES_AT_MOST, part.size().connections / LISTED_CONNECTIONS)
+                  for part in pair)
+        share += own
         if some and share > 1:
             yield some
-            some, share = [], share_of_limits(pair)
+            some, share = [], own
         some.append(pair)
     if some:
         yield some
-
-
-def share_of_limits(pair: Both) -> float:
-    """Returns how much of what may be listed at once a part has."""
-    return max(max(part.bytes() / BYTES_AT_MOST, part.size().connections / LISTED_CONNECTIONS)
-               for part in pair)
 
 
 class ListedParts:

@@ -19,16 +19,14 @@ from operator import itemgetter
 from typing import NamedTuple
 
 from ...exchanges.answering import Answering
-from ...exchanges.listing import Line, Message, line_of
+from ...exchanges.listing import Message, line_of
 from ...recordings.records import Window, extents
 from ...recordings.taken import Taken, TakenConnection, TakenStream
 from ...shared.places import SIDES, Side
 from ...shared.programs import Died
-from ..exchanges.outlines import Outlines
 from ..exchanges.pairing import Listing
 from ..values.long_values import bytes_of
 from ..verdict.cover import Size
-from ..verdict.trial import when_of
 
 MARKING = frozenset(('NFSPROC3_LOOKUP', 'NFSPROC3_CREATE', 'NFSPROC3_MKDIR'))
 # When a call was sent: its frame or 0, its connection, and its record
@@ -89,10 +87,6 @@ class RunPart:
     def sides_of(self, connection: int) -> dict[Side, list[Piece]]:
         return self.pieces.setdefault(connection, {'client': [], 'server': []})
 
-    def has_messages_of(self, other: 'RunPart') -> bool:
-        """Whether both parts have the same messages, by their connections and numbers."""
-        return self.numbers() == other.numbers()
-
     def numbers(self) -> list[tuple[int, list[tuple[int, int]]]]:
         """Returns of each connection, by its number, the number of the first record of each piece,
         and of how many there are."""
@@ -113,18 +107,14 @@ Both = tuple[RunPart, RunPart]  # a part in both runs
 
 
 class Answered:
-    """The calls of a connection: how many there are, and which of them each reply belongs to,
-    counted from 0."""
+    """The calls of a connection, and which of them each reply belongs to, counted from 0."""
 
     def __init__(self) -> None:
-        self.calls, self.owners, self.rule = 0, array('I'), Answering()
+        self.rule, self.owners = Answering(), array('I')
 
-    def add_call(self, line: Line) -> None:
-        self.rule.call(line.xid, line.text)
-        self.calls += 1
-
-    def add_reply(self, xid: int) -> None:
-        self.owners.append(self.rule.reply(xid))
+    def number(self) -> int:
+        """Returns how many calls there are."""
+        return len(self.rule.said)
 
 
 class MarkedRun:
@@ -138,21 +128,14 @@ class MarkedRun:
                                               accumulate(connection.client.first_frames(), max))
                      for connection in taken.connections if taken.has_frames}
         self.answered = defaultdict[int, Answered](Answered)
-        marks = begun_by(sorted(self.marks(re.compile(fnmatch.translate(pattern)))))
+        # A mark of the name of the part that goes on begins none: a client looks a name up before
+        # it makes it, and again later.
+        found = sorted(self.marks(re.compile(fnmatch.translate(pattern))))
+        marks = [next(some) for _, some in groupby(found, lambda mark: mark.name)]
         self.parts = parts_by_marks(marks)
         for connection in taken.connections:
             self.cut(connection, [mark.moment for mark in marks])
         self.parts = [part for part in self.parts if part.pieces]
-
-    def has_marks(self) -> bool:
-        return any(part.name.name is not None for part in self.parts)
-
-    def has_silly_names(self) -> bool:
-        """Whether a part may have a name that a mask changes."""
-        return any('.nfs' in (part.name.name or '') for part in self.parts)
-
-    def outlines(self) -> Outlines:
-        return Outlines(self.listing(), {}, when_of(self.taken))
 
     def marks(self, pattern: re.Pattern[str]) -> Iterator[Mark]:
         """Reads the listing, and iterates over the calls that are marks."""
@@ -160,19 +143,19 @@ class MarkedRun:
             read = line_of(line)
             connection = self.answered[read.connection]
             if not read.is_call:
-                connection.add_reply(read.xid)
+                connection.owners.append(connection.rule.reply(read.xid))
                 continue
-            connection.add_call(read)
+            connection.rule.call(read.xid, read.text)
             name = read.message().value_of('name') if read.procedure in MARKING else None
             if name is not None and pattern.match(os.fsdecode(bytes_of(name))):
-                frame = self.sent[read.connection][connection.calls - 1] if self.sent else 0
-                yield Mark((frame, read.connection, connection.calls), name)
+                frame = self.sent[read.connection][connection.number() - 1] if self.sent else 0
+                yield Mark((frame, read.connection, connection.number()), name)
 
     def cut(self, connection: TakenConnection, begins: Sequence[SentAt]) -> None:
         """Gives the parts, which begin at these moments, their pieces of a connection. One without
         calls is of the first part."""
         answered = self.answered[connection.number]
-        sent = self.sent[connection.number] if self.sent else repeat(0, answered.calls)
+        sent = self.sent[connection.number] if self.sent else repeat(0, answered.number())
         calls = array('I',
                       (bisect_right(begins, (frame, connection.number, record))
                        for record, frame in enumerate(sent, 1)))
@@ -200,12 +183,6 @@ def is_cut_by_records(taken: Taken) -> bool:
     """Whether the parts of a run follow from its messages alone: it has no frames, or one
     connection, of which frames are in order."""
     return not taken.has_frames or len(taken.connections) == 1
-
-
-def begun_by(marks: Iterable[Mark]) -> list[Mark]:
-    """Returns the marks that begin a part. One of the name of the part that goes on does not: a
-    client looks a name up before it makes it, and again later."""
-    return [next(some) for _, some in groupby(marks, lambda mark: mark.name)]
 
 
 def parts_by_marks(marks: Iterable[Mark]) -> list[RunPart]:

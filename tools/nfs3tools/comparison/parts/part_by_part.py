@@ -23,7 +23,7 @@ from ..verdict.decision import Report, judged_runs, run_of, same_of
 from ..verdict.findings import RUNS, Compared, Finding, ParsedExchanges, Run
 from ..verdict.ignored import Ignored, without_ignored
 from ..verdict.orders import Choices, NothingToCompare
-from ..verdict.trial import Trial
+from ..verdict.trial import Trial, when_of
 from .listed_parts import ListedParts, PartTrial, listed_at_once
 from .marks import Both, MarkedRun, NoMark, PartName, RunPart, is_cut_by_records
 
@@ -71,11 +71,12 @@ class PartByPart:
         self.are_wholes_same = whole.same(whole.captures, choices.masks[0]) == 'same'
         listings = whole.canonical(whole.captures)
         first = MarkedRun(whole.runs[0], listings[0], pattern)
-        is_cut_alike = (self.are_wholes_same and not first.has_silly_names()
-                        and all(map(is_cut_by_records, whole.runs)))
+        # (a mask changes names of removed files)
+        is_cut_alike = (self.are_wholes_same and all(map(is_cut_by_records, whole.runs)) and not
+                        any('.nfs' in (part.name.name or '') for part in first.parts))
         self.marked = first, first if is_cut_alike else MarkedRun(whole.runs[1], listings[1],
                                                                   pattern)
-        if not any(marked.has_marks() for marked in self.marked):
+        if not any(part.name.name for marked in self.marked for part in marked.parts):
             raise NoMark(
                 f'no call of LOOKUP, CREATE or MKDIR has a name that fits {escaped(pattern)!r}')
 
@@ -103,7 +104,7 @@ class PartByPart:
     def same(self, pairs: Sequence[Both]) -> Iterator[Both]:
         """Iterates over parts that are the same. If the runs are, a part of the same messages in
         both is: one renaming of the runs renames each part."""
-        if self.are_wholes_same and all(one.has_messages_of(other) for one, other in pairs):
+        if self.are_wholes_same and all(one.numbers() == other.numbers() for one, other in pairs):
             return iter(pairs)
         return self.same_at_once(pairs, PARTS_AT_ONCE)
 
@@ -184,7 +185,7 @@ class PartByPart:
 def paths_in(run: Run, marked: MarkedRun, messages: Sequence[Message]) -> dict[str, str | None]:
     """Returns the paths of what messages are about that were found in the parts of a run, by their
     places and by the whole run."""
-    outlines = marked.outlines() if messages else Outlines((), {})
+    outlines = Outlines(marked.listing() if messages else (), {}, when_of(marked.taken))
     exchanges = outlines.exchanges_of_messages(messages)
     apart = ParsedExchanges(run, outlines, exchanges)
     return {message.place: apart.path(at) for message, at in zip(messages, exchanges)}

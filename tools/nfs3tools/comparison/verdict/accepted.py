@@ -48,17 +48,13 @@ class Accepted:
         for number, entry in enumerate(entries):
             self.by_path[key_of(entry.get('path', ANY))].append(number)
 
-    def of(self, finding: Finding, mask: Mask) -> list[int]:
-        """Returns the numbers of the entries that fit the message of a finding."""
-        some = [*self.by_path.get((finding.path,), ()), *self.by_path.get(ANY, ())]
-        return [number for number in some if fits(self.entries[number], finding, mask)]
-
     def split(self, compared: Compared) -> tuple[Compared, Split]:
         """Returns what is left of a comparison, and what was accepted of it. A finding of which
         some fields are accepted is in both, with its own fields in each."""
         left, taken, uses = list[Finding](), list[Finding](), Uses(self.entries)
         for finding in compared.findings:
-            numbers = self.of(finding, compared.mask)
+            near = [*self.by_path.get((finding.path,), ()), *self.by_path.get(ANY, ())]
+            numbers = [one for one in near if fits(self.entries[one], finding, compared.mask)]
             if not finding.differences:
                 (taken if uses.take(numbers) else left).append(finding)
                 continue
@@ -67,8 +63,9 @@ class Accepted:
             taken += with_fields(finding, some)
             left += with_fields(finding, (not is_taken for is_taken in some))
         gone = [entry for number, entry in enumerate(self.entries) if not uses.numbers[number]]
-        rest = replace(compared, findings=left, lonely=lonely_without(compared, taken))
-        return rest, Split(taken, gone)
+        sides = [one.first is None for one in taken if one.kind == 'only']
+        lonely = compared.lonely[0] - sides.count(False), compared.lonely[1] - sides.count(True)
+        return replace(compared, findings=left, lonely=lonely), Split(taken, gone)
 
 
 class Uses:
@@ -101,12 +98,6 @@ def with_fields(finding: Finding, wanted: Iterable[bool]) -> list[Finding]:
     return [replace(finding, differences=its)] if its else []
 
 
-def lonely_without(compared: Compared, taken: Iterable[Finding]) -> tuple[int, int]:
-    """Returns how many calls each run has alone, without some."""
-    sides = [one.first is None for one in taken if one.kind == 'only']
-    return compared.lonely[0] - sides.count(False), compared.lonely[1] - sides.count(True)
-
-
 def fits(entry: AcceptedEntry, finding: Finding, mask: Mask) -> bool:
     """Whether an entry is about the message of a finding. None is about whole connections."""
     message = finding.message
@@ -126,19 +117,16 @@ def fits(entry: AcceptedEntry, finding: Finding, mask: Mask) -> bool:
 
 def members_besides_fields(finding: Finding, mask: Mask) -> dict[str, object]:
     """Returns what an entry says of a finding besides its fields: of a call of one run alone which
-    run, what it asks and the statuses of its replies; of replies the statuses of both runs."""
+    run, what it asks, but for values that are its run's own, and the statuses of its replies; of
+    replies the statuses of both runs."""
     if finding.kind == 'only':
-        return {'only': RUNS[finding.first is None], 'asks': asks_of(finding, mask),
+        asks = [f'{one.label}={one.value}' for one in finding.arguments
+                if not is_of_run(one.name, True, mask)]
+        return {'only': finding.run, 'asks': asks,
                 'status': finding.statuses[finding.first is None]}
     if finding.kind == 'replies':
         return {'kind': 'replies', **dict(zip(RUNS, finding.statuses))}
     return {'kind': finding.kind} if finding.kind in PLAIN_KINDS else {}
-
-
-def asks_of(finding: Finding, mask: Mask) -> list[str]:
-    """Returns the arguments of a call of one run alone, but for values that are its run's own."""
-    return [f'{one.label}={one.value}' for one in finding.arguments
-            if not is_of_run(one.name, True, mask)]
 
 
 def kind_of_entry(entry: AcceptedEntry) -> str:

@@ -7,7 +7,6 @@ from dataclasses import dataclass, replace
 from typing import Literal, Optional
 
 from ..exchanges.any_order import Explanation, TwoRuns
-from ..exchanges.matching import Pair
 from ..exchanges.pairing import ASKING, Pairing
 from ..exchanges.unequal import ListedInPlace, TwoListings
 from ..values.classes import CLASSES, Mask, Way
@@ -99,7 +98,9 @@ class Orders:
         """Finds whether the runs are the same without the exchanges of all findings, which were
         accepted. That is the word of the program, as without them."""
         mask = found.compared.mask
-        rest = self.pairing.without(pairs_of(self.pairing, accepted))
+        some = self.pairing.here.exchanges_of_messages(
+            finding.first for finding in accepted if finding.first and finding.second)
+        rest = self.pairing.without((at, self.pairing.partners[at]) for at in {*some})
         if not len(rest.matched(0)):
             return found
         self.captures = self.trial.in_one_order(rest)
@@ -131,12 +132,15 @@ class Orders:
         if not classes:
             return found
         self.follow(classes)
-        return replace(self.found_under(without_classes(mask, classes)), follows=True)
+        left = {name: way for name, way in mask.items() if name not in classes}
+        return replace(self.found_under(left), follows=True)
 
     def not_one_to_one(self, compared: Compared, mask: Mask) -> frozenset[str]:
         """Returns the classes that are to follow their objects: those of values that differ. If
         pairs differ of which no field is reported, values are shared by other messages."""
-        told, groups = classes_in(compared), [group & self.choices.follows for group in GROUPS]
+        names = {one.name for finding in compared.findings for one in finding.differences}
+        told = {one.name for one in CLASSES if names & one.items}
+        groups = [group & self.choices.follows for group in GROUPS]
         if self.explaining.are_all_told:
             return frozenset().union(*(group for group in groups if group & told))
         own = self.listed(mask).unequal()
@@ -183,20 +187,3 @@ class Orders:
         differing = listed.unequal()
         return self.explaining.explained(differing, listed.turns_of_values(differing), mask,
                                          self.choices.order == 'strict', self.choices.around)
-
-
-def classes_in(compared: Compared) -> frozenset[str]:
-    """Returns the classes of the values that differ."""
-    names = {one.name for finding in compared.findings for one in finding.differences}
-    return frozenset(one.name for one in CLASSES if names & one.items)
-
-
-def without_classes(mask: Mask, classes: frozenset[str]) -> Mask:
-    return {name: way for name, way in mask.items() if name not in classes}
-
-
-def pairs_of(pairing: Pairing, findings: Sequence[Finding]) -> list[Pair]:
-    """Returns the matched exchanges of which findings are."""
-    some = pairing.here.exchanges_of_messages(
-        finding.first for finding in findings if finding.first and finding.second)
-    return [(at, pairing.partners[at]) for at in sorted({*some})]
