@@ -58,7 +58,6 @@ class Answering:
         return None
 
     def first(self, xid: int) -> int | None:
-        """Returns the first call with an xid."""
         at = xid - self.begin
         return at if 0 <= at < self.counted else self.firsts.get(xid)
 

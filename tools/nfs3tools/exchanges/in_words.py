@@ -19,7 +19,6 @@ from .listing import ITEM
 LONGEST_TEXT = 1_000  # characters of a name or a text
 TEXTS_KEPT_AT_MOST = 1_024  # texts that are made once
 ASKED_AT_MOST = 128  # the same of calls: a client asks the same again soon
-WIDTH = 7  # of GETATTR and SETATTR, and of names that are shorter
 CALL_HEAD = re.compile(r' mtype=0 rpcvers=2 prog=\d+ vers=\d+ proc=\d+ cred_flavor=\d+ '
                        r'(?:cred_body=\w*|cred_length=\d+ stamp=\d+ machinename="[^"]*" uid=(\d+) '
                        r'gid=\d+ gids=\d+(?: group=\d+)*) verf_flavor=0 verf_body=\w*')
@@ -140,7 +139,6 @@ def of_several(name: str, values: Mapping[str, str]) -> str:
 
 @functools.lru_cache(TEXTS_KEPT_AT_MOST)
 def number_named(name: str, value: str) -> str:
-    """The name of an item's number."""
     return meaning_of(name, value, VALUES.get(name)).removeprefix('NF3')
 
 
@@ -171,7 +169,9 @@ def answer_in(procedure: str, said: str) -> str:
     if procedure == RAW.name:
         return NOT_READ
     if procedure in LISTINGS:
-        return f'OK {entries_in(said)}'
+        number = sum(name == 'name' for name, _ in ITEM.findall(said))
+        is_end = said.endswith(' eof=1')
+        return f'OK {number:,} {"entry" if number == 1 else "entries"}' + ' eof' * is_end
     pattern, template = RESULTS.get(procedure, (None, ''))
     read = pattern.search(said) if pattern else None
     return 'OK' if read is None else result_of(template, read.groups())
@@ -183,16 +183,7 @@ def result_of(template: str, values: tuple[str, ...]) -> str:
     return 'OK ' + filled(template, zip(values[::2], values[1::2]))
 
 
-def entries_in(said: str) -> str:
-    """How many entries a folder's listing has, and whether it is at its end."""
-    number = sum(name == 'name' for name, _ in ITEM.findall(said))
-    is_end = said.endswith(' eof=1')
-    return f'{number:,} {"entry" if number == 1 else "entries"}' + ' eof' * is_end
-
-
 @functools.lru_cache(TEXTS_KEPT_AT_MOST)
-def short_name(procedure: str) -> str:
-    """The name of a procedure without that of its version: `WRITE` of NFS, `MOUNT MNT` of MOUNT. A
-    short one is as wide as most are."""
-    name = procedure.removeprefix('NFSPROC3_').replace('MOUNTPROC3_', 'MOUNT ')
-    return name.ljust(WIDTH)
+def short(procedure: str) -> str:
+    """The name of a procedure without that of its version: `WRITE` of NFS, `MOUNT MNT` of MOUNT."""
+    return procedure.removeprefix('NFSPROC3_').replace('MOUNTPROC3_', 'MOUNT ')

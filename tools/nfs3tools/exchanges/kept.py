@@ -20,12 +20,13 @@ from ..recordings.selection import BEGUN_BEFORE
 from ..recordings.spool import Spool
 from ..recordings.taken import Completion, TakenConnection
 from .answering import Answering, error_in
-from .in_words import Asked, answer_in, asked_in, short_name
+from .in_words import Asked, answer_in, asked_in, short
 from .listing import ITEM, Item, Message, is_call, listed_of, name_of_call
 from .objects import LISTING, MAKING, RENAMING, TEACHING, UNKNOWN, Move, Paths, below
 from .stored import LongValues, Texts, without_long
 
 UNTIMED = -1 << 63  # means no latency
+WIDTH = 7  # of GETATTR and SETATTR, and of names that are shorter
 HANDLE_ITEM = re.compile(r' (fh)=([^ ]*)')
 
 
@@ -202,7 +203,7 @@ class KeptExchange:
 
 def call_text(one: KeptExchange) -> str:
     """A call with its paths and its other arguments."""
-    asked, words, path = one.asked, [short_name(one.procedure)], one.path
+    asked, words, path = one.asked, [short(one.procedure).ljust(WIDTH)], one.path
     if path is not None:
         words.append(path)
     if asked.other is not None:
@@ -335,7 +336,6 @@ class Kept:
         return later
 
     def exchange(self, at: int) -> KeptExchange:
-        """Returns an exchange by its number."""
         return KeptExchange(self, at)
 
     def position(self, at: int | None) -> str | None:

@@ -4,7 +4,7 @@ from __future__ import annotations
 import contextlib
 import re
 import tempfile
-from collections.abc import Iterable, Iterator
+from collections.abc import Iterator
 from dataclasses import dataclass, field
 from functools import cached_property
 from itertools import starmap
@@ -38,7 +38,6 @@ class Line(NamedTuple):
 
 
 def line_of(line: str) -> Line:
-    """Reads a line of a listing."""
     connection, side, record, xid, rest = line.split(' ', 4)
     end = rest.find(' ')
     return Line(int(connection), side == 'client', int(record), int(xid[4:]), rest[:end],
@@ -78,7 +77,6 @@ def with_connection(line: str, number: int) -> str:
 
 
 class Item(NamedTuple):
-    """An item of a message: its name, and its value."""
     name: str
     value: Value
 
@@ -137,11 +135,6 @@ class Exchange:
     """A call and its replies."""
     call: Message
     replies: list[Message] = field(default_factory=list)
-
-
-def messages_of(lines: Iterable[str], values: LongValues | None = None) -> Iterator[Message]:
-    """Returns the messages of a listing, line by line."""
-    return (line_of(line).message(values) for line in lines)
 
 
 def name_of_call(name: str, said: str) -> str:

@@ -56,7 +56,6 @@ class ReplyPart(NamedTuple):
 
 
 def parts_in(text: str) -> Iterator[ReplyPart]:
-    """Iterates over the parts of a reply."""
     for found in REPLY_PART.finditer(text):
         if found[1]:
             # (one text for equal ones: there may be many answers)
@@ -83,14 +82,17 @@ def names_in(text: str) -> list[str]:
     return NAME.findall(text) if ' name="' in text else []
 
 
-def names_and_handles_in(text: str) -> Iterator[str | int]:
-    """Iterates over the names and the handles as they come."""
-    return (found[1] if found[2] is None else int(found[2], 16)
-            for found in NAME_OR_HANDLE.finditer(text))
+def entries_in(text: str) -> Iterator[tuple[str, int]]:
+    """Iterates over the handles of a folder's entries, each with the name that comes before it."""
+    name = '.'
+    for found in NAME_OR_HANDLE.finditer(text):
+        if found[2] is None:
+            name = found[1]
+        else:
+            yield name, int(found[2], 16)
 
 
 def end_of_write_in(text: str) -> int | None:
-    """Returns where a WRITE ends."""
     found = WRITTEN.search(text)
     return int(found[1]) + int(found[2]) if found else None
 

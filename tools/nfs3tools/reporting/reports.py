@@ -13,7 +13,7 @@ from ..comparison.verdict.cover import Cover
 from ..comparison.verdict.decision import Report
 from ..comparison.verdict.differences import Difference
 from ..comparison.verdict.findings import RUNS, Compared, Finding, Framing
-from ..comparison.verdict.summary import short
+from ..exchanges.in_words import short
 from ..exchanges.listing import Message
 from ..exchanges.stored import Long, Value
 from ..shared.printed import escaped, printable

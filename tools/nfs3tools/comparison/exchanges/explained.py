@@ -70,7 +70,6 @@ class Reply:
         return identities[number] if number < len(identities) else 0
 
     def owner_of(self, word: str) -> int:
-        """Returns the object of a part of the reply."""
         if word == 'obj' and self.procedure in MAKING:
             return self.found
         if (self.procedure, word) in SECOND_HANDLES:

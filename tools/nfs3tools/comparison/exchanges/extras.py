@@ -9,7 +9,7 @@ from __future__ import annotations
 from collections import Counter
 from collections.abc import Container, Iterable
 
-from ...exchanges.in_words import LISTINGS, short_name
+from ...exchanges.in_words import LISTINGS, short
 from ...exchanges.listing import Message
 from ...exchanges.searches import names_in
 from .changes import ANY_OBJECT, GONE, BothChanges
@@ -46,8 +46,7 @@ class Extras:
         that."""
         own, its = (Counter(map(one.outlines.procedure_of, one.some)) for one in (self, other))
         totals = Counter(map(self.outlines.procedure_of, range(len(self.outlines))))
-        return {procedure: f'{short_name(procedure).strip()}: {more:,} more than '
-                           f'{most:,}'
+        return {procedure: f'{short(procedure)}: {more:,} more than {most:,}'
                 for procedure, number in own.items()
                 if (more := number - its[procedure]) > (
                     most := max(FEW, totals[procedure] // SHARE))}

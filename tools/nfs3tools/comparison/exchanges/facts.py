@@ -211,7 +211,6 @@ class Facts:
                 if handle in handles and any(at != but for at in some)}
 
     def facts_of(self, identity: int) -> Iterator[Fact]:
-        """Iterates over what answers say of an object."""
         return (fact for handle in self.handles.get(identity, ())
                 for fact in self.told.get(handle, ()))
 

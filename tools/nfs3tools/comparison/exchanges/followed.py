@@ -9,14 +9,14 @@ other id stays, and differs.
 from __future__ import annotations
 
 from collections import Counter, defaultdict
-from collections.abc import Iterable, Iterator, Mapping, Sequence
+from collections.abc import Iterable, Mapping, Sequence
 
 from ...exchanges.in_words import LISTINGS
 from ...exchanges.listing import Line, LinePlace, line_of
 from ...exchanges.searches import cookies_in, cookies_of_names_in, verifier_in
 from ...recordings.records import LAST_FRAGMENT
-from ...recordings.spool import Spool, Stored
-from ...recordings.taken import Taken, TakenStream, whole
+from ...recordings.spool import Stored
+from ...recordings.taken import Taken, TakenConnection, TakenStream, whole
 from ...shared.layouts import BY_NAME, BodyReader
 from ...shared.places import SIDES, Side
 from .facts import Facts
@@ -127,21 +127,19 @@ def with_values(taken: Taken, values: Mapping[LinePlace, Replacements],
     procedures = {place: line.procedure for line in map(line_of, lines)
                   if (place := LinePlace(line.connection, line.is_call, line.record)) in values}
     out = Taken(taken.spool, taken.is_recording, False, taken.ports)
-    for connection in taken.connections:
-        client, server = (stream_of(taken.spool, bodies_of(
-            connection.stream(side), connection.number, side, values, procedures))
-            for side in SIDES)
-        out.connections.append(connection._replace(client=client, server=server))
+
+    def written(connection: TakenConnection, side: Side) -> TakenStream:
+        stored = Stored(taken.spool)
+        for number, body in connection.stream(side).records():
+            place = LinePlace(connection.number, side == 'client', number)
+            if place in values:
+                body = with_some(body, place.is_call, procedures[place], values[place])
+            stored.append((LAST_FRAGMENT | len(body)).to_bytes(4, 'big') + body)
+        return TakenStream(stored, None, whole(stored))
+    for one in taken.connections:
+        client, server = (written(one, side) for side in SIDES)
+        out.connections.append(one._replace(client=client, server=server))
     return out
-
-
-def bodies_of(stream: TakenStream, connection: int, side: Side,
-              values: Mapping[LinePlace, Replacements],
-              procedures: Mapping[LinePlace, str]) -> Iterator[bytes]:
-    for number, body in stream.records():
-        place = LinePlace(connection, side == 'client', number)
-        yield (with_some(body, place.is_call, procedures[place], values[place])
-               if place in values else body)
 
 
 def with_some(body: bytes, is_call: bool, procedure: str, values: Replacements) -> bytes:
@@ -154,10 +152,3 @@ def with_some(body: bytes, is_call: bool, procedure: str, values: Replacements) 
             out[item.begin:item.end] = (bytes.fromhex(new) if item.name == 'createverf'
                                         else int(new).to_bytes(item.end - item.begin, 'big'))
     return bytes(out)
-
-
-def stream_of(spool: Spool, bodies: Iterable[bytes]) -> TakenStream:
-    stored = Stored(spool)
-    for body in bodies:
-        stored.append((LAST_FRAGMENT | len(body)).to_bytes(4, 'big') + body)
-    return TakenStream(stored, None, whole(stored))

@@ -19,7 +19,7 @@ from ...exchanges.answering import Answering
 from ...exchanges.listing import Line, LinePlace, Message, line_of, place_of
 from ...exchanges.objects import LISTING, MAKING
 from ...exchanges.searches import (
-    alike_in, first_handle_in, first_name_in, handles_in, names_and_handles_in, pattern_of_items)
+    alike_in, entries_in, first_handle_in, first_name_in, handles_in, pattern_of_items)
 from ..values.bindings import RENAMED
 from ..values.classes import CLASSES, Mask, Way
 
@@ -75,10 +75,6 @@ class HandleOrigins:
 
     def place(self, handle: int, exchange: int, folder: int, name: int) -> None:
         self.origins[handle], self.folders[handle], self.names[handle] = exchange, folder, name
-
-    def origin_of(self, handle: int) -> int | None:
-        """Returns the exchange that says where an object is."""
-        return self.origins[handle] if handle < len(self.known) and self.known[handle] else None
 
     def identities(self, when: Callable[[int], int]) -> 'array[int]':
         """Returns a number for each object that is the same in all runs: of its path, and of how
@@ -199,11 +195,8 @@ class Outlines:
                 known = SEEN if procedure == 'NFSPROC3_LOOKUP' else MADE
                 self.objects.learn(found, folder, name, known, at)
         elif procedure == LISTING:
-            for one in names_and_handles_in(rest):
-                if isinstance(one, int):
-                    self.objects.learn(one, folder, name, SEEN, at)
-                else:
-                    name = hash(one)
+            for entry, handle in entries_in(rest):
+                self.objects.learn(handle, folder, hash(entry), SEEN, at)
 
     def ask_of_objects(self, when: Callable[[int], int]) -> None:
         """Handles have another number in each run. So what a call asks has the objects in their
@@ -249,7 +242,6 @@ class Outlines:
         return self.again.get(at, []), sorted(self.repeated.get(at, ()))
 
     def replies_of(self, at: int) -> list[int]:
-        """Returns the records of a call's replies."""
         return [self.replies[at], *self.further.get(at, ())] if self.replies[at] else []
 
     def all_records_of(self, at: int, is_call: bool) -> list[int]:
@@ -287,7 +279,6 @@ class Outlines:
                     else line.record not in self.repeated.get(at, ())))
 
     def exchanges_of_messages(self, messages: Iterable[Message]) -> list[int]:
-        """Returns the exchange of each of some messages."""
         by_record = cache(self.by_record)
         return [by_record(self.place_of(one.connection), one.is_call)[one.record]
                 for one in messages]
@@ -325,12 +316,12 @@ class Outlines:
 
     def with_origins(self, exchanges: Iterable[int]) -> set[int]:
         """Returns these exchanges, and all that say where their objects are."""
-        out = set(exchanges)
+        out, objects = set(exchanges), self.objects
         waiting = list(out)
         while waiting:
-            for handle in self.objects_of(waiting.pop()):
-                origin = self.objects.origin_of(handle)
-                if origin is not None and origin not in out:
-                    out.add(origin)
-                    waiting.append(origin)
+            handles = self.objects_of(waiting.pop())
+            more = {objects.origins[handle] for handle in handles
+                    if handle < len(objects.known) and objects.known[handle]} - out
+            out |= more
+            waiting += more
         return out

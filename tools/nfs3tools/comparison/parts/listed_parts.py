@@ -9,7 +9,6 @@ import re
 from bisect import bisect_left
 from collections import defaultdict
 from collections.abc import Iterable, Iterator, Sequence
-from functools import cached_property
 from itertools import accumulate, groupby
 
 from ...exchanges.listing import place_of, with_connection
@@ -44,27 +43,23 @@ def listed_at_once(pairs: Iterable[Both]) -> Iterator[list[Both]]:
 
 
 class ListedParts:
-    """The lines of the parts of a trial: those of the captures, and by masks those of their
-    canonical forms."""
+    """The lines of the parts of a trial."""
 
     def __init__(self, trial: Trial, pairs: Sequence[Both]) -> None:
         self.trial = trial
         self.connections = [[part.size().connections for part in parts] for parts in zip(*pairs)]
         self.forms = dict[str, list[PartLines]]()
 
-    @cached_property
-    def recorded(self) -> list[PartLines]:
-        return self.parts_of(map(self.trial.listing, self.trial.captures))
-
-    def canonical(self, mask: Mask) -> list[PartLines]:
-        word = mask_text(mask)
+    def lines(self, mask: Mask | None = None) -> list[PartLines]:
+        """Returns the lines of the parts, or under a mask those of their canonical forms."""
+        word = '' if mask is None else mask_text(mask)
         if word not in self.forms:
-            self.forms[word] = self.parts_of(self.trial.canonical(self.trial.captures, mask))
+            captures = self.trial.captures
+            listings = (map(self.trial.listing, captures) if mask is None
+                        else self.trial.canonical(captures, mask))
+            self.forms[word] = list(zip(*(lines_by_part(listing(), some) for listing, some in zip(
+                listings, self.connections))))
         return self.forms[word]
-
-    def parts_of(self, listings: Iterable[Listing]) -> list[PartLines]:
-        return list(zip(*(lines_by_part(listing(), some)
-                          for listing, some in zip(listings, self.connections))))
 
 
 class PartTrial(Trial):
@@ -92,7 +87,7 @@ class PartTrial(Trial):
     def listing(self, capture: str) -> Listing:
         if capture not in self.captures:
             return super().listing(capture)
-        return self.listed.recorded[self.at][self.captures.index(capture)].__iter__
+        return self.listed.lines()[self.at][self.captures.index(capture)].__iter__
 
     def canonical(self, captures: Sequence[str],
                   mask: Mask | None = None) -> tuple[Listing, Listing]:
@@ -101,7 +96,7 @@ class PartTrial(Trial):
         mask = mask or {}
         if mask_text(mask) not in self.forms:
             self.forms[mask_text(mask)] = [renumbered(lines, mask)
-                                           for lines in self.listed.canonical(mask)[self.at]]
+                                           for lines in self.listed.lines(mask)[self.at]]
         first, second = self.forms[mask_text(mask)]
         return first.__iter__, second.__iter__
 

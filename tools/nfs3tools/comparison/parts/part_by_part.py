@@ -56,7 +56,6 @@ class PartReport:
         return self.report.word() if self.report else f'only in the {self.only} run'
 
     def line(self) -> str:
-        """What is printed of it."""
         said = self.report.line() if self.report else f'{self.word()}: {self.size}'
         return f'{self.name}: {said}'
 

@@ -124,7 +124,6 @@ def mask_of(text: str) -> Mask:
 
 
 def mask_word(text: str) -> str:
-    """Returns the word of `--mask` if it is one."""
     mask_of(text)
     return text
 

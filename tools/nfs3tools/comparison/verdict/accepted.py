@@ -51,38 +51,29 @@ class Accepted:
     def split(self, compared: Compared) -> tuple[Compared, Split]:
         """Returns what is left of a comparison, and what was accepted of it. A finding of which
         some fields are accepted is in both, with its own fields in each."""
-        left, taken, uses = list[Finding](), list[Finding](), Uses(self.entries)
+        left, taken, uses = list[Finding](), list[Finding](), Counter[int]()
+
+        def take(numbers: Iterable[int]) -> bool:
+            """Uses the first of some entries that accepts more, and returns whether there is
+            one."""
+            found = next((number for number in numbers
+                          if uses[number] < self.entries[number].get('times', 1)), None)
+            uses.update([] if found is None else [found])
+            return found is not None
         for finding in compared.findings:
             near = [*self.by_path.get((finding.path,), ()), *self.by_path.get(ANY, ())]
             numbers = [one for one in near if fits(self.entries[one], finding, compared.mask)]
             if not finding.differences:
-                (taken if uses.take(numbers) else left).append(finding)
+                (taken if take(numbers) else left).append(finding)
                 continue
-            some = [uses.take(entries_with(self.entries, numbers, one))
+            some = [take(entries_with(self.entries, numbers, one))
                     for one in finding.differences]
             taken += with_fields(finding, some)
             left += with_fields(finding, (not is_taken for is_taken in some))
-        gone = [entry for number, entry in enumerate(self.entries) if not uses.numbers[number]]
+        gone = [entry for number, entry in enumerate(self.entries) if not uses[number]]
         sides = [one.first is None for one in taken if one.kind == 'only']
         lonely = compared.lonely[0] - sides.count(False), compared.lonely[1] - sides.count(True)
         return replace(compared, findings=left, lonely=lonely), Split(taken, gone)
-
-
-class Uses:
-    """How often each entry has accepted something."""
-
-    def __init__(self, entries: Sequence[AcceptedEntry]) -> None:
-        self.entries, self.numbers = entries, Counter[int]()
-
-    def take(self, numbers: Iterable[int]) -> bool:
-        """Uses the first of some entries that accepts more, and returns whether there is one."""
-        some = (number for number in numbers
-                if self.numbers[number] < self.entries[number].get('times', 1))
-        found = next(some, None)
-        if found is None:
-            return False
-        self.numbers[found] += 1
-        return True
 
 
 def key_of(pattern: str | None) -> object:
@@ -180,7 +171,6 @@ def refusal(path: str, why: str) -> argparse.ArgumentTypeError:
 
 
 def fault_of_entry(entry: object) -> str | None:
-    """Returns what is wrong with an entry."""
     if not isinstance(entry, dict):
         return 'it is no object'
     procedure, which = entry.get('procedure'), {'field', 'only', 'kind'} & entry.keys()

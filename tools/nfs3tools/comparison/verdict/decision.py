@@ -57,7 +57,6 @@ class Report:
         return not all(cover.is_good(Allowed()) for cover in self.covers)
 
     def word(self) -> str:
-        """Returns the verdict as a word."""
         verdict = (self.verdict.partition(' at ')[0].removesuffix(IN_ANY_ORDER)
                    if self.same_under is None else summary.word_of(self.found))
         return f'{verdict} in part' if verdict.startswith('same') and self.is_in_part else verdict

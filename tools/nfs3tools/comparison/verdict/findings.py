@@ -7,7 +7,7 @@ from collections import Counter
 from collections.abc import Callable, Iterable, Iterator, Sequence
 from dataclasses import dataclass, field, replace
 
-from ...exchanges.in_words import short_name
+from ...exchanges.in_words import short
 from ...exchanges.listing import Exchange, Message, line_of
 from ...exchanges.objects import Paths, below
 from ...exchanges.stored import LongValues
@@ -63,7 +63,6 @@ class Finding:
 
     @property
     def run(self) -> str:
-        """The run of that message."""
         return RUNS[self.first is None]
 
 
@@ -312,8 +311,7 @@ class Explaining:
         """Returns a change in words: its procedure, its path, and where it is."""
         apart = self.runs[change.run].apart
         call, path = apart.exchanges[change.at].call, apart.path(change.at) or '?'
-        return (f'{short_name(call.procedure).strip()} {path} at {call.place} of the '
-                f'{RUNS[change.run]} run')
+        return f'{short(call.procedure)} {path} at {call.place} of the {RUNS[change.run]} run'
 
     def place_of(self, finding: Finding) -> tuple[int, int, bool]:
         """Where a finding stands: in the order of the first run; what the second run alone has

@@ -4,6 +4,7 @@ from __future__ import annotations
 from collections import Counter, defaultdict
 from collections.abc import Iterator, Sequence
 
+from ...exchanges.in_words import short
 from ...recordings.selection import count, plural
 from ..values.classes import Mask
 from .findings import RUNS, Compared, replies
@@ -15,11 +16,6 @@ IN_ANOTHER_ORDER, BUT_IDS, BUT_LEFT_OUT = (
 # On a part
 VERDICTS = ('same', BUT_IDS, BUT_LEFT_OUT, IN_ANOTHER_ORDER, 'differ', 'only in the first run',
             'only in the second run')
-
-
-def short(procedure: str) -> str:
-    """Returns a procedure's name without its program's."""
-    return procedure.removeprefix('NFSPROC3_').replace('MOUNTPROC3_', 'MOUNT ')
 
 
 def turns(compared: Compared) -> list[str]:
