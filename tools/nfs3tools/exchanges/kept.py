@@ -5,7 +5,7 @@ for.
         kept.take(program, connection, is_refused=False)     # from the listing of `nfs3canon show`
         for at in kept.in_order(by_latency=False):
             one = kept.exchange(at)
-            print(one.frame, one.path, one.call.items, one.replies[0].items)
+            print(one.frame, one.path, one.asked.words, one.answers)
 """
 from __future__ import annotations
 
@@ -21,7 +21,7 @@ from ..recordings.spool import Spool
 from ..recordings.taken import Completion, TakenConnection
 from .answering import Answering, error_in
 from .in_words import Asked, answer_in, asked_in, short
-from .listing import ITEM, Item, Message, is_call, listed_of, name_of_call
+from .listing import ITEM, Item, is_call, listed_of, name_of_call
 from .objects import LISTING, MAKING, RENAMING, TEACHING, UNKNOWN, Move, Paths, below
 from .stored import LongValues, Texts, without_long
 
@@ -67,7 +67,7 @@ class KeptExchange:
     """A call, with its retransmissions and its replies. What they say is read once it is asked for.
 
     part: its connection
-    sent: its call; `record`, `frame` and `time` are of that
+    record, frame, time: those of its call
     again: its retransmissions
     answered: its replies
     latency: nanoseconds to the first reply
@@ -85,32 +85,12 @@ class KeptExchange:
         return None if latency == UNTIMED else latency
 
     @property
-    def sent(self) -> SentRecord:
-        return SentRecord(self.record, self.frame, self.time, self.kept.sizes[self.at])
-
-    @property
     def again(self) -> Sequence[SentRecord]:
         return self.kept.again.get(self.at, ())
 
     @property
     def answered(self) -> Sequence[SentRecord]:
         return [self.kept.reply(number) for number in self.kept.replies_of(self.at)]
-
-    @cached_property
-    def call(self) -> Message:
-        """What is asked, with all items."""
-        kept = self.kept
-        return Message(self.part.number, 'client', self.record, kept.xids[self.at],
-                       kept.listed_name(self.at), kept.asking[self.at], kept.values, self.frame,
-                       self.time)
-
-    @cached_property
-    def replies(self) -> list[Message]:
-        """What is answered, with all items."""
-        kept, call = self.kept, (self.kept.xids[self.at], self.kept.listed_name(self.at))
-        some = ((kept.reply(number), number) for number in kept.replies_of(self.at))
-        return [Message(self.part.number, 'server', one.record, *call, kept.answering[number],
-                        kept.values, one.frame, one.time) for one, number in some]
 
     @cached_property
     def asked(self) -> Asked:

@@ -87,7 +87,6 @@ class Message:
 
     text: its items as the listing has them after the procedure, with marks for long values, which
         `values` has
-    frame, time: of the frame that completed it; 0 if there is none
     """
     connection: int
     side: str
@@ -96,8 +95,6 @@ class Message:
     procedure: str
     text: str = ''
     values: LongValues | None = field(default=None, repr=False, compare=False)
-    frame: int = 0
-    time: int = 0
 
     @property
     def is_call(self) -> bool:

@@ -43,8 +43,7 @@ class Long:
 
     def read(self, begin: int, end: int) -> bytes:
         """Returns the bytes from one place up to another, or up to the end."""
-        return os.pread(self.file.fileno(), max(0, min(end, self.size) - begin),
-                        self.begin + begin)
+        return os.pread(self.file.fileno(), max(0, min(end, self.size) - begin), self.begin + begin)
 
     def shown(self, number: int) -> str:
         """Returns the given number of its first digits."""

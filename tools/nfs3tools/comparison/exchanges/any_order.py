@@ -9,7 +9,7 @@ from functools import cached_property
 from ...exchanges.in_words import LISTINGS
 from ...recordings.taken import Taken
 from ..values.classes import Mask
-from .changes import BothChanges, Change, Changes
+from .changes import BothChanges, Change, Changes, Turns, is_quiet
 from .explained import Doubt, free_items
 from .extras import Extras, ReasonsOfCalls, refused
 from .facts import Facts
@@ -17,7 +17,6 @@ from .followed import Followed, partners_of, with_values
 from .matching import Pair
 from .outlines import Outlines
 from .pairing import Listing, Pairing
-from .turns import Turns, is_quiet
 
 
 @dataclass

@@ -87,8 +87,7 @@ class Pairing:
 
     def alone(self, run: int) -> list[int]:
         """Returns the exchanges of a run that have no partner."""
-        return [at for at, other in enumerate((self.partners, self.owners)[run])
-                if other == NOBODY]
+        return [at for at, other in enumerate((self.partners, self.owners)[run]) if other == NOBODY]
 
     @cached_property
     def is_in_place(self) -> bool:

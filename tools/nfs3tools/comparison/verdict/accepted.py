@@ -66,8 +66,7 @@ class Accepted:
             if not finding.differences:
                 (taken if take(numbers) else left).append(finding)
                 continue
-            some = [take(entries_with(self.entries, numbers, one))
-                    for one in finding.differences]
+            some = [take(entries_with(self.entries, numbers, one)) for one in finding.differences]
             taken += with_fields(finding, some)
             left += with_fields(finding, (not is_taken for is_taken in some))
         gone = [entry for number, entry in enumerate(self.entries) if not uses[number]]

@@ -18,8 +18,7 @@ from ..exchanges.matching import Pair
 from ..exchanges.outlines import Outlines
 from ..exchanges.pairing import NOBODY, Listing, Pairing
 from ..values.classes import Mask
-from .arguments import Argument, arguments_of
-from .differences import Comparison, Difference
+from .differences import Argument, Comparison, Difference, arguments_of
 from .excerpt import Around, Beside, ExcerptRow, Shown
 
 RUNS = ('first', 'second')
