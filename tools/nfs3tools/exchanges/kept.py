@@ -154,8 +154,12 @@ class KeptExchange:
     def waited(self) -> int | None:
         """Nanoseconds without a reply: up to one on a later connection, or to the recording's
         end."""
-        is_known = not self.kept.firsts[self.at] and not self.part.is_refused
-        return self.kept.waited(self.at) if is_known else None
+        kept = self.kept
+        if kept.firsts[self.at] or self.part.is_refused:
+            return None
+        later = kept.answered_later(self.at)
+        end = kept.ended if later is None else kept.reply_times[kept.firsts[later] - 1]
+        return end - self.time if end and self.time else None
 
     @property
     def earlier(self) -> str | None:
@@ -246,7 +250,9 @@ class Kept:
         Raises what `listed_of` does.
         """
         paths = self.paths.setdefault(connection.server_end.rpartition(':')[0], Paths())
-        has_all = not is_refused and has_all_replies(connection)
+        # (all replies are recorded if the end is, and no byte is missing but for the beginning)
+        lacks = bool(connection.missing or {*connection.lacks} - {BEGUN_BEFORE})
+        has_all = not is_refused and connection.is_closed and not lacks
         self.starts.append(len(self))
         self.parts.append(KeptConnection(connection.number, connection.client_end,
                                          connection.server_end, paths, is_refused, has_all))
@@ -301,13 +307,6 @@ class Kept:
         before = self.earlier.get(at)
         return before is None or bool(self.firsts[before])
 
-    def waited(self, at: int) -> int | None:
-        """Returns for how many nanoseconds a call without a reply waited: until it was answered on
-        a later connection, or until the end of the recording."""
-        later = self.answered_later(at)
-        end = self.ended if later is None else self.reply_times[self.firsts[later] - 1]
-        return end - self.times[at] if end and self.times[at] else None
-
     def answered_later(self, at: int) -> int | None:
         """Returns the same call on a later connection on which it was answered, if there is one."""
         later = self.later.get(at)
@@ -354,13 +353,6 @@ class Kept:
     @property
     def has_latencies(self) -> bool:
         return any(self.latency(at) != UNTIMED for at in range(len(self)))
-
-
-def has_all_replies(connection: TakenConnection) -> bool:
-    """Whether all replies of a connection are recorded: its end is, and no byte is missing but for
-    its beginning."""
-    lacks = set(connection.lacks) - {BEGUN_BEFORE}
-    return connection.is_closed and not (connection.missing or lacks)
 
 
 def host_of(end: str) -> str:

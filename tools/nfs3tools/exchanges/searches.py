@@ -49,11 +49,6 @@ class ReplyPart(NamedTuple):
     name: str | None = None
     handle: int | None = None
 
-    @property
-    def is_of_attributes(self) -> bool:
-        """Whether it is attributes, or that there are none."""
-        return self.name is None and self.handle is None
-
 
 def parts_in(text: str) -> Iterator[ReplyPart]:
     for found in REPLY_PART.finditer(text):

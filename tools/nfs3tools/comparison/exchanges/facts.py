@@ -59,9 +59,10 @@ def facts_in_reply(procedure: str, handles: Sequence[int], name: str, text: str)
         return entry_facts(handles[0], parts)
     is_done = ' status=0' in text
     found = next((part.handle for part in parts if part.handle is not None), 0)
+    # (attributes, or that there are none)
+    shown = (part for part in parts if part.name is None and part.handle is None)
     told = [statement_of(part, owner)
-            for part, owner in zip(filter(lambda part: part.is_of_attributes, parts),
-                                   owners_of(procedure, handles, found, is_done))
+            for part, owner in zip(shown, owners_of(procedure, handles, found, is_done))
             if part.attributes and owner]
     is_lead = procedure in MAKING and found or procedure == LOOKUP and ' status=2' in text
     return ReplyFacts(told, [(handles[0], name, found)] if is_lead else [])

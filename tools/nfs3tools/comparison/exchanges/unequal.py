@@ -10,7 +10,7 @@ from ..values.classes import Mask
 from .outlines import Outlines, classes_of_items, renamed_values
 from .pairing import Listing
 
-TurnKey = tuple[bool, int]
+TurnKey = tuple[bool, int]  # whether a line is of a reply, and the turn of its exchange
 KeyedLines = tuple[TurnKey, list[str]]
 NO_LINES: KeyedLines = (True, 1 << 62), []
 
@@ -35,14 +35,10 @@ class TwoListings:
     def turn_of(self, line: str) -> int:
         return xid_of(line) - 1
 
-    def key_of(self, line: str) -> TurnKey:
-        """Returns whether a line is of a reply, and the turn of its exchange."""
-        return not place_of(line).is_call, self.turn_of(line)
-
     def messages(self, lines: Iterable[str]) -> Iterator[KeyedLines]:
         """Returns the calls, and then the replies to each call, without their records' numbers."""
-        for key, some in groupby(lines, self.key_of):
-            yield key, list(map(said_in, some))
+        return ((key, list(map(said_in, some))) for key, some in groupby(
+            lines, lambda line: (not place_of(line).is_call, self.turn_of(line))))
 
     def unequal(self) -> set[int]:
         """Returns the turns of the exchanges that are listed in another way."""
