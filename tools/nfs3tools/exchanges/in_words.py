@@ -9,7 +9,7 @@ from __future__ import annotations
 
 import functools
 import re
-from collections.abc import Iterable, Iterator, Mapping
+from collections.abc import Callable, Iterable, Iterator, Mapping
 from typing import NamedTuple, Optional
 
 from ..shared.layouts import RAW, VALUES, meaning_of
@@ -45,7 +45,6 @@ OF_TWO = ('NFSPROC3_RENAME', 'NFSPROC3_LINK')
 LISTINGS = frozenset(('NFSPROC3_READDIR', 'NFSPROC3_READDIRPLUS'))
 SPLIT = re.compile(r'\\(?:x[0-9a-f]?)?$')  # the beginning of a byte that is spelled by its digits
 NAMED = {'access', 'committed', 'how', 'mode', 'stable', 'type'}  # items whose numbers have names
-SEVERAL = {'sattr', 'guard', 'device', 'end', 'target'}  # what means several items
 NOT_READ = 'accepted'  # what is said of results that are not read
 
 
@@ -114,27 +113,23 @@ def filled(template: str, items: Iterable[tuple[str, str]]) -> str:
     values = dict(items)
     for name in not_plain(template):
         values[name] = (number_named(name, values[name]) if name in NAMED
-                        else of_several(name, values))
+                        else SEVERAL[name](values))
     return template.format_map(values)
 
 
 @functools.cache
 def not_plain(template: str) -> list[str]:
     """Returns the names in a template of what is not said as its item spells it."""
-    return [name for name in re.findall(r'{(\w+)}', template) if name in NAMED | SEVERAL]
+    return [name for name in re.findall(r'{(\w+)}', template) if name in NAMED | SEVERAL.keys()]
 
 
-def of_several(name: str, values: Mapping[str, str]) -> str:
-    """Returns what a name in a template means that is not that of an item."""
-    if name == 'sattr':
-        return ''.join(f' {word}' for word in settings_in_words(values))
-    if name == 'guard':
-        return ' guarded' if values['check'] == '1' else ''
-    if name == 'device':
-        return ' {spec1}:{spec2}'.format_map(values) if 'spec1' in values else ''
-    if name == 'end':
-        return ' eof' if values['eof'] == '1' else ''
-    return beginning_of(values['path'].strip('"'))
+# What a name in a template means that is not that of an item
+SEVERAL: Mapping[str, Callable[[Mapping[str, str]], str]] = {
+    'sattr': lambda values: ''.join(f' {word}' for word in settings_in_words(values)),
+    'guard': lambda values: ' guarded' * (values['check'] == '1'),
+    'device': lambda values: ' {spec1}:{spec2}'.format_map(values) if 'spec1' in values else '',
+    'end': lambda values: ' eof' * (values['eof'] == '1'),
+    'target': lambda values: beginning_of(values['path'].strip('"'))}
 
 
 @functools.lru_cache(TEXTS_KEPT_AT_MOST)

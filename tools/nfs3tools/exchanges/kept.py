@@ -152,8 +152,7 @@ class KeptExchange:
 
     @property
     def waited(self) -> int | None:
-        """Nanoseconds without a reply: up to one on a later connection, or to the recording's
-        end."""
+        """Nanoseconds without a reply: to one on a later connection, or the recording's end."""
         kept = self.kept
         if kept.firsts[self.at] or self.part.is_refused:
             return None

@@ -54,8 +54,7 @@ class FoundHandle(NamedTuple):
 
 
 class Move(NamedTuple):
-    """A RENAME: the frame that completed its reply, and the folder and the name before and
-    after."""
+    """A RENAME: the frame that completed its reply, and folder and name before and after."""
     frame: int
     folder: str
     name: str
@@ -81,8 +80,7 @@ class Paths:
         return Names(self)
 
     def of(self, handle: str) -> str | None:
-        """Returns the path of a handle, in hexadecimal, if one is known. A folder that is not known
-        is `?`."""
+        """Returns the path of a handle, if one is known. A folder that is not known is `?`."""
         if handle not in self.origins:
             return None
         # (by steps, since a folder may be thousands of folders below the first; in a circle, as no

@@ -105,8 +105,7 @@ def without_long(text: str) -> str:
 
 
 class Texts:
-    """Texts in a temporary file, numbered from 0. Those that are near one another are read at
-    once."""
+    """Texts in a temporary file, numbered from 0. Those near one another are read at once."""
 
     def __init__(self, spool: Spool) -> None:
         self.stored, self.begins, self.size = Stored(spool), array('Q', [0]), 0

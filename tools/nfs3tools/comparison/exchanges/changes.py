@@ -222,8 +222,7 @@ class Changes:
         return '' if is_known else 'a size that no other answer has'
 
     def end_of_writes(self, at: int, identity: int) -> int:
-        """Returns the largest end of the WRITEs to an object that were sent before an answer, or
-        -1."""
+        """Returns the largest end of WRITEs to an object that were sent before an answer, or -1."""
         return max((self.facts.ends[one] for one in self.of_key.get(identity, ())
                     if one in self.facts.ends
                     and self.frames_of(one)[0] < self.frames_of(at)[1]), default=-1)

@@ -77,8 +77,7 @@ class Reply:
         return self.folder
 
     def fields(self, some: range | None = None, entry: int | None = None) -> list[Field]:
-        """Returns all items, or some. `entry` is the object of the directory's entry in which they
-        are."""
+        """Returns all items, or some. `entry` is the object of the entry in which they are."""
         out = list[Field]()
         for at in range(len(self.message.items)) if some is None else some:
             owners, item = self.labels.slots[at].owners, self.message.items[at]
@@ -112,8 +111,7 @@ def free_items(mask: Mask) -> frozenset[str]:
 
 
 class Doubt:
-    """A pair of answers that differ, and which changes explain it. `free` are the items that may
-    differ."""
+    """A pair of answers that differ, and what explains it. Items that are `free` may differ."""
 
     def __init__(self, changes: BothChanges, pair: Pair, mask: Mask, free: frozenset[str]) -> None:
         self.changes, self.pair, self.mask, self.free = changes, pair, mask, free
@@ -213,8 +211,7 @@ class Doubt:
                     raise Unexplained
 
     def is_told(self, run: int, identity: int, size: Optional[str], nlink: Optional[str]) -> bool:
-        """Whether another answer says a size and a count of links, or a WRITE explains the
-        size."""
+        """Whether another answer has a size and a count of links, or a WRITE the size."""
         others = [fact.attributes for number, facts in enumerate(self.facts)
                   for fact in facts.facts_of(identity)
                   if (number, fact.at) != (run, self.pair[run])]
@@ -227,8 +224,7 @@ class Doubt:
     # --- Folders ---
 
     def of_listing(self) -> list[Change]:
-        """Entries may differ whose names were changed otherwise. All others are there in one
-        order."""
+        """Entries may differ whose names were changed otherwise. All others are in one order."""
         parts = [reply.message.entries() for reply in self.both]
         found = list[Change]()
         for some in ([head for head, _, _ in parts], [tail for _, _, tail in parts]):

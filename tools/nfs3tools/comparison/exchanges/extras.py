@@ -42,8 +42,7 @@ class Extras:
                 self.facts.names.get(at, ()))
 
     def more_than(self, other: 'Extras') -> dict[str, str]:
-        """Returns the procedures of which this run has too many more calls, and what is said of
-        that."""
+        """Returns the procedures of which this run has too many more calls, each in words."""
         own, its = (Counter(map(one.outlines.procedure_of, one.some)) for one in (self, other))
         totals = Counter(map(self.outlines.procedure_of, range(len(self.outlines))))
         return {procedure: f'{short(procedure)}: {more:,} more than {most:,}'

@@ -11,7 +11,7 @@ from functools import cached_property
 from typing import NamedTuple
 
 from ...exchanges.in_words import LISTINGS
-from ...exchanges.listing import Line, Message, line_of
+from ...exchanges.listing import Line, Message
 from ...exchanges.objects import MAKING
 from ...exchanges.searches import (
     ReplyPart, SpelledAttributes, access_in, end_of_write_in, names_in, parts_in, settings_in)
@@ -129,7 +129,7 @@ class Facts:
         # By folders and names of entries, two exchanges that say them.
         self.entries = dict[tuple[int, str], tuple[int, ...]]()
         self.asked_bits = dict[int, str]()
-        for at, line in outlines.located(map(line_of, lines)):
+        for at, line in outlines.located(lines):
             (self.take_call if line.is_call else self.take_reply)(at, line)
 
     def take_call(self, at: int, line: Line) -> None:

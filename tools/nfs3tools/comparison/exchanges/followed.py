@@ -53,17 +53,16 @@ class Followed:
         self.cookies = self.cookies_of(listings) if 'cookies' in classes else {}
         self.has_ids = not classes.isdisjoint(('ids', 'fsids'))
         self.values = dict[LinePlace, Replacements]()
-        for at, line in pairing.there.each(map(line_of, listings[1]())):
+        for at, line in pairing.there.each(listings[1]()):
             values = self.of_call(at, line) if line.is_call else self.of_reply(at, line)
             changed = {key: new for key, new in values.items() if key[1] != new}
             if changed:
                 self.values[LinePlace(line.connection, line.is_call, line.record)] = changed
 
     def verifiers_of(self, listings: tuple[Listing, Listing]) -> dict[tuple[int, str], str]:
-        """Returns the verifiers of exclusive creates, by what is created and the second run's
-        verifier."""
+        """Returns verifiers of exclusive creates, by what is created and the second run's."""
         firsts, seconds = (
-            {at: verifier for at, line in outlines.located(map(line_of, listing()))
+            {at: verifier for at, line in outlines.located(listing())
              if line.is_call and line.procedure == CREATE and (verifier := verifier_in(line.text))}
             for outlines, listing in zip((self.pairing.here, self.pairing.there), listings))
         out = dict[tuple[int, str], str]()
@@ -76,7 +75,7 @@ class Followed:
         """Returns the cookies of the first run, by the second run's folders and cookies."""
         first, second = (
             {(outlines.folders[at], name): cookie
-             for at, line in outlines.located(map(line_of, listing()))
+             for at, line in outlines.located(listing())
              if not line.is_call and line.procedure in LISTINGS
              for name, cookie in cookies_of_names_in(line.text)}
             for outlines, listing in zip((self.pairing.here, self.pairing.there), listings))

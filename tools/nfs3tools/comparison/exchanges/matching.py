@@ -26,8 +26,7 @@ class Block(NamedTuple):
 
 
 def increasing(pairs: Sequence[Pair]) -> list[Pair]:
-    """Returns a longest selection of pairs, given in the order of their firsts, whose seconds
-    increase."""
+    """Returns most of some pairs, sorted by their firsts, so that their seconds increase."""
     tails: list[int] = []
     at: list[int] = []
     before: list[int] = []

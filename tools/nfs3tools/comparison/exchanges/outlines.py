@@ -47,8 +47,7 @@ When = Callable[[int, int], int]
 
 
 class HandleOrigins:
-    """What file handles mean: the folder and the name by which each was made, or else reached
-    first."""
+    """What file handles mean: folder and name by which each was made, or else reached first."""
 
     def __init__(self) -> None:
         self.folders, self.names, self.known, self.origins = (
@@ -199,8 +198,7 @@ class Outlines:
                 self.objects.learn(handle, folder, hash(entry), SEEN, at)
 
     def ask_of_objects(self, when: Callable[[int], int]) -> None:
-        """Handles have another number in each run. So what a call asks has the objects in their
-        place."""
+        """In what a call asks, objects take the place of handles, which each run numbers anew."""
         identities = self.objects.identities(when)
         identities.extend([0] * (1 + max(
             max(self.folders, default=0), max(self.seconds.values(), default=0),
@@ -237,8 +235,7 @@ class Outlines:
         return self.connections[self.connection_of(at)], self.records[at]
 
     def sent_again(self, at: int) -> tuple[list[int], list[int]]:
-        """Returns the records of a call's retransmissions, and of replies that say the same
-        again."""
+        """Returns the records of retransmissions, and of replies that say the same again."""
         return self.again.get(at, []), sorted(self.repeated.get(at, ()))
 
     def replies_of(self, at: int) -> list[int]:
@@ -263,17 +260,16 @@ class Outlines:
                 out[record] = at
         return out
 
-    def each(self, lines: Iterable[Line]) -> Iterator[tuple[int, Line]]:
+    def each(self, lines: Iterable[str]) -> Iterator[tuple[int, Line]]:
         """Iterates over the lines of a listing of the run, each with its exchange."""
-        for connection, some in groupby(lines, attrgetter('connection')):
+        for connection, some in groupby(map(line_of, lines), attrgetter('connection')):
             place = self.place_of(connection)
             replies, calls = self.by_record(place, False), self.by_record(place, True)
             for line in some:
                 yield (calls if line.is_call else replies)[line.record], line
 
-    def located(self, lines: Iterable[Line]) -> Iterator[tuple[int, Line]]:
-        """Iterates over the same, but for calls that were sent again, and replies that say the same
-        again."""
+    def located(self, lines: Iterable[str]) -> Iterator[tuple[int, Line]]:
+        """The same, but for retransmissions, and for replies that say the same again."""
         return ((at, line) for at, line in self.each(lines)
                 if (line.record == self.records[at] if line.is_call
                     else line.record not in self.repeated.get(at, ())))

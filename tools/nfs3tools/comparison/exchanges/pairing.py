@@ -81,8 +81,7 @@ class Pairing:
         return self.owners[at] if self.owners[at] != NOBODY else -3 - 2 * at
 
     def matched(self, run: int) -> 'array[int]':
-        """Returns the exchanges of a run, 0 or 1, that have a partner, in the order of the first
-        run."""
+        """Returns the exchanges of a run that have a partner, in the order of the first run."""
         return array('I', (pair[run] for pair in self.pairs()))
 
     def alone(self, run: int) -> list[int]:
@@ -98,8 +97,7 @@ class Pairing:
                          'repeated'))
 
     def home_of(self, place: int) -> range:
-        """Returns the exchanges of the connection to which one of the first run belongs, by its
-        place among all."""
+        """Returns the exchanges of the second run's connection that belongs to one of the first."""
         return (self.there.exchanges_of(self.homes[place]) if self.homes[place] != NOBODY
                 else range(0))
 
@@ -155,8 +153,7 @@ class Pairing:
 
     @cached_property
     def places_of_homes(self) -> dict[int, int]:
-        """The places of the connections of the first run, by those of the second that belong to
-        them."""
+        """The places of connections of the first run, by those of the second that belong there."""
         return {home: place for place, home in enumerate(self.homes) if home != NOBODY}
 
     def turns_of_replies(self, place: int) -> 'array[int]':
@@ -174,8 +171,7 @@ class Pairing:
     # --- Matching ---
 
     def in_order(self) -> None:
-        """Binds exchanges that are equal, as they follow one another in connections that belong
-        together."""
+        """Binds equal exchanges, as they follow one another in connections that are matched."""
         for place, own in enumerate(map(self.here.exchanges_of, range(len(self.homes)))):
             its = self.home_of(place)
             for at, to, size in blocks_of(self.here.said[own.start:own.stop],
@@ -300,8 +296,7 @@ def keys_in(first: Mapping[int, Hashable], second: Mapping[int, Hashable]) -> Ke
 
 
 def several(pairing: Pairing) -> tuple[set[int], set[int]]:
-    """Returns the exchanges without a partner of which several ask the same, and both runs have
-    some."""
+    """Returns the exchanges without a partner of which both runs have some that ask the same."""
     left = [{at: run.asked[at] for at in pairing.alone(number)}
             for number, run in enumerate(pairing.runs)]
     asked, asked_there = (Counter(some.values()) for some in left)

@@ -102,8 +102,7 @@ class PartTrial(Trial):
 
 
 def lines_by_part(lines: Iterable[str], connections: Sequence[int]) -> list[list[str]]:
-    """Returns the lines of each part, by how many connections it has, whose numbers begin with
-    1."""
+    """Returns the lines of each part, by how many connections it has, numbered from 1."""
     out, ends = [list[str]() for _ in connections], list(accumulate(connections, initial=0))
     for number, some in groupby(lines, lambda line: place_of(line).connection):
         part = bisect_left(ends, number) - 1
@@ -113,8 +112,7 @@ def lines_by_part(lines: Iterable[str], connections: Sequence[int]) -> list[list
 
 
 def renumbered(lines: Iterable[str], mask: Mask) -> list[str]:
-    """Returns lines in which renamed values have numbers by their first appearance in these. Zeros
-    stay."""
+    """Returns lines in which renamed values are numbered by first appearance. Zeros stay."""
     classes, numbers = classes_of_items(mask), defaultdict[str, dict[str, int]](dict)
 
     def number(found: re.Match[str]) -> str:

@@ -166,8 +166,7 @@ class MarkedRun:
             self.parts[0].sides_of(connection.number)
 
     def taken_of(self, parts: Iterable[RunPart]) -> Taken:
-        """Returns what is taken of some parts, one after the other. It ends with what is taken of
-        the run."""
+        """Returns what is taken of some parts in their order. It ends with that of the run."""
         out = Taken(self.taken.spool, self.taken.is_recording, self.taken.has_frames)
         pieces = chain.from_iterable(part.pieces.items() for part in parts)
         for number, (own, sides) in enumerate(pieces, 1):

@@ -127,8 +127,7 @@ class PartByPart:
             return trial.same(trial.captures, self.choices.masks[0]) == 'same'
 
     def each(self, pairs: Sequence[Both]) -> Iterator[tuple[Both, Report]]:
-        """Judges each of some parts. They are listed at once, unless it is one, which may be
-        large."""
+        """Judges each of some parts, which are listed at once. A single one may be large."""
         if len(pairs) == 1:
             with self.trial(pairs) as trial:
                 yield pairs[0], self.alone(trial, *pairs[0])

@@ -9,8 +9,7 @@ RENAMED = {'fh': HANDLES, 'verf': VERIFIERS}  # by the names of items
 
 @dataclass
 class Bindings:
-    """For each class of renamed values, which value of the second run belongs to which of the
-    first."""
+    """By classes of renamed values, which of the second run belongs to which of the first."""
     forth: dict[tuple[str, str], str] = field(default_factory=dict)
     back: dict[tuple[str, str], str] = field(default_factory=dict)
 

@@ -40,8 +40,7 @@ class ValueClass:
     is_raw: bool = False
 
     def has(self, name: str, is_call: bool) -> bool:
-        """Returns whether an item of this name in a call, or in a reply, may be one of the
-        class."""
+        """Returns whether an item of this name, in a call or a reply, may be of the class."""
         return (name in self.items and (is_call or name not in self.only_in_calls)
                 and not (is_call and self.is_of_changes))
 

@@ -42,8 +42,7 @@ def bytes_of(value: str) -> bytes:
 
 
 def content_of(value: Value) -> bytes | Long:
-    """Returns the bytes of a value of a listing: of a string in quotes, or of hexadecimal
-    digits."""
+    """Returns the bytes of a value of a listing: a string in quotes, or hexadecimal digits."""
     return value if isinstance(value, Long) else bytes_of(value)
 
 

@@ -54,8 +54,7 @@ class Accepted:
         left, taken, uses = list[Finding](), list[Finding](), Counter[int]()
 
         def take(numbers: Iterable[int]) -> bool:
-            """Uses the first of some entries that accepts more, and returns whether there is
-            one."""
+            """Uses the first entry that accepts more, and returns whether there is one."""
             found = next((number for number in numbers
                           if uses[number] < self.entries[number].get('times', 1)), None)
             uses.update([] if found is None else [found])
@@ -134,8 +133,7 @@ def entries_with(entries: Sequence[AcceptedEntry], numbers: Iterable[int],
 
 
 def values_by_run(difference: Difference) -> dict[str, str | None]:
-    """Returns both values as an entry has them: of long ones their digests, of file handles the
-    paths."""
+    """Returns both values as an entry has them: digests of long ones, paths of file handles."""
     both = difference.objects or (difference.first, difference.second)
     return {side: None if value is None else str(value) for side, value in zip(RUNS, both)}
 

@@ -120,7 +120,7 @@ class Cover:
                     for word in words if number[word])
         others = [one.reason for one in self.covered if not is_connection(one)]
         yield from (f'{reason} ({name} run)'
-                    for reason in [*others, *([self.taken.damage] if self.taken.damage else [])])
+                    for reason in [*others, *filter(None, [self.taken.damage])])
 
 
 def is_connection(covered: Covered) -> bool:
@@ -162,8 +162,7 @@ def checked_size(answer: Answer) -> Size:
 
 
 def fault_with_frame(taken: Taken, connection: TakenConnection, answer: Answer) -> str:
-    """Returns the fault of a connection that was checked alone, with its place in the run and its
-    frame."""
+    """Returns the fault of a connection that was checked alone, at its place, with its frame."""
     fault = parse_fault(answer.error)
     if fault is None or isinstance(fault.place, FilePlace):
         raise Died(f'nfs3canon check prints {answer.error.strip()!r}')

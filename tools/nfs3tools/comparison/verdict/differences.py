@@ -50,8 +50,7 @@ class Difference:
 
     @property
     def is_equal(self) -> bool:
-        """Whether both runs have one value here, which means others elsewhere: the remark says
-        for which."""
+        """Whether both runs have one value here, which the remark says is another elsewhere."""
         return self.first == self.second and self.apart is None
 
 
@@ -192,8 +191,7 @@ class Comparison:
 
     def of_entries(self, here: RunMessage, first: list[range], there: RunMessage,
                    second: list[range]) -> Iterator[Difference]:
-        """Yields how the entries of two directories differ, and whether they come in another
-        order."""
+        """Yields how the entries of two directories differ, also in their order."""
         ours = by_name((self.key_of_entry(here, entry), entry) for entry in first)
         theirs = by_name((self.key_of_entry(there, entry), entry) for entry in second)
         yield from (of_entry(entry_name(here, entry), None) for key, entry in ours.items()

@@ -93,8 +93,7 @@ class Shown:
         return self.followed[place][to - own.start]
 
     def place_of(self, pair: Pair) -> int:
-        """Returns the place of the connection of the first run where a pair is shown, or one behind
-        all."""
+        """Returns the place of the first run's connection where a pair is shown, or one behind."""
         at, to = pair
         if at != NOBODY:
             return self.here.connection_of(at)
@@ -122,8 +121,7 @@ class Shown:
                 if partners[one] != NOBODY)
 
     def beside(self, row: Callable[[Pair, bool], ExcerptRow]) -> Beside:
-        """Returns what is shown. `row` returns a pair taken apart, and is given whether it is
-        reported."""
+        """Returns what is shown. `row` takes a pair apart, given whether it is reported."""
         groups = groupby(sorted(self.pairs, key=self.key_of), self.connections_of)
         connections = {both: list(self.rows(both[0], list(pairs), row)) for both, pairs in groups}
         others = [place for place in range(len(self.pairing.homes))

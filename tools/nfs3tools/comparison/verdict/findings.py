@@ -252,8 +252,7 @@ class Explaining:
 
     def of_turns(self, unequal: set[int], turns: set[int],
                  comparison: Comparison) -> Iterator[tuple[Pair, Finding]]:
-        """The differences between matched exchanges. Those of equal ones bind what
-        belongs to what."""
+        """The differences between matched exchanges. Equal ones bind what belongs to what."""
         here, there = self.runs
         for turn in (*sorted(turns - unequal), *sorted(unequal)):
             at, to = here.order[turn], there.order[turn]

@@ -35,8 +35,7 @@ class Ignored(NamedTuple):
 
 
 def ignored_of(text: str) -> list[Ignored]:
-    """Reads the word of `--ignore`. Raises `ArgumentTypeError` if no procedure or field has a
-    name."""
+    """Reads the word of `--ignore`. Raises `ArgumentTypeError` if a name is of none."""
     return [one_of(word) for word in WORD.findall(text)]
 
 

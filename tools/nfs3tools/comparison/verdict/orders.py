@@ -83,8 +83,7 @@ class Orders:
         self.explaining = Explaining(self.runs, self.pairing, self.leaves_out, explanation)
 
     def found(self) -> Outcome:
-        """Finds what differs, or that nothing does in another order, and what of it was
-        accepted."""
+        """Finds what differs, or that another order is the same, and what was accepted."""
         found = self.found_of_all()
         found = replace(found, whole=found.compared if found.same_under is None else None)
         if self.choices.accepted is None:
@@ -109,8 +108,7 @@ class Orders:
         return replace(found, same_under=mask) if self.is_same(mask) else found
 
     def is_in_own_order(self) -> bool:
-        """Whether the order counts, or makes no difference. Then reordered calls are
-        findings."""
+        """Whether the order counts, or makes no difference: reordered calls are findings."""
         order = self.choices.order
         return order == 'strict' or order is None and not self.explaining.has_another_order()
 

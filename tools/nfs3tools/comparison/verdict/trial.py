@@ -86,8 +86,7 @@ class Trial:
         return [program_beside(self.program, 'nfs3mask'), capture, name, *words]
 
     def same(self, captures: Sequence[str], mask: Mask) -> str:
-        """Returns what the program says of two captures under a mask: `same`, or where they
-        differ."""
+        """Returns what the program says of two captures: `same`, or where they differ."""
         masked = self.masked(captures, mask)
         key = masked[0], masked[1]
         if key not in self.said:
