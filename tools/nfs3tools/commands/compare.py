@@ -75,7 +75,6 @@ from pathlib import Path
 from typing import NamedTuple
 
 from ..comparison.exchanges.pairing import ASKING
-from ..comparison.parts.marks import NoMark
 from ..comparison.parts.part_by_part import PartByPart
 from ..comparison.values.classes import CLASSES, following, in_any_order, mask_text, mask_word
 from ..comparison.verdict import summary
@@ -381,7 +380,7 @@ def main(words: list[str]) -> int:
     try:
         stack.enter_context(printed_beside(outputs_of(chosen)))
         return compared_runs(chosen, stack)
-    except (NoMark, NothingToCompare) as nothing:
+    except NothingToCompare as nothing:
         write_error(chosen, str(nothing))
         return ended('compare', str(nothing), REFUSED)
     except NotTaken as refused:

@@ -100,13 +100,6 @@ class Change(NamedTuple):
     at: int
 
 
-class MetChanges(NamedTuple):
-    """The changes of a key as a question meets them, by their names: those that were answered
-    before it was sent, and those that overlap it."""
-    done: dict[int, int]
-    over: dict[int, int]
-
-
 class Changes:
     """The changes of a run, 0 or 1, by what they are of, and what its answers say. If frames do not
     say when calls were sent, no change is known."""
@@ -150,8 +143,9 @@ class Changes:
         handles = [*self.outlines.objects_of(at), self.outlines.found[at]]
         return filter(None, (self.identity(handle) for handle in handles if handle))
 
-    def met(self, at: int, key: ChangeKey) -> MetChanges:
-        """Returns the changes of a key as an exchange meets them."""
+    def met(self, at: int, key: ChangeKey) -> tuple[dict[int, int], dict[int, int]]:
+        """Returns the changes of a key as a question meets them, by their names: those that were
+        answered before it was sent, and those that overlap it."""
         begin, end = self.frames_of(at)
         done, over = dict[int, int](), dict[int, int]()
         for change in self.of_key.get(key, ()):
@@ -162,7 +156,7 @@ class Changes:
                 done[self.named(change)] = change
             elif its_begin < end:
                 over[self.named(change)] = change
-        return MetChanges(done, over)
+        return done, over
 
     def leads(self, at: int, name: tuple[int, str]) -> set[int]:
         """Returns to what a name may lead when an exchange is sent: as the last change before it
@@ -251,12 +245,11 @@ class BothChanges:
     def otherwise(self, pair: Pair, key: ChangeKey) -> list[Change]:
         """Returns the changes of a key that stand otherwise to a question: in one run they were
         answered before it was sent, and in the other not, or they overlap it in either."""
-        moments = [changes.met(at, key) for changes, at in zip(self.runs, pair)]
-        first, second = moments
-        names = (first.done.keys() ^ second.done.keys()) | first.over.keys() | second.over.keys()
-        found = {name: Change(name, run, (moment.done | moment.over)[name])
-                 for run, moment in reversed(list(enumerate(moments)))
-                 for name in names & (moment.done.keys() | moment.over.keys())}
+        (first, over), (second, over_there) = both = [
+            changes.met(at, key) for changes, at in zip(self.runs, pair)]
+        names = (first.keys() ^ second.keys()) | over.keys() | over_there.keys()
+        found = {name: Change(name, run, (both[run][0] | both[run][1])[name]) for run in (1, 0)
+                 for name in names & (both[run][0].keys() | both[run][1].keys())}
         return [found[name] for name in sorted(found)]
 
     def beginning(self, pair: Pair, name: tuple[int, str]) -> set[int]:

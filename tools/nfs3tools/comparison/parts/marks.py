@@ -31,10 +31,7 @@ from ..verdict.cover import Size
 MARKING = frozenset(('NFSPROC3_LOOKUP', 'NFSPROC3_CREATE', 'NFSPROC3_MKDIR'))
 # When a call was sent: its frame or 0, its connection, and its record
 SentAt = tuple[int, int, int]
-
-
-class NoMark(Exception):
-    """No call of either run is a mark; its text is the message for the user."""
+Mark = tuple[SentAt, str]  # when a call was sent at which a part begins, and its name
 
 
 class PartName(NamedTuple):
@@ -52,12 +49,6 @@ class PartName(NamedTuple):
         if self.name is None:
             return 'before the first mark'
         return self.name if self.number == 1 else f'{self.name} ({self.number})'
-
-
-class Mark(NamedTuple):
-    """A call at which a part begins."""
-    moment: SentAt
-    name: str
 
 
 class Piece(NamedTuple):
@@ -106,17 +97,6 @@ class RunPart:
 Both = tuple[RunPart, RunPart]  # a part in both runs
 
 
-class Answered:
-    """The calls of a connection, and which of them each reply belongs to, counted from 0."""
-
-    def __init__(self) -> None:
-        self.rule, self.owners = Answering(), array('I')
-
-    def number(self) -> int:
-        """Returns how many calls there are."""
-        return len(self.rule.said)
-
-
 class MarkedRun:
     """A run and its parts, in their order. The listing is that of the run in canonical form."""
 
@@ -127,39 +107,42 @@ class MarkedRun:
         self.sent = {connection.number: array('Q',
                                               accumulate(connection.client.first_frames(), max))
                      for connection in taken.connections if taken.has_frames}
-        self.answered = defaultdict[int, Answered](Answered)
+        # By connections: the calls, and which of them each reply belongs to, counted from 0
+        self.rules = defaultdict[int, Answering](Answering)
+        self.owners = defaultdict[int, 'array[int]'](lambda: array('I'))
         # A mark of the name of the part that goes on begins none: a client looks a name up before
         # it makes it, and again later.
         found = sorted(self.marks(re.compile(fnmatch.translate(pattern))))
-        marks = [next(some) for _, some in groupby(found, lambda mark: mark.name)]
+        marks = [next(some) for _, some in groupby(found, itemgetter(1))]
         self.parts = parts_by_marks(marks)
         for connection in taken.connections:
-            self.cut(connection, [mark.moment for mark in marks])
+            self.cut(connection, [moment for moment, _ in marks])
         self.parts = [part for part in self.parts if part.pieces]
 
     def marks(self, pattern: re.Pattern[str]) -> Iterator[Mark]:
         """Reads the listing, and iterates over the calls that are marks."""
         for line in self.listing():
             read = line_of(line)
-            connection = self.answered[read.connection]
+            rule = self.rules[read.connection]
             if not read.is_call:
-                connection.owners.append(connection.rule.reply(read.xid))
+                self.owners[read.connection].append(rule.reply(read.xid))
                 continue
-            connection.rule.call(read.xid, read.text)
+            rule.call(read.xid, read.text)
             name = read.message().value_of('name') if read.procedure in MARKING else None
             if name is not None and pattern.match(os.fsdecode(bytes_of(name))):
-                frame = self.sent[read.connection][connection.number() - 1] if self.sent else 0
-                yield Mark((frame, read.connection, connection.number()), name)
+                number = len(rule.said)
+                frame = self.sent[read.connection][number - 1] if self.sent else 0
+                yield (frame, read.connection, number), name
 
     def cut(self, connection: TakenConnection, begins: Sequence[SentAt]) -> None:
         """Gives the parts, which begin at these moments, their pieces of a connection. One without
         calls is of the first part."""
-        answered = self.answered[connection.number]
-        sent = self.sent[connection.number] if self.sent else repeat(0, answered.number())
+        owners, rule = self.owners[connection.number], self.rules[connection.number]
+        sent = self.sent[connection.number] if self.sent else repeat(0, len(rule.said))
         calls = array('I',
                       (bisect_right(begins, (frame, connection.number, record))
                        for record, frame in enumerate(sent, 1)))
-        for side, parts in zip(SIDES, (calls, map(calls.__getitem__, answered.owners))):
+        for side, parts in zip(SIDES, (calls, map(calls.__getitem__, owners))):
             for part, piece in pieces_of(connection.stream(side), parts):
                 self.parts[part].sides_of(connection.number)[side].append(piece)
         if not calls:
@@ -187,9 +170,9 @@ def is_cut_by_records(taken: Taken) -> bool:
 def parts_by_marks(marks: Iterable[Mark]) -> list[RunPart]:
     """Returns the parts that begin with these marks, after the one before them."""
     parts, numbers = [RunPart(PartName(None, 1))], Counter[str]()
-    for mark in marks:
-        numbers[mark.name] += 1
-        parts.append(RunPart(PartName(mark.name, numbers[mark.name])))
+    for _, name in marks:
+        numbers[name] += 1
+        parts.append(RunPart(PartName(name, numbers[name])))
     return parts
 
 

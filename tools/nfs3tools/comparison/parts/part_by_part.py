@@ -25,7 +25,7 @@ from ..verdict.ignored import Ignored, without_ignored
 from ..verdict.orders import Choices, NothingToCompare
 from ..verdict.trial import Trial, when_of
 from .listed_parts import ListedParts, PartTrial, listed_at_once
-from .marks import Both, MarkedRun, NoMark, PartName, RunPart, is_cut_by_records
+from .marks import Both, MarkedRun, PartName, RunPart, is_cut_by_records
 
 # How many parts are judged at once, and by what that is divided if they are not the same
 PARTS_AT_ONCE, FEWER = 64, 8
@@ -61,8 +61,8 @@ class PartReport:
 
 
 class PartByPart:
-    """Two runs that are cut at marks, and their parts. Raises `NoMark` if neither has one: then
-    nothing would be compared by parts, though the user asked for that."""
+    """Two runs that are cut at marks, and their parts. Raises `NothingToCompare` if neither
+    has a mark, though the user asked for that."""
 
     def __init__(self, whole: Trial, names: Sequence[str], runs: Sequence[Run], pattern: str,
                  choices: Choices) -> None:
@@ -76,7 +76,7 @@ class PartByPart:
         self.marked = first, first if is_cut_alike else MarkedRun(whole.runs[1], listings[1],
                                                                   pattern)
         if not any(part.name.name for marked in self.marked for part in marked.parts):
-            raise NoMark(
+            raise NothingToCompare(
                 f'no call of LOOKUP, CREATE or MKDIR has a name that fits {escaped(pattern)!r}')
 
     def reports(self, ignored: Sequence[Ignored]) -> list[PartReport]:
