@@ -57,7 +57,7 @@ class Cover:
     @property
     def is_refused(self) -> bool:
         """Whether a part of it is not valid, or cannot be read."""
-        return bool(self.refused or self.taken.damage)
+        return bool(self.faults())
 
     @property
     def missing(self) -> int:
@@ -91,11 +91,9 @@ class Cover:
         """Whether it has calls whose bodies are kept as they are."""
         return any(one.called.raw or one.called.unchecked for one in self.covered)
 
-    def faults(self) -> Iterator[str]:
+    def faults(self) -> list[str]:
         """What of it is not valid, or cannot be read."""
-        yield from self.refused.values()
-        if self.taken.damage:
-            yield self.taken.damage
+        return [*self.refused.values(), *filter(None, [self.taken.damage])]
 
     def notes(self) -> Iterator[str]:
         """What `Taken` does not have among its notes: the connections that are refused or not
