@@ -164,11 +164,10 @@ class OneOfTwo:
         return len(self.told) + sum(self.connections.values())
 
     def alone(self, kind: str, at: int, remark: str = '', mask: Mask | None = None) -> Finding:
-        """Returns what is said of an exchange that it has alone: with its path, and under a mask
-        also with arguments and statuses, but of a connection."""
-        one = self.apart.exchanges[at]
-        finding = Finding(kind, one.call, None, None if kind == 'connection' else self.apart.path(
-            at), remark=remark)
+        """Returns what is said of an exchange that it has alone, under a mask with the arguments
+        and statuses. What is said of a connection has no path."""
+        one, path = self.apart.exchanges[at], None if kind == 'connection' else self.apart.path(at)
+        finding = Finding(kind, one.call, None, path, remark=remark)
         if mask is not None:
             finding = replace(finding, arguments=tuple(arguments_of(one.call, mask)),
                               statuses=(statuses_of(one), ''))
