@@ -70,7 +70,11 @@ class TwoRuns:
     def changes_of(self, run: int, wanted: set[int]) -> Changes:
         """Returns the changes of a run, of which some exchanges may be left out."""
         outlines, turns = self.pairing.runs[run], self.turns
-        facts = Facts(outlines, self.listings()[run](), wanted, handles_of(outlines, wanted))
+        # (what lists folders may have any handles)
+        handles = None if any(outlines.procedure_of(at) in LISTINGS for at in wanted) else {
+            handle for at in wanted for handle in (*outlines.objects_of(at), outlines.found[at])
+            if handle}
+        facts = Facts(outlines, self.listings()[run](), wanted, handles)
         return Changes(self.pairing, run, facts, turns[run] if turns else None)
 
     def explanation(self, mask: Mask) -> Explanation:
@@ -104,11 +108,3 @@ def identify(pairing: Pairing) -> None:
         if not pairing.there.identities[other] and not pairing.here.identities[handle]:
             identity = hash(('without a path', handle))
             pairing.here.identities[handle] = pairing.there.identities[other] = identity
-
-
-def handles_of(outlines: Outlines, some: Iterable[int]) -> set[int] | None:
-    """Returns the handles of some exchanges, or None if they list folders and may have any."""
-    if any(outlines.procedure_of(at) in LISTINGS for at in some):
-        return None
-    return {handle for at in some for handle in (*outlines.objects_of(at), outlines.found[at])
-            if handle}

@@ -124,18 +124,16 @@ class Outlines:
         self.again, self.repeated = dict[int, list[int]](), dict[int, set[int]]()
         self.unmade = set[int]()  # calls that would have changed something, and failed
         self.objects = HandleOrigins()
-        self.take(map(line_of, lines), renamed_values(mask))
+        pattern = renamed_values(mask)
+        for connection, some in groupby(map(line_of, lines), attrgetter('connection')):
+            self.connections.append(connection)
+            self.starts.append(len(self))
+            self.take_connection(some, pattern)
         self.names = list(self.procedures)
         self.ask_of_objects(lambda at: when(*self.record_of(at)) if when else at)
 
     def __len__(self) -> int:
         return len(self.asked)
-
-    def take(self, lines: Iterable[Line], pattern: re.Pattern[str]) -> None:
-        for connection, some in groupby(lines, attrgetter('connection')):
-            self.connections.append(connection)
-            self.starts.append(len(self))
-            self.take_connection(some, pattern)
 
     def take_connection(self, lines: Iterable[Line], pattern: re.Pattern[str]) -> None:
         rule, owners, named = Answering(), array('I'), dict[int, int]()

@@ -6,6 +6,7 @@ from dataclasses import dataclass, replace
 
 from ...exchanges.listing import Message
 from ...recordings.coverage import Allowed
+from ...recordings.selection import count
 from ...recordings.taken import Taken
 from ...shared.places import Place
 from ...shared.printed import escaped
@@ -65,7 +66,9 @@ class Report:
         """What is printed of the verdict: how much was compared, and in which part."""
         verdict, compared = self.verdict, str(self.sizes[0])
         if self.same_under is not None:
-            verdict = summary.with_explained(self.found)
+            explained = self.found.compared.explained
+            verdict = summary.word_of(self.found) + (
+                f', {count(explained, "answer")} explained by order' if explained else '')
             compared = summary.of_same(self.found, self.mask)
         elif verdict.startswith('differ'):
             return f'{verdict}\ncompared in part: {losses}' if losses else verdict

@@ -122,7 +122,10 @@ class Comparison:
         if one.value == other.value == '':
             return None
         if owner is not None and self.mask[owner.name] is Way.ZERO:
-            return self.of_lengths(one, other) if owner.is_raw else None
+            # (raw bytes differ in their number)
+            return None if not owner.is_raw or (
+                len(content_of(one.value)) == len(content_of(other.value))
+            ) else difference_of(one, other, 'only the lengths count')
         renaming = owner.name if owner is not None else RENAMED.get(name)
         if renaming is not None:
             return self.of_renamed(renaming, owner, one, other)
@@ -131,11 +134,6 @@ class Comparison:
         # (a machine's name has a length, which is left out with it)
         is_masked = name == 'cred_length' and 'machines' in self.mask
         return None if is_masked or one.value == other.value else difference_of(one, other)
-
-    def of_lengths(self, one: ComparedItem, other: ComparedItem) -> Difference | None:
-        """Raw bytes that are masked differ only in their number."""
-        return (None if len(content_of(one.value)) == len(content_of(other.value))
-                else difference_of(one, other, 'only the lengths count'))
 
     def of_raw(self, one: ComparedItem, other: ComparedItem) -> Difference | None:
         """Handles in raw bytes are those of the other run where they are known."""

@@ -56,12 +56,6 @@ def word_of(found: Outcome) -> str:
     return BUT_LEFT_OUT if compared.silent else IN_ANOTHER_ORDER
 
 
-def with_explained(found: Outcome) -> str:
-    """Returns the same, with how many answers an order explains."""
-    number = found.compared.explained
-    return word_of(found) + (f', {count(number, "answer")} explained by order' if number else '')
-
-
 def of_same(found: Outcome, mask: Mask) -> str:
     """What follows these words: how the order differs, and all else that does not count."""
     words = [f'{count(found.compared.exchanges, "call")}', *turns(found.compared)]
