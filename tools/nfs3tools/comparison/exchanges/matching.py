@@ -6,6 +6,7 @@ from array import array
 from bisect import bisect_left
 from collections import Counter, defaultdict
 from collections.abc import Hashable, Sequence
+from typing import NamedTuple
 
 # Up to so many pairs of elements that have no anchor are compared each with each.
 PAIRS_AT_MOST = 1_000_000
@@ -14,8 +15,13 @@ ENOUGH, NEAR = 4, 32
 STEP = 1_024
 
 Pair = tuple[int, int]
-# Equal elements that follow one another: where they begin on both sides, and how many there are.
-Block = tuple[int, int, int]
+
+
+class Block(NamedTuple):
+    """Equal elements that follow one another: where they begin, and how many there are."""
+    at: int
+    to: int
+    size: int
 
 
 def increasing(pairs: Sequence[Pair]) -> list[Pair]:
@@ -129,11 +135,11 @@ def blocks_of(first: 'array[int]', second: 'array[int]') -> list[Block]:
     while True:
         size = common(first, second, at, to)
         if size:
-            blocks.append((at, to, size))
+            blocks.append(Block(at, to, size))
         at, to = at + size, to + size
         if at == len(first) or to == len(second):
             return blocks
         end, other_end = meeting(first, second, at, to)
-        blocks += [(at + here, to + there, 1)
+        blocks += [Block(at + here, to + there, 1)
                    for here, there in aligned(first[at:end], second[to:other_end])]
         at, to = end, other_end
