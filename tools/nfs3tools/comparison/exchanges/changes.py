@@ -129,7 +129,10 @@ class Changes:
                 self.of_key[identity].append(at)
 
     def identity(self, handle: int) -> int:
-        return self.outlines.identities[handle]
+        """Returns what an object is called in both runs, 0 if that is not known. Some handles are
+        in entries of folders alone."""
+        identities = self.outlines.identities
+        return identities[handle] if handle < len(identities) else 0
 
     def names_of(self, at: int) -> list[tuple[int, str]]:
         """Returns the names of a change, each in its folder."""

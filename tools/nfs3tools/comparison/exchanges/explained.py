@@ -65,9 +65,7 @@ class Reply:
         self.found = self.outlines.identities[found] if found else 0
 
     def identity_of(self, handle: str) -> int:
-        number = int(handle, 16) if 0 < len(handle) <= 8 else 0
-        identities = self.outlines.identities
-        return identities[number] if number < len(identities) else 0
+        return self.changes.identity(int(handle, 16)) if 0 < len(handle) <= 8 else 0
 
     def owner_of(self, word: str) -> int:
         if word == 'obj' and self.procedure in MAKING:
@@ -94,10 +92,9 @@ class Reply:
     def check_alone(self, identity: int) -> None:
         """Raises `Unexplained` if it says something else than its run of an object, of which the
         other reply says nothing."""
-        identities = self.outlines.identities
         why = {self.changes.disagrees(self.at, one)
                for one in self.facts.said_in(self.at, self.message).told
-               if one.handle and identities[one.handle] == identity}
+               if one.handle and self.changes.identity(one.handle) == identity}
         if why - {'', NOTHING_ELSE}:
             raise Unexplained
 
