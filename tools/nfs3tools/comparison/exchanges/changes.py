@@ -256,8 +256,7 @@ class BothChanges:
         return [found[name] for name in sorted(found)]
 
     def beginning(self, pair: Pair, name: tuple[int, str]) -> set[int]:
-        """Returns to what a name led at the beginning, as other answers of both runs say that no
-        change came before."""
+        """Returns to what a name led before all changes, as other answers of both runs say."""
         return {changes.identity(handle) if handle else GONE
                 for changes, own in zip(self.runs, pair)
                 for folder in changes.facts.handles.get(name[0], ())

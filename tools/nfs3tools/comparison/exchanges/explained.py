@@ -90,8 +90,7 @@ class Reply:
         return self.identity_of(self.message.value_of('fh', entry) or '')
 
     def check_alone(self, identity: int) -> None:
-        """Raises `Unexplained` if it says something else than its run of an object, of which the
-        other reply says nothing."""
+        """Raises `Unexplained` if it disagrees with its run on an object that it alone shows."""
         why = {self.changes.disagrees(self.at, one)
                for one in self.facts.said_in(self.at, self.message).told
                if one.handle and self.changes.identity(one.handle) == identity}

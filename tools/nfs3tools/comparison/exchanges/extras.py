@@ -116,8 +116,7 @@ class Extras:
 
 
 def refused(first: Extras, second: Extras) -> ReasonsOfCalls:
-    """Returns the calls that are differences all the same, of the first and of the second run, each
-    with the reason."""
+    """Returns the calls of both runs that are differences all the same, each with the reason."""
     common = set(map(first.asked, first.some)) & set(map(second.asked, second.some))
     out: ReasonsOfCalls = {}, {}
     for run, other, found in ((first, second, out[0]), (second, first, out[1])):

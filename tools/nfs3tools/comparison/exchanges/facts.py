@@ -73,8 +73,7 @@ def statement_of(part: ReplyPart, handle: int, name: str = '') -> Statement:
 
 
 def entry_facts(folder: int, parts: Iterable[ReplyPart]) -> ReplyFacts:
-    """Reads the entries of a folder: each has a name, then attributes if it has some, and then a
-    handle if it has one."""
+    """Reads the entries of a folder: names, each with attributes and a handle if it has them."""
     told, leads, first = list[Statement](), list[Lead](), 0
     name: str | None = None  # of the entry
     for part in parts:

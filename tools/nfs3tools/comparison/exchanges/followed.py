@@ -29,8 +29,7 @@ Replacements = dict[tuple[str, str], str]
 
 
 def partners_of(pairing: Pairing) -> dict[int, int]:
-    """Returns for each handle of the second run that of the first with which it is most often in
-    exchanges that belong together."""
+    """Returns the first run's handle for each of the second: by most of the pairs with both."""
     votes = defaultdict[int, Counter[int]](Counter)
     here, there = pairing.here, pairing.there
     for at, to in pairing.pairs():

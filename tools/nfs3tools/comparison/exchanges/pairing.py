@@ -137,8 +137,7 @@ class Pairing:
 
     @cached_property
     def late_replies(self) -> list[tuple[int, int, int]]:
-        """The connections of the first run whose replies come in another order: how many of them,
-        and of how many."""
+        """The connections with replies in another order: how many of them, and of how many."""
         if self.is_in_place:
             return []
         turns = [(place, self.turns_of_replies(place)) for place in range(len(self.homes))]
@@ -181,8 +180,7 @@ class Pairing:
                 self.owners[second:second + size] = array('i', range(first, first + size))
 
     def by_turn(self, keys: Keys) -> None:
-        """Binds exchanges that have a key in common, in their order: first in connections that
-        are matched, then in any."""
+        """Binds exchanges of one key in their order: in matched connections first, then in any."""
         here, there = keys
         for is_at_home in (True, False):
             waiting = defaultdict[Hashable, deque[int]](deque)
@@ -210,15 +208,13 @@ class Pairing:
                 yield here, [to for to in range(before + 1, after) if self.owners[to] == NOBODY]
 
     def in_gaps(self, keys: Keys, more: int) -> None:
-        """Binds exchanges that have a key in common, as they follow one another between two
-        neighbours that are bound."""
+        """Binds exchanges of one key, as they follow one another between two bound neighbours."""
         for own, its in self.gaps(more):
             for at, to in aligned(list(map(keys[0], own)), list(map(keys[1], its))):
                 self.bind(own[at], its[to])
 
     def as_often(self, keys: Keys) -> None:
-        """Binds exchanges that have a key in common, if between two neighbours that are bound both
-        runs have as many of them."""
+        """Binds exchanges of one key, if both runs have as many between two bound neighbours."""
         for own, its in self.gaps(SURPLUS_AT_MOST):
             waiting = grouped(its, keys[1])
             for key, some in grouped(own, keys[0]).items():
@@ -277,8 +273,7 @@ def is_in_order(numbers: Iterable[int]) -> bool:
 
 
 def out_of_order(pairs: Sequence[Pair]) -> list[Pair]:
-    """Returns the pairs, given in the order of their firsts, whose seconds are not in order: as few
-    as may be."""
+    """Returns as few pairs as may be, sorted by their firsts, whose seconds are out of order."""
     kept = set(increasing(pairs))
     return [pair for pair in pairs if pair not in kept]
 

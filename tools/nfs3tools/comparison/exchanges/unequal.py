@@ -80,8 +80,7 @@ class TwoListings:
 
 
 class ListedInPlace(TwoListings):
-    """Two captures in canonical form whose exchanges stand in the same places: the turns are the
-    numbers of the exchanges."""
+    """The same of exchanges that are in the same places: the turns are their numbers."""
 
     def __init__(self, first: Listing, second: Listing, mask: Mask, outlines: Outlines) -> None:
         super().__init__(first, second, mask)

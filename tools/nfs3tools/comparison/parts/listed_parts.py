@@ -63,8 +63,7 @@ class ListedParts:
 
 
 class PartTrial(Trial):
-    """A trial of one of these parts. Its captures are not written: they are read from a pipe to be
-    masked."""
+    """A trial of one of these parts. Its captures are not written, but masked from a pipe."""
 
     def __init__(self, listed: ListedParts, at: int, runs: Sequence[Taken]) -> None:
         self.listed, self.at, self.forms = listed, at, dict[str, list[list[str]]]()

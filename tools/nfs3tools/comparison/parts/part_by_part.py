@@ -166,8 +166,7 @@ class PartByPart:
         return [marked.taken_of(parts) for marked, parts in zip(self.marked, zip(*pairs))]
 
     def with_paths(self, compared: Sequence[Compared]) -> list[Compared]:
-        """Returns what was found in the parts, and what is left out, with the paths that are known
-        from the whole runs."""
+        """Returns what was found, and what is left out, with the paths of the whole runs."""
         found = [finding for one in compared for finding in (*one.findings, *one.silent)]
         paths = [paths_in(run, marked, [finding.message for finding in found
                                         if (finding.first is None) == is_second])
@@ -181,8 +180,7 @@ class PartByPart:
 
 
 def paths_in(run: Run, marked: MarkedRun, messages: Sequence[Message]) -> dict[str, str | None]:
-    """Returns the paths of what messages are about that were found in the parts of a run, by their
-    places and by the whole run."""
+    """Returns the paths of what messages of parts are about, by their places in the run."""
     outlines = Outlines(marked.listing() if messages else (), {}, when_of(marked.taken))
     exchanges = outlines.exchanges_of_messages(messages)
     apart = ParsedExchanges(run, outlines, exchanges)

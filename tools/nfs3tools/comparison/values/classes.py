@@ -8,8 +8,7 @@ from dataclasses import dataclass
 
 
 class Way(enum.Enum):
-    """How the values of a class are masked: all become zero, or each becomes its number by first
-    appearance."""
+    """How values of a class are masked: as zero, or as their numbers by first appearance."""
     ZERO = 'zero'
     NUMBER = 'number'
 

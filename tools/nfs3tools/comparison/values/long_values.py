@@ -47,8 +47,7 @@ def content_of(value: Value) -> bytes | Long:
 
 
 def parting_between(first: Value, second: Value, offset: int | None = None) -> Parting:
-    """Returns where two values of a listing part that differ. The offset is that of the first byte
-    in its file."""
+    """Returns where two values part. The offset is that of the first byte in its file."""
     one, other = content_of(first), content_of(second)
     size = min(len(one), len(other))
     at, differing = size, 0

@@ -206,8 +206,7 @@ def is_text(value: object) -> bool:
 
 
 def file_of(findings: Iterable[Finding], mask: Mask) -> bytes:
-    """Returns a file that accepts findings, those that can be. Equal entries are one, which says
-    how often."""
+    """Returns a file that accepts findings. Equal entries are one, which says how often."""
     lines = Counter(json.dumps(entry) for finding in findings
                     for entry in entries_of(finding, mask))
     entries = ','.join('\n  ' + (line if number == 1 else f'{line[:-1]}, "times": {number}}}')

@@ -96,8 +96,7 @@ class Cover:
         return [*self.refused.values(), *filter(None, [self.taken.damage])]
 
     def notes(self) -> Iterator[str]:
-        """What `Taken` does not have among its notes: the connections that are refused or not
-        checked, and why."""
+        """What `Taken` does not note: connections that are refused or not checked, and why."""
         yield from self.refused.values()
         for row in self.rows():
             if row.word in ('not checked', 'in part') and row.connection is not None:

@@ -252,8 +252,7 @@ def entry_name(side: RunMessage, entry: range) -> str:
 def difference_of(one: ComparedItem, other: ComparedItem, remark: str = '', *,
                   first: str | None = None, alike: str = '',
                   is_renamed: bool = False) -> Difference:
-    """Two items of one name whose values differ. `first` is what is compared with the second value,
-    if it is not the first."""
+    """Two items that differ. `first` is what is compared with the second, if it is another."""
     here, there, parting = one.side, other.side, None
     if not is_renamed and (is_long(one.value) or is_long(other.value)
                            or first not in (None, one.value)):

@@ -15,8 +15,7 @@ from ..exchanges.pairing import NOBODY, Pairing
 
 
 class Around(NamedTuple):
-    """How much is shown: how many pairs before and after an exchange that differs, and how many of
-    those that differ."""
+    """How many pairs are shown before and after what differs, and how many that differ."""
     pairs: int
     most: int
 

@@ -54,8 +54,7 @@ def one_of(word: str) -> Ignored:
 
 def without_ignored(compared: Compared,
                     ignored: Sequence[Ignored]) -> tuple[Compared, Counter[tuple[str, str]]]:
-    """Returns what is left of a comparison without these fields, and how often each field of each
-    procedure was left out."""
+    """Returns a comparison without these fields, and how often each was left out."""
     left_out, findings = Counter[tuple[str, str]](), list[Finding]()
     for finding in compared.findings:
         procedure = finding.message.procedure

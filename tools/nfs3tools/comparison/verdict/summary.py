@@ -34,8 +34,7 @@ def left_out(compared: Compared) -> Iterator[tuple[str, str]]:
 
 
 def of_both(compared: Compared) -> Iterator[str]:
-    """The calls of both runs that are left out, by why that is and by procedures, with their path
-    if it is one."""
+    """The calls of both runs that are left out, by why and procedure, and their only path."""
     paths = defaultdict[tuple[str, str], list[str]](list)
     for call in compared.silent:
         if call.kind != 'only':

@@ -135,8 +135,7 @@ class Trial:
         return self.listing(first), self.listing(second)
 
     def paired(self, masks: Sequence[Mask], lonely: frozenset[str]) -> Pairing:
-        """Brings the exchanges of both runs together, by what they have in common under the first
-        mask, or else under the second."""
+        """Brings the exchanges of both runs together under the first mask, or else the second."""
         mask, *more = masks
         listings = self.canonical(self.captures, mask)
         here, there = (Outlines(listing(), mask, when_of(taken))
