@@ -122,10 +122,10 @@ class Comparison:
         if one.value == other.value == '':
             return None
         if owner is not None and self.mask[owner.name] is Way.ZERO:
-            # (raw bytes differ in their number)
-            return None if not owner.is_raw or (
-                len(content_of(one.value)) == len(content_of(other.value))
-            ) else difference_of(one, other, 'only the lengths count')
+            # (raw bytes that are masked differ only in their number)
+            if not owner.is_raw or len(content_of(one.value)) == len(content_of(other.value)):
+                return None
+            return difference_of(one, other, 'only the lengths count')
         renaming = owner.name if owner is not None else RENAMED.get(name)
         if renaming is not None:
             return self.of_renamed(renaming, owner, one, other)
