@@ -15,7 +15,7 @@ from .reordered import Numbered
 
 Listing = Callable[[], Iterable[str]]
 Key = Callable[[int], Hashable]  # of an exchange
-Keys = tuple[Key, Key]  # of exchanges of both runs
+KeysOfRuns = tuple[Key, Key]  # of exchanges of both runs
 
 # Calls that change nothing. A client's caches and timers decide when they are sent. COMMIT is none:
 # what it makes safe is no matter of caches.
@@ -179,7 +179,7 @@ class Pairing:
                 self.partners[first:first + size] = array('i', range(second, second + size))
                 self.owners[second:second + size] = array('i', range(first, first + size))
 
-    def by_turn(self, keys: Keys) -> None:
+    def by_turn(self, keys: KeysOfRuns) -> None:
         """Binds exchanges of one key in their order: in matched connections first, then in any."""
         here, there = keys
         for is_at_home in (True, False):
@@ -207,13 +207,13 @@ class Pairing:
             if before + 1 in its and after - 1 in its and after - before - 1 <= len(here) + more:
                 yield here, [to for to in range(before + 1, after) if self.owners[to] == NOBODY]
 
-    def in_gaps(self, keys: Keys, more: int) -> None:
+    def in_gaps(self, keys: KeysOfRuns, more: int) -> None:
         """Binds exchanges of one key, as they follow one another between two bound neighbours."""
         for own, its in self.gaps(more):
             for at, to in aligned(list(map(keys[0], own)), list(map(keys[1], its))):
                 self.bind(own[at], its[to])
 
-    def as_often(self, keys: Keys) -> None:
+    def as_often(self, keys: KeysOfRuns) -> None:
         """Binds exchanges of one key, if both runs have as many between two bound neighbours."""
         for own, its in self.gaps(SURPLUS_AT_MOST):
             waiting = grouped(its, keys[1])
@@ -222,7 +222,7 @@ class Pairing:
                     for at, to in zip(some, waiting[key]):
                         self.bind(at, to)
 
-    def by_key(self, keys: Keys) -> None:
+    def by_key(self, keys: KeysOfRuns) -> None:
         """Binds exchanges that have a key in common: those between near neighbours first, for one
         run may have one more before them."""
         self.in_gaps(keys, SURPLUS_AT_MOST)
@@ -239,7 +239,7 @@ def matched_connections(here: Outlines, there: Outlines) -> list[int]:
     its beginning, or else one that begins with the same calls, or with calls of the same
     procedures."""
     begun, votes = defaultdict[Hashable, list[int]](list), Counter[Pair]()
-    keys: list[Keys] = [(here.asked.__getitem__, there.asked.__getitem__),
+    keys: list[KeysOfRuns] = [(here.asked.__getitem__, there.asked.__getitem__),
                         (here.procedure_of, there.procedure_of)]
     for other in range(len(there.starts)):
         for key in set(begin_of(there, other, keys[0][1])):
@@ -285,7 +285,7 @@ def grouped(some: Iterable[int], key: Key) -> dict[Hashable, list[int]]:
     return out
 
 
-def keys_in(first: Mapping[int, Hashable], second: Mapping[int, Hashable]) -> Keys:
+def keys_in(first: Mapping[int, Hashable], second: Mapping[int, Hashable]) -> KeysOfRuns:
     """Returns the keys of exchanges of both runs that have one. All others are by themselves."""
     return lambda at: first.get(at, ('first', at)), lambda to: second.get(to, ('second', to))
 
