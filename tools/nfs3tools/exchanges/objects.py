@@ -130,7 +130,7 @@ class Paths:
                    frame: int = 0) -> None:
         """Learns from the items of a reply to a call with this folder and this name, or this whole
         path if it is MNT. If its frame is known, names may be asked for by the time."""
-        if procedure not in (MOUNTING, LISTING, *MAKING):
+        if procedure not in TEACHING:
             return
         own = None if procedure == MOUNTING else folder
         name, is_made = ('.', False) if procedure == LISTING else (
