@@ -9,7 +9,7 @@ from examples.messages import (
     DIR, EXCLUSIVE, MOUNT, NFS, NFSACL, NOENT, NOW, REG, call, dirop, failed, fattr, fh, guard, how,
     hyper, ok, opaque, post_op_attr, sattr, set_to_client_time, success, wcc, word)
 
-from ..nfs3tools.exchanges.listing import Message, messages_of
+from ..nfs3tools.exchanges.listing import Message, line_of
 from ..nfs3tools.comparison.values.long_values import parting_between
 from ..nfs3tools.comparison.verdict.differences import Comparison
 from ..nfs3tools.reporting.telling import difference_lines
@@ -155,7 +155,7 @@ def long_handles(place: Findings) -> None:
     both = list[list[Message]]()
     for run in (asked(b'aaaa', two, b'aaaa', b''), asked(b'bbbb', one, b'aaaa', b'')):
         place.put('a', run)
-        both.append(list(messages_of(place.run('show', 'a')[1].splitlines())))
+        both.append([line_of(line).message() for line in place.run('show', 'a')[1].splitlines()])
     comparison = Comparison({})
     lines = [line for pair in zip(*both) for difference in comparison.of_messages(*pair)
              for line in difference_lines(difference)]

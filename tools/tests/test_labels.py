@@ -9,7 +9,7 @@ from examples.messages import (
     success, wcc, word)
 from tests.shared.traffic import Names, Traffic
 
-from ..nfs3tools.exchanges.listing import Message, messages_of
+from ..nfs3tools.exchanges.listing import Message, line_of
 from ..nfs3tools.exchanges.whose import Labels, fields_of
 from ..nfs3tools.comparison.values.classes import Mask, Way, mask_of
 from ..nfs3tools.comparison.verdict.differences import Comparison
@@ -148,7 +148,7 @@ def of_exchange(place: Findings, program: int, procedure: int, arguments: bytes,
     place.put('a', ([call(7, program, 3, procedure, arguments, credential=credential)], replies))
     status, out, error = place.run('show', 'a')
     place.want('listing', (status, error), (0, ''))
-    return list(messages_of(out.splitlines()))
+    return [line_of(line).message() for line in out.splitlines()]
 
 
 def labels_of(message: Message) -> list[str]:
@@ -199,7 +199,7 @@ def labels_of_fewer_parts(place: Findings) -> None:
     no_credential = place.put('a', ([call(7, NFS, 3, 0)], []))
     place.want('without a credential',
                (no_credential,
-                labels_of(next(messages_of(place.run('show', 'a')[1].splitlines())))[5:]),
+                labels_of(line_of(place.run('show', 'a')[1].splitlines()[0]).message())[5:]),
                (None, ['cred_flavor', 'cred_body', 'verf_flavor', 'verf_body']))
 
 
@@ -215,7 +215,7 @@ def fields_are_those_of_labels(place: Findings) -> None:
                ['entry', 'entry.cookie', 'entry.fileid', 'entry.name'])
     for seed in range(15):
         place.put('a', *Traffic(seed, Names.drawn(random.Random(seed))).connections)
-        listed = messages_of(place.run('show', 'a')[1].splitlines())
+        listed = (line_of(line).message() for line in place.run('show', 'a')[1].splitlines())
         found = {(message.procedure, field) for message in listed for field in all_fields(message)}
         place.want(f'seed {seed}', [(procedure, field) for procedure, field in found
                                     if field not in fields_of(procedure)], [])

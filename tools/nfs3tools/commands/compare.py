@@ -75,18 +75,16 @@ from pathlib import Path
 from typing import NamedTuple
 
 from ..comparison.exchanges.pairing import ASKING
-from ..comparison.parts.marks import NoMark
 from ..comparison.parts.part_by_part import PartByPart
 from ..comparison.values.classes import CLASSES, following, in_any_order, mask_text, mask_word
 from ..comparison.verdict import summary
 from ..comparison.verdict.accepted import accepted_of, file_of
 from ..comparison.verdict.cover import Cover, Size, covers_of, lines_of_counts, losses_of
-from ..comparison.verdict.decision import judged_runs, run_of
+from ..comparison.verdict.decision import Report, judged_runs, run_of
 from ..comparison.verdict.excerpt import Around
 from ..comparison.verdict.findings import RUNS, Compared, Framing, Run
 from ..comparison.verdict.ignored import ignored_of, without_ignored
 from ..comparison.verdict.orders import Choices, NothingToCompare
-from ..comparison.verdict.report import Report
 from ..comparison.verdict.trial import Trial
 from ..pages import compared as pages
 from ..pages.compared import ComparedContent, RunFiles
@@ -271,24 +269,23 @@ def whole_of(program: str, folder: Path, names: list[str], inputs: list[str],
 def compared_whole(words: argparse.Namespace, whole: Whole, choices: Choices, losses: str) -> bool:
     """Compares the runs as wholes. Returns whether they are the same."""
     with whole.trial.progress.line():
-        said = judged_runs(whole.trial, whole.runs, whole.sizes, choices)
-    line = said.line(choices, whole.sizes[0], losses)
-    is_good = said.is_same and whole.is_good(allowed_of(words))
-    report = said.report(choices, whole.names, whole.sizes, whole.covers)
+        report = judged_runs(whole.trial, whole.runs, whole.names, whole.sizes, choices,
+                             whole.covers)
+    line, is_good = report.line(losses), report.is_same and whole.is_good(allowed_of(words))
     print(screen_of(words.color).painted(line, colour_of_word(report.word(), is_good)),
           *whole.lines_of_counts(), sep='\n', flush=True)
     if words.accept_new:
-        compared = said.found.whole or Compared()
+        compared = report.found.whole or Compared()
         recordings = files_in(whole.names)
         write_file(words.accept_new, [file_of(compared.findings, compared.mask)], recordings)
-    explain(words, whole, line, report, said.found.compared, is_good)
+    explain(words, whole, line, report, is_good)
     return is_good
 
 
-def explain(words: argparse.Namespace, whole: Whole, line: str, report: Report, found: Compared,
+def explain(words: argparse.Namespace, whole: Whole, line: str, report: Report,
             is_good: bool) -> None:
     """Writes and prints what differs between two runs."""
-    compared, left_out = without_ignored(found, words.ignore)
+    compared, left_out = without_ignored(report.found.compared, words.ignore)
     if words.junit:
         told_of = compared if is_told(words, report) else replace(compared, findings=[])
         suite = junit_of_comparison(line, report, told_of, whole.framings(), is_good)
@@ -350,7 +347,7 @@ def compared_by_parts(words: argparse.Namespace, whole: Whole, choices: Choices,
                            choices).reports(words.ignore)
     is_good, screen = whole.is_good(allowed_of(words)), screen_of(words.color)
     for part in parts:
-        print(screen.painted(part.line, colour_of_word(part.word(), is_good and part.is_good)))
+        print(screen.painted(part.line(), colour_of_word(part.word(), is_good and part.is_good)))
     if words.junit:
         counting = '' if is_good else losses
         write_file(words.junit,
@@ -362,7 +359,7 @@ def compared_by_parts(words: argparse.Namespace, whole: Whole, choices: Choices,
     for part in parts:
         if part.report and part.report.verdict != 'same' and (
                 part.compared.silent or is_told(words, part.report)):
-            print(part.label)
+            print(part.name)
             print_comparison(words, whole, part.report, part.compared, part.left_out)
     if losses:
         print(f'compared in part: {losses}')
@@ -383,7 +380,7 @@ def main(words: list[str]) -> int:
     try:
         stack.enter_context(printed_beside(outputs_of(chosen)))
         return compared_runs(chosen, stack)
-    except (NoMark, NothingToCompare) as nothing:
+    except NothingToCompare as nothing:
         write_error(chosen, str(nothing))
         return ended('compare', str(nothing), REFUSED)
     except NotTaken as refused:

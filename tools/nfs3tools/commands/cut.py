@@ -138,10 +138,8 @@ def origins_of(program: str, taken: Taken, places: Iterable[Place], name: str) -
 
 def turn_of(outlines: Outlines, place: Place) -> int:
     """Returns the exchange at a place, by its number in the listing."""
-    at = outlines.place_of(place.connection)
-    if place.side == 'client':
-        return outlines.starts[at] + place.record - 1
-    return outlines.exchanges_of_replies(at)[place.record]
+    return outlines.by_record(outlines.place_of(place.connection),
+                              place.side == 'client')[place.record]
 
 
 def record_lines(taken: Taken, cuts: list[Cut]) -> Iterator[str]:

@@ -58,7 +58,6 @@ class Answering:
         return None
 
     def first(self, xid: int) -> int | None:
-        """Returns the first call with an xid."""
         at = xid - self.begin
         return at if 0 <= at < self.counted else self.firsts.get(xid)
 
@@ -125,8 +124,7 @@ class Answers:
                 if owner == at and not self.is_answered(at))
 
     def may_be_answered(self) -> Iterator[int]:
-        """Iterates over the calls that may get a reply yet: those that were sent more often than
-        they were answered."""
+        """Iterates over calls that may get a reply yet: sent more often than answered."""
         replies = self.replies.copy()
         for at, owner in enumerate(self.owners):
             if replies[owner]:

@@ -9,7 +9,7 @@ from __future__ import annotations
 
 import functools
 import re
-from collections.abc import Iterable, Iterator, Mapping
+from collections.abc import Callable, Iterable, Iterator, Mapping
 from typing import NamedTuple, Optional
 
 from ..shared.layouts import RAW, VALUES, meaning_of
@@ -19,7 +19,6 @@ from .listing import ITEM
 LONGEST_TEXT = 1_000  # characters of a name or a text
 TEXTS_KEPT_AT_MOST = 1_024  # texts that are made once
 ASKED_AT_MOST = 128  # the same of calls: a client asks the same again soon
-WIDTH = 7  # of GETATTR and SETATTR, and of names that are shorter
 CALL_HEAD = re.compile(r' mtype=0 rpcvers=2 prog=\d+ vers=\d+ proc=\d+ cred_flavor=\d+ '
                        r'(?:cred_body=\w*|cred_length=\d+ stamp=\d+ machinename="[^"]*" uid=(\d+) '
                        r'gid=\d+ gids=\d+(?: group=\d+)*) verf_flavor=0 verf_body=\w*')
@@ -46,7 +45,6 @@ OF_TWO = ('NFSPROC3_RENAME', 'NFSPROC3_LINK')
 LISTINGS = frozenset(('NFSPROC3_READDIR', 'NFSPROC3_READDIRPLUS'))
 SPLIT = re.compile(r'\\(?:x[0-9a-f]?)?$')  # the beginning of a byte that is spelled by its digits
 NAMED = {'access', 'committed', 'how', 'mode', 'stable', 'type'}  # items whose numbers have names
-SEVERAL = {'sattr', 'guard', 'device', 'end', 'target'}  # what means several items
 NOT_READ = 'accepted'  # what is said of results that are not read
 
 
@@ -115,32 +113,27 @@ def filled(template: str, items: Iterable[tuple[str, str]]) -> str:
     values = dict(items)
     for name in not_plain(template):
         values[name] = (number_named(name, values[name]) if name in NAMED
-                        else of_several(name, values))
+                        else SEVERAL[name](values))
     return template.format_map(values)
 
 
 @functools.cache
 def not_plain(template: str) -> list[str]:
     """Returns the names in a template of what is not said as its item spells it."""
-    return [name for name in re.findall(r'{(\w+)}', template) if name in NAMED | SEVERAL]
+    return [name for name in re.findall(r'{(\w+)}', template) if name in NAMED | SEVERAL.keys()]
 
 
-def of_several(name: str, values: Mapping[str, str]) -> str:
-    """Returns what a name in a template means that is not that of an item."""
-    if name == 'sattr':
-        return ''.join(f' {word}' for word in settings_in_words(values))
-    if name == 'guard':
-        return ' guarded' if values['check'] == '1' else ''
-    if name == 'device':
-        return ' {spec1}:{spec2}'.format_map(values) if 'spec1' in values else ''
-    if name == 'end':
-        return ' eof' if values['eof'] == '1' else ''
-    return beginning_of(values['path'].strip('"'))
+# What a name in a template means that is not that of an item
+SEVERAL: Mapping[str, Callable[[Mapping[str, str]], str]] = {
+    'sattr': lambda values: ''.join(f' {word}' for word in settings_in_words(values)),
+    'guard': lambda values: ' guarded' * (values['check'] == '1'),
+    'device': lambda values: ' {spec1}:{spec2}'.format_map(values) if 'spec1' in values else '',
+    'end': lambda values: ' eof' * (values['eof'] == '1'),
+    'target': lambda values: beginning_of(values['path'].strip('"'))}
 
 
 @functools.lru_cache(TEXTS_KEPT_AT_MOST)
 def number_named(name: str, value: str) -> str:
-    """The name of an item's number."""
     return meaning_of(name, value, VALUES.get(name)).removeprefix('NF3')
 
 
@@ -171,7 +164,9 @@ def answer_in(procedure: str, said: str) -> str:
     if procedure == RAW.name:
         return NOT_READ
     if procedure in LISTINGS:
-        return f'OK {entries_in(said)}'
+        number = sum(name == 'name' for name, _ in ITEM.findall(said))
+        is_end = said.endswith(' eof=1')
+        return f'OK {number:,} {"entry" if number == 1 else "entries"}' + ' eof' * is_end
     pattern, template = RESULTS.get(procedure, (None, ''))
     read = pattern.search(said) if pattern else None
     return 'OK' if read is None else result_of(template, read.groups())
@@ -183,16 +178,7 @@ def result_of(template: str, values: tuple[str, ...]) -> str:
     return 'OK ' + filled(template, zip(values[::2], values[1::2]))
 
 
-def entries_in(said: str) -> str:
-    """How many entries a folder's listing has, and whether it is at its end."""
-    number = sum(name == 'name' for name, _ in ITEM.findall(said))
-    is_end = said.endswith(' eof=1')
-    return f'{number:,} {"entry" if number == 1 else "entries"}' + ' eof' * is_end
-
-
 @functools.lru_cache(TEXTS_KEPT_AT_MOST)
-def short_name(procedure: str) -> str:
-    """The name of a procedure without that of its version: `WRITE` of NFS, `MOUNT MNT` of MOUNT. A
-    short one is as wide as most are."""
-    name = procedure.removeprefix('NFSPROC3_').replace('MOUNTPROC3_', 'MOUNT ')
-    return name.ljust(WIDTH)
+def short(procedure: str) -> str:
+    """The name of a procedure without that of its version: `WRITE` of NFS, `MOUNT MNT` of MOUNT."""
+    return procedure.removeprefix('NFSPROC3_').replace('MOUNTPROC3_', 'MOUNT ')

@@ -5,7 +5,7 @@ for.
         kept.take(program, connection, is_refused=False)     # from the listing of `nfs3canon show`
         for at in kept.in_order(by_latency=False):
             one = kept.exchange(at)
-            print(one.frame, one.path, one.call.items, one.replies[0].items)
+            print(one.frame, one.path, one.asked.words, one.answers)
 """
 from __future__ import annotations
 
@@ -20,12 +20,13 @@ from ..recordings.selection import BEGUN_BEFORE
 from ..recordings.spool import Spool
 from ..recordings.taken import Completion, TakenConnection
 from .answering import Answering, error_in
-from .in_words import Asked, answer_in, asked_in, short_name
-from .listing import ITEM, Item, Message, is_call, listed_of, name_of_call
+from .in_words import Asked, answer_in, asked_in, short
+from .listing import ITEM, Item, is_call, listed_of, name_of_call
 from .objects import LISTING, MAKING, RENAMING, TEACHING, UNKNOWN, Move, Paths, below
 from .stored import LongValues, Texts, without_long
 
 UNTIMED = -1 << 63  # means no latency
+WIDTH = 7  # of GETATTR and SETATTR, and of names that are shorter
 HANDLE_ITEM = re.compile(r' (fh)=([^ ]*)')
 
 
@@ -66,7 +67,7 @@ class KeptExchange:
     """A call, with its retransmissions and its replies. What they say is read once it is asked for.
 
     part: its connection
-    sent: its call; `record`, `frame` and `time` are of that
+    record, frame, time: those of its call
     again: its retransmissions
     answered: its replies
     latency: nanoseconds to the first reply
@@ -77,18 +78,11 @@ class KeptExchange:
         self.kept, self.at, self.part = kept, at, kept.parts[kept.part_of[at]]
         self.record, self.frame, self.time = kept.records[at], kept.frames[at], kept.times[at]
         self.procedure = kept.names[kept.kinds[at]]
-        # What was asked for.
-        self.known_asked: Asked | None = None
-        self.known_answers: list[str] | None = None
 
     @property
     def latency(self) -> int | None:
         latency = self.kept.latency(self.at)
         return None if latency == UNTIMED else latency
-
-    @property
-    def sent(self) -> SentRecord:
-        return SentRecord(self.record, self.frame, self.time, self.kept.sizes[self.at])
 
     @property
     def again(self) -> Sequence[SentRecord]:
@@ -99,27 +93,9 @@ class KeptExchange:
         return [self.kept.reply(number) for number in self.kept.replies_of(self.at)]
 
     @cached_property
-    def call(self) -> Message:
-        """What is asked, with all items."""
-        kept = self.kept
-        return Message(self.part.number, 'client', self.record, kept.xids[self.at],
-                       kept.listed_name(self.at), kept.asking[self.at], kept.values, self.frame,
-                       self.time)
-
-    @cached_property
-    def replies(self) -> list[Message]:
-        """What is answered, with all items."""
-        kept, call = self.kept, (self.kept.xids[self.at], self.kept.listed_name(self.at))
-        some = ((kept.reply(number), number) for number in kept.replies_of(self.at))
-        return [Message(self.part.number, 'server', one.record, *call, kept.answering[number],
-                        kept.values, one.frame, one.time) for one, number in some]
-
-    @property
     def asked(self) -> Asked:
         """What is asked, in words."""
-        if self.known_asked is None:
-            self.known_asked = asked_in(self.kept.listed_name(self.at), self.kept.asking[self.at])
-        return self.known_asked
+        return asked_in(self.kept.listed_name(self.at), self.kept.asking[self.at])
 
     @property
     def path(self) -> str | None:
@@ -132,7 +108,7 @@ class KeptExchange:
         if not self.part.paths.moves:
             return []
         handle = self.asked.handle if self.asked.entry is None else self.made
-        names = self.part.paths.all_of(handle) if handle else []
+        names = self.part.paths.names.all_of(handle) if handle else []
         return [name for name in names if name != self.path]
 
     @property
@@ -150,14 +126,11 @@ class KeptExchange:
         asked = self.asked
         return self.part.path(asked.other, asked.other_entry, self.frame or self.at + 1)
 
-    @property
+    @cached_property
     def answers(self) -> list[str]:
         """What each reply says, in words."""
-        if self.known_answers is None:
-            name, texts = self.kept.listed_name(self.at), self.kept.answering
-            self.known_answers = [answer_in(name, texts[number])
-                                  for number in self.kept.replies_of(self.at)]
-        return self.known_answers
+        name, texts = self.kept.listed_name(self.at), self.kept.answering
+        return [answer_in(name, texts[number]) for number in self.kept.replies_of(self.at)]
 
     @property
     def answer(self) -> str:
@@ -179,10 +152,13 @@ class KeptExchange:
 
     @property
     def waited(self) -> int | None:
-        """Nanoseconds without a reply: up to one on a later connection, or to the recording's
-        end."""
-        is_known = not self.kept.firsts[self.at] and not self.part.is_refused
-        return self.kept.waited(self.at) if is_known else None
+        """Nanoseconds without a reply: to one on a later connection, or the recording's end."""
+        kept = self.kept
+        if kept.firsts[self.at] or self.part.is_refused:
+            return None
+        later = kept.answered_later(self.at)
+        end = kept.ended if later is None else kept.reply_times[kept.firsts[later] - 1]
+        return end - self.time if end and self.time else None
 
     @property
     def earlier(self) -> str | None:
@@ -210,7 +186,7 @@ class KeptExchange:
 
 def call_text(one: KeptExchange) -> str:
     """A call with its paths and its other arguments."""
-    asked, words, path = one.asked, [short_name(one.procedure)], one.path
+    asked, words, path = one.asked, [short(one.procedure).ljust(WIDTH)], one.path
     if path is not None:
         words.append(path)
     if asked.other is not None:
@@ -273,7 +249,9 @@ class Kept:
         Raises what `listed_of` does.
         """
         paths = self.paths.setdefault(connection.server_end.rpartition(':')[0], Paths())
-        has_all = not is_refused and has_all_replies(connection)
+        # (all replies are recorded if the end is, and no byte is missing but for the beginning)
+        lacks = bool(connection.missing or {*connection.lacks} - {BEGUN_BEFORE})
+        has_all = not is_refused and connection.is_closed and not lacks
         self.starts.append(len(self))
         self.parts.append(KeptConnection(connection.number, connection.client_end,
                                          connection.server_end, paths, is_refused, has_all))
@@ -328,13 +306,6 @@ class Kept:
         before = self.earlier.get(at)
         return before is None or bool(self.firsts[before])
 
-    def waited(self, at: int) -> int | None:
-        """Returns for how many nanoseconds a call without a reply waited: until it was answered on
-        a later connection, or until the end of the recording."""
-        later = self.answered_later(at)
-        end = self.ended if later is None else self.reply_times[self.firsts[later] - 1]
-        return end - self.times[at] if end and self.times[at] else None
-
     def answered_later(self, at: int) -> int | None:
         """Returns the same call on a later connection on which it was answered, if there is one."""
         later = self.later.get(at)
@@ -343,7 +314,6 @@ class Kept:
         return later
 
     def exchange(self, at: int) -> KeptExchange:
-        """Returns an exchange by its number."""
         return KeptExchange(self, at)
 
     def position(self, at: int | None) -> str | None:
@@ -382,13 +352,6 @@ class Kept:
     @property
     def has_latencies(self) -> bool:
         return any(self.latency(at) != UNTIMED for at in range(len(self)))
-
-
-def has_all_replies(connection: TakenConnection) -> bool:
-    """Whether all replies of a connection are recorded: its end is, and no byte is missing but for
-    its beginning."""
-    lacks = set(connection.lacks) - {BEGUN_BEFORE}
-    return connection.is_closed and not (connection.missing or lacks)
 
 
 def host_of(end: str) -> str:

@@ -1,21 +1,19 @@
-"""The listing of a capture, as `nfs3canon show` prints it: messages, and the exchanges that they
-make up."""
+"""The listing of a capture, as `nfs3canon show` prints it: lines and messages."""
 from __future__ import annotations
 
 import contextlib
 import re
 import tempfile
-from collections import defaultdict
-from collections.abc import Iterable, Iterator
+from collections.abc import Iterator
 from dataclasses import dataclass, field
 from functools import cached_property
+from itertools import starmap
 from typing import IO, NamedTuple
 
 from ..recordings.coverage import call_named
 from ..recordings.taken import Completion, TakenConnection
 from ..shared.layouts import RAW
 from ..shared.programs import lines_of_program
-from .answering import Answering
 from .stored import LongValues, Value
 
 ITEM = re.compile(r' ([^=]+)=("[^"]*"|[^ ]*)')
@@ -32,9 +30,14 @@ class Line(NamedTuple):
     procedure: str
     text: str
 
+    def message(self, values: LongValues | None = None) -> Message:
+        """Returns its message. A long value is put among `values`, if there are some."""
+        return Message(self.connection, 'client' if self.is_call else 'server', self.record,
+                       self.xid, self.procedure, values.cut(self.text) if values else self.text,
+                       values)
+
 
 def line_of(line: str) -> Line:
-    """Reads a line of a listing."""
     connection, side, record, xid, rest = line.split(' ', 4)
     end = rest.find(' ')
     return Line(int(connection), side == 'client', int(record), int(xid[4:]), rest[:end],
@@ -74,7 +77,6 @@ def with_connection(line: str, number: int) -> str:
 
 
 class Item(NamedTuple):
-    """An item of a message: its name, and its value."""
     name: str
     value: Value
 
@@ -85,7 +87,6 @@ class Message:
 
     text: its items as the listing has them after the procedure, with marks for long values, which
         `values` has
-    frame, time: of the frame that completed it; 0 if there is none
     """
     connection: int
     side: str
@@ -94,8 +95,6 @@ class Message:
     procedure: str
     text: str = ''
     values: LongValues | None = field(default=None, repr=False, compare=False)
-    frame: int = 0
-    time: int = 0
 
     @property
     def is_call(self) -> bool:
@@ -114,58 +113,25 @@ class Message:
             return tuple(map(Item._make, some))
         return tuple(Item(name, self.values.value(word)) for name, word in some)
 
-    def value_of(self, name: str) -> str | None:
-        """The text of the first item of this name."""
-        return next((str(item.value) for item in self.items if item.name == name), None)
+    def value_of(self, name: str, some: range | None = None) -> str | None:
+        """The text of the first item of this name, of all or of some."""
+        items = self.items if some is None else self.items[some.start:some.stop]
+        return next((str(item.value) for item in items if item.name == name), None)
+
+    def entries(self) -> tuple[range, list[range], range]:
+        """Returns the items before the entries of a folder, those of each, and those after them."""
+        begins = [at for at, item in enumerate(self.items) if item.name == 'entry']
+        if not begins:
+            return range(len(self.items)), [], range(0)
+        return (range(begins[0]), list(starmap(range, zip(begins, begins[1:]))),
+                range(begins[-1], len(self.items)))
 
 
 @dataclass
 class Exchange:
-    """A call, its replies, and its retransmissions."""
+    """A call and its replies."""
     call: Message
     replies: list[Message] = field(default_factory=list)
-    again: list[Message] = field(default_factory=list)
-
-    @property
-    def procedure(self) -> str:
-        return self.call.procedure
-
-    @property
-    def calls(self) -> list[Message]:
-        """Its call each time that it was sent."""
-        return [self.call, *self.again]
-
-
-def message_of(line: str, values: LongValues | None = None) -> Message:
-    """Returns the message of a line of a listing. Long values are put among `values`."""
-    read = line_of(line)
-    return Message(read.connection, 'client' if read.is_call else 'server', read.record, read.xid,
-                   read.procedure, values.cut(read.text) if values else read.text, values)
-
-
-def messages_of(lines: Iterable[str], values: LongValues | None = None) -> Iterator[Message]:
-    """Returns the messages of a listing, line by line."""
-    return (message_of(line, values) for line in lines)
-
-
-def exchanges_of(messages: Iterable[Message]) -> dict[int, list[Exchange]]:
-    """Returns the exchanges of each connection, in the order of their calls."""
-    exchanges = defaultdict[int, list[Exchange]](list)
-    owners = defaultdict[int, list[Exchange]](list)  # the exchange of each call
-    answering = defaultdict[int, Answering](Answering)
-    for message in messages:
-        own, rule = owners[message.connection], answering[message.connection]
-        if not message.is_call:
-            own[rule.reply(message.xid)].replies.append(message)
-            continue
-        earlier = rule.call(message.xid, message.text)
-        if earlier is None:
-            exchanges[message.connection].append(Exchange(message))
-            own.append(exchanges[message.connection][-1])
-        else:
-            own[earlier].again.append(message)
-            own.append(own[earlier])
-    return dict(exchanges)
 
 
 def name_of_call(name: str, said: str) -> str:

@@ -7,7 +7,8 @@ together by paths.
 from __future__ import annotations
 
 from collections import defaultdict
-from collections.abc import Iterable, Sequence
+from collections.abc import Sequence
+from functools import cached_property
 from typing import NamedTuple
 
 from .listing import Exchange, Item
@@ -53,8 +54,7 @@ class FoundHandle(NamedTuple):
 
 
 class Move(NamedTuple):
-    """A RENAME: the frame that completed its reply, and the folder and the name before and
-    after."""
+    """A RENAME: the frame that completed its reply, and folder and name before and after."""
     frame: int
     folder: str
     name: str
@@ -73,11 +73,14 @@ class Paths:
         # frame.
         self.placed: dict[tuple[str, str], str] = {}
         self.found: list[FoundHandle] = []
-        self.names: Names | None = None  # what objects were called when, once that was asked for
+
+    @cached_property
+    def names(self) -> Names:
+        """What objects were called when, after all was learned."""
+        return Names(self)
 
     def of(self, handle: str) -> str | None:
-        """Returns the path of a handle, in hexadecimal, if one is known. A folder that is not known
-        is `?`."""
+        """Returns the path of a handle, if one is known. A folder that is not known is `?`."""
         if handle not in self.origins:
             return None
         # (by steps, since a folder may be thousands of folders below the first; in a circle, as no
@@ -101,18 +104,10 @@ class Paths:
 
     def at(self, handle: str, turn: int) -> str | None:
         """Returns the path of a handle at the time of a frame, after all was learned."""
-        if not self.moves:
-            return self.of(handle)
-        self.names = self.names or Names(self)
-        return self.names.path(handle, turn)
+        return self.names.path(handle, turn) if self.moves else self.of(handle)
 
-    def all_of(self, handle: str) -> list[str]:
-        """Returns all paths that an object had, in their order."""
-        self.names = self.names or Names(self)
-        return self.names.all_of(handle)
-
-    def learn(self, handle: str | None, origin: Origin, frame: int = 0) -> None:
-        known = self.origins.get(handle or '')
+    def learn(self, handle: str, origin: Origin, frame: int) -> None:
+        known = self.origins.get(handle)
         if frame and handle and origin.folder is not None:
             place = origin.folder, origin.name
             if self.placed.get(place) != handle:
@@ -129,29 +124,25 @@ class Paths:
         folder = call.value_of('fh') or ''
         name = (call.value_of('name') or call.value_of('dirpath') or '').strip('"')
         for reply in exchange.replies:
-            self.take_reply(exchange.procedure, folder, name, reply.items)
+            self.take_reply(call.procedure, folder, name, reply.items)
 
     def take_reply(self, procedure: str, folder: str, name: str, items: Sequence[Item],
                    frame: int = 0) -> None:
         """Learns from the items of a reply to a call with this folder and this name, or this whole
         path if it is MNT. If its frame is known, names may be asked for by the time."""
-        if procedure == MOUNTING:
-            self.learn(first_handle(items), Origin(None, name, True), frame)
-        elif procedure in MAKING:
-            self.learn(first_handle(items), Origin(folder, name, procedure != 'NFSPROC3_LOOKUP'),
-                       frame)
-        elif procedure == LISTING:
-            self.take_entries(folder, items, frame)
-
-    def take_entries(self, folder: str, items: Iterable[Item], frame: int = 0) -> None:
-        """Learns the handles of a READDIRPLUS reply, each of which comes after the name of its
-        entry."""
-        name = '.'
+        if procedure not in TEACHING:
+            return
+        own = None if procedure == MOUNTING else folder
+        name, is_made = ('.', False) if procedure == LISTING else (
+            name, procedure != 'NFSPROC3_LOOKUP')
         for item in items:
-            if item.name == 'name':
+            # (in a listing each handle comes after the name of its entry)
+            if item.name == 'name' and procedure == LISTING:
                 name = str(item.value).strip('"')
             elif item.name == 'fh':
-                self.learn(str(item.value), Origin(folder, name, False), frame)
+                self.learn(str(item.value), Origin(own, name, is_made), frame)
+                if procedure != LISTING:
+                    break
 
 
 class Names:
@@ -164,13 +155,8 @@ class Names:
         self.paths = paths
         self.history = defaultdict[str, list[tuple[int, Origin]]](list)
         self.still: dict[str, bool] = {}
-        if paths.moves:
-            self.replay()
-
-    def replay(self) -> None:
-        """Takes all names and moves in the order of their frames."""
         there = dict[tuple[str, str], str]()
-        events: list[FoundHandle | Move] = [*self.paths.found, *self.paths.moves]
+        events: list[FoundHandle | Move] = [*paths.found, *paths.moves]
         for event in sorted(events, key=lambda one: one.frame):
             if isinstance(event, FoundHandle):
                 there[event.folder, event.name] = event.handle
@@ -232,7 +218,3 @@ class Names:
                         if one and one.folder is not None and one.folder not in seen]
         paths = dict.fromkeys(self.path(handle, frame) for frame in sorted(frames))
         return [path for path in paths if path is not None]
-
-
-def first_handle(items: Iterable[Item]) -> str | None:
-    return next((str(item.value) for item in items if item.name == 'fh'), None)

@@ -8,17 +8,15 @@ The texts are those of `Line`. Handles are numbers, as in a canonical form.
 from __future__ import annotations
 
 import re
-from collections.abc import Iterable, Iterator
+from collections.abc import Callable, Iterable, Iterator
 from sys import intern
-from typing import NamedTuple
+from typing import Any, NamedTuple
 
 from ..recordings.frames import NANOSECONDS
 
 HANDLE = re.compile(r' fh=([0-9a-f]{1,8})(?![^ ])')
-FIRST_NAME = re.compile(r' (?:name|dirpath)="([^"]*)"')
 NAME = re.compile(r' name="([^"]*)"')
 NAME_OR_HANDLE = re.compile(r' name="([^"]*)"| fh=([0-9a-f]{1,8})(?![^ ])')
-ALIKE = re.compile(r' (?:prog|vers|proc|name|dirpath|offset)=("[^"]*"|[^ ]+)')
 REPLY_PART = re.compile(
     r' type=(\d+) mode=(\d+) nlink=(\d+) uid=(\d+) gid=(\d+) size=(\d+) used=\d+ rdev1=(\d+) '
     r'rdev2=(\d+) fsid=(\d+) fileid=(\d+) atime_sec=\d+ atime_nsec=\d+ mtime_sec=\d+ '
@@ -26,10 +24,6 @@ REPLY_PART = re.compile(
     r'| fileid=(\d+) name="([^"]*)"| fh=([0-9a-f]+)| attr=0')
 WRITTEN = re.compile(r' offset=(\d+) count=(\d+) stable=')
 SETTING = re.compile(r' set_(mode|uid|gid|size)=1')
-ACCESS_ITEM = re.compile(r' access=(\d+)')
-NAME_AND_COOKIE = re.compile(r' name="([^"]*)" cookie=(\d+)')
-COOKIE = re.compile(r' cookie=(\d+)')
-VERIFIER = re.compile(r' createverf=([^ ]+)')
 
 
 class SpelledAttributes(NamedTuple):
@@ -55,20 +49,14 @@ class ReplyPart(NamedTuple):
     name: str | None = None
     handle: int | None = None
 
-    @property
-    def is_of_attributes(self) -> bool:
-        """Whether it is attributes, or that there are none."""
-        return self.name is None and self.handle is None
-
 
 def parts_in(text: str) -> Iterator[ReplyPart]:
-    """Iterates over the parts of a reply."""
     for found in REPLY_PART.finditer(text):
         if found[1]:
             # (one text for equal ones: there may be many answers)
             attributes = SpelledAttributes._make(map(intern, found.group(*range(1, 11))))
             yield ReplyPart(attributes, int(found[11]) * NANOSECONDS + int(found[12]),
-                       attributes.fileid)
+                            attributes.fileid)
         elif found[15]:
             yield ReplyPart(handle=int(found[15], 16))
         else:
@@ -89,25 +77,17 @@ def names_in(text: str) -> list[str]:
     return NAME.findall(text) if ' name="' in text else []
 
 
-def first_name_in(text: str) -> str | None:
-    """Returns the first name, or the path of a MNT."""
-    found = FIRST_NAME.search(text)
-    return found[1] if found else None
-
-
-def names_and_handles_in(text: str) -> Iterator[str | int]:
-    """Iterates over the names and the handles as they come."""
-    return (found[1] if found[2] is None else int(found[2], 16)
-            for found in NAME_OR_HANDLE.finditer(text))
-
-
-def alike_in(text: str) -> tuple[str, ...]:
-    """Returns what alike calls have in common: the procedure's numbers, names and an offset."""
-    return tuple(ALIKE.findall(text))
+def entries_in(text: str) -> Iterator[tuple[str, int]]:
+    """Iterates over the handles of a folder's entries, each with the name that comes before it."""
+    name = '.'
+    for found in NAME_OR_HANDLE.finditer(text):
+        if found[2] is None:
+            name = found[1]
+        else:
+            yield name, int(found[2], 16)
 
 
 def end_of_write_in(text: str) -> int | None:
-    """Returns where a WRITE ends."""
     found = WRITTEN.search(text)
     return int(found[1]) + int(found[2]) if found else None
 
@@ -117,25 +97,28 @@ def settings_in(text: str) -> frozenset[str]:
     return frozenset(SETTING.findall(text) if ' set_' in text else ())
 
 
-def access_in(text: str) -> str | None:
-    """Returns what an ACCESS grants."""
-    found = ACCESS_ITEM.search(text)
-    return found[1] if found else None
+def first_of(pattern: str) -> Callable[[str], str | None]:
+    """Returns a search for what the first match of a pattern has as its group, if there is one."""
+    search = re.compile(pattern).search
+
+    def found_in(text: str) -> str | None:
+        found = search(text)
+        return found[1] if found else None
+    return found_in
 
 
-def cookies_of_names_in(text: str) -> Iterator[tuple[str, str]]:
-    """Iterates over the names of entries, each with its cookie."""
-    return ((found[1], found[2]) for found in NAME_AND_COOKIE.finditer(text))
+def all_of(pattern: str) -> Callable[[str], list[Any]]:
+    """Returns a search for the groups of all matches of a pattern."""
+    return re.compile(pattern).findall
 
 
-def cookies_in(text: str) -> list[str]:
-    return COOKIE.findall(text)
-
-
-def verifier_in(text: str) -> str | None:
-    """Returns the verifier of an exclusive CREATE."""
-    found = VERIFIER.search(text)
-    return found[1] if found else None
+first_name_in = first_of(r' (?:name|dirpath)="([^"]*)"')  # or the path of a MNT
+access_in = first_of(r' access=(\d+)')  # what an ACCESS grants
+verifier_in = first_of(r' createverf=([^ ]+)')  # of an exclusive CREATE
+cookies_in = all_of(r' cookie=(\d+)')
+cookies_of_names_in = all_of(r' name="([^"]*)" cookie=(\d+)')  # names of entries, each with its own
+# What alike calls have in common: the procedure's numbers, names and an offset
+alike_in = all_of(r' (?:prog|vers|proc|name|dirpath|offset)=("[^"]*"|[^ ]+)')
 
 
 def pattern_of_items(names: Iterable[str]) -> re.Pattern[str]:

@@ -43,13 +43,7 @@ class Long:
 
     def read(self, begin: int, end: int) -> bytes:
         """Returns the bytes from one place up to another, or up to the end."""
-        return os.pread(self.file.fileno(), max(0, min(end, self.size) - begin),
-                        self.begin + begin)
-
-    @property
-    def digits(self) -> str:
-        """All of it, as the listing spells it."""
-        return self.read(0, self.size).hex()
+        return os.pread(self.file.fileno(), max(0, min(end, self.size) - begin), self.begin + begin)
 
     def shown(self, number: int) -> str:
         """Returns the given number of its first digits."""
@@ -62,7 +56,7 @@ Value = Union[str, Long]
 
 def spelled(value: Value) -> str:
     """Returns all of a value, as the listing spells it."""
-    return value.digits if isinstance(value, Long) else value
+    return value[:].hex() if isinstance(value, Long) else value
 
 
 class LongValues:
@@ -74,18 +68,17 @@ class LongValues:
         self.size = 0
 
     def cut(self, text: str) -> str:
-        """Returns items with a mark in the place of a long value."""
+        """Keeps a long value, and returns items with a mark in its place: where it is, and what."""
         begin = begin_of_long(text)
-        return text if begin is None else f'{text[:begin]}{self.mark_of(text[begin:])}'
-
-    def mark_of(self, digits: str) -> str:
-        """Keeps a value, and returns where and what it is."""
+        if begin is None:
+            return text
         if self.file is None:
             self.file = tempfile.TemporaryFile(prefix='nfs3canon', buffering=0)
-        content, begin = bytes.fromhex(digits), self.size
-        while self.size < begin + len(content):
-            self.size += os.pwrite(self.file.fileno(), content[self.size - begin:], self.size)
-        return f'{LONG_MARK}{begin}+{len(content)}:{hashlib.sha256(content).hexdigest()}'
+        content, at = bytes.fromhex(text[begin:]), self.size
+        while self.size < at + len(content):
+            self.size += os.pwrite(self.file.fileno(), content[self.size - at:], self.size)
+        digest = hashlib.sha256(content).hexdigest()
+        return f'{text[:begin]}{LONG_MARK}{at}+{len(content)}:{digest}'
 
     def value(self, word: str) -> Value:
         """Returns the value that a word of a text is, or marks."""
@@ -112,8 +105,7 @@ def without_long(text: str) -> str:
 
 
 class Texts:
-    """Texts in a temporary file, numbered from 0. Those that are near one another are read at
-    once."""
+    """Texts in a temporary file, numbered from 0. Those near one another are read at once."""
 
     def __init__(self, spool: Spool) -> None:
         self.stored, self.begins, self.size = Stored(spool), array('Q', [0]), 0

@@ -134,8 +134,7 @@ class Across(Objects):
                           or left.verifier != verifier]
 
     def verifier_of(self, one: RecordedExchange) -> Verifier:
-        """Returns the verifier of a reply, which stays. Data under one that is another now may be
-        lost."""
+        """Returns the verifier of a reply, which stays: data under an earlier one may be lost."""
         verifier = one.server, 'verifier', one.reply['verf']
         known, source = self.verifiers.setdefault(one.server, (verifier, one.source))
         if known != verifier:

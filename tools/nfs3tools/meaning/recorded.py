@@ -39,8 +39,7 @@ OWNERS: dict[str, tuple[tuple[str, str], ...]] = {
 
 
 class StatedAttributes(NamedTuple):
-    """What a reply says of an object: its handle, if it is known, and its attributes now and
-    before."""
+    """What a reply says of an object: its handle, if known, and attributes now and before."""
     handle: str
     now: Attributes | None
     before: Attributes | None

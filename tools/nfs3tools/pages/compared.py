@@ -17,10 +17,11 @@ from typing import NamedTuple, Optional
 from ..comparison.values.classes import mask_text
 from ..comparison.verdict import summary
 from ..comparison.verdict.cover import NotJudged, losses_of
+from ..comparison.verdict.decision import Report
 from ..comparison.verdict.excerpt import ExcerptConnection, ExcerptRow, HiddenCalls
 from ..comparison.verdict.findings import RUNS, Compared, Finding, Run
 from ..comparison.verdict.ignored import Ignored
-from ..comparison.verdict.report import Report
+from ..exchanges.in_words import short
 from ..exchanges.listing import Message
 from ..recordings.coverage import named_calls
 from ..recordings.parts import Part
@@ -146,7 +147,7 @@ def facts_of(content: ComparedContent, at: int) -> Iterator[tuple[str, str, str]
         yield 'raw', named_calls(counts.raw) or NO_VALUE, NO_VALUE
         yield 'not judged as a whole', more_of([*map(not_judged_text, cover.rows())]), NO_VALUE
     yield 'only in this run', count(compared.lonely[at], 'call'), count(0, 'call')
-    left_out = (f'{number:,} {summary.short(name)}'
+    left_out = (f'{number:,} {short(name)}'
                 for name, number in sorted(compared.left_out[at].items()))
     yield 'calls left out', ', '.join(left_out) or NO_VALUE, NO_VALUE
 
@@ -262,7 +263,7 @@ class ComparedContent:
             often = (f'<a href=#f{first}>{len(some):,}</a>' if first <= len(self.shown)
                      else f'{len(some):,}')
             path = code(min(paths)) if len(paths) == 1 else f'{len(paths):,} paths' if paths else ''
-            same = '' if procedure == before else escape(summary.short(procedure))
+            same = '' if procedure == before else escape(short(procedure))
             yield (f'<tr><td>{same}</td><td>{escape(field)}</td><td>{path}</td>'
                    f'<td class=count>{often}</td></tr>')
             before = procedure

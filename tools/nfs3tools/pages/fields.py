@@ -10,8 +10,7 @@ from typing import NamedTuple
 
 from ..comparison.values import long_values
 from ..comparison.values.long_values import bytes_of, is_long, spelled_bytes
-from ..comparison.verdict.arguments import LAST_OF_HEAD
-from ..comparison.verdict.differences import Difference
+from ..comparison.verdict.differences import LAST_OF_HEAD, Difference
 from ..comparison.verdict.findings import Finding
 from ..exchanges.listing import Message
 from ..exchanges.stored import Value

@@ -13,7 +13,7 @@ from itertools import chain
 from typing import Any, NamedTuple
 
 from ..comparison.verdict.findings import Compared, Finding
-from ..comparison.verdict.summary import short
+from ..exchanges.in_words import short
 from ..recordings.selection import count, plural
 from ..reporting.telling import is_of_equal_values
 

@@ -6,13 +6,14 @@ from collections import Counter
 from collections.abc import Iterable, Iterator, Sequence
 from typing import Any
 
+from ..comparison.parts.part_by_part import PartReport
 from ..comparison.values.classes import Mask
 from ..comparison.verdict.accepted import Split
 from ..comparison.verdict.cover import Cover
+from ..comparison.verdict.decision import Report
 from ..comparison.verdict.differences import Difference
 from ..comparison.verdict.findings import RUNS, Compared, Finding, Framing
-from ..comparison.verdict.report import PartReport, Report
-from ..comparison.verdict.summary import short
+from ..exchanges.in_words import short
 from ..exchanges.listing import Message
 from ..exchanges.stored import Long, Value
 from ..shared.printed import escaped, printable
@@ -48,7 +49,7 @@ def json_of_comparison(report: Report, compared: Compared, left_out: Counter[tup
         'left_out': [{'procedure': one.message.procedure, 'path': one.path,
                       'first': of_message(one.first, framings[0]),
                       'second': of_message(one.second, framings[1]),
-                      'kind': one.kind, 'why': one.why or None} for one in compared.silent],
+                      'kind': one.kind, 'why': one.remark or None} for one in compared.silent],
         'accepted': report.accepted and accepted_object(report.accepted, framings)}
     yield json.dumps(head, indent=1).removesuffix('\n}').encode() + b',\n "findings": ['
     for number, finding in enumerate(compared.findings):
@@ -72,7 +73,8 @@ def json_of_parts(marks: str, covers: Sequence[Cover], parts: Sequence[PartRepor
                       'runs': [*map(cover_members, covers)]},
                      indent=1).removesuffix('\n}').encode() + b',\n "parts": ['
     for turn, part in enumerate(parts):
-        head = {'name': part.name, 'number': part.number, 'verdict': part.word(), 'only': part.only}
+        head = {'name': part.name.plain, 'number': part.name.number, 'verdict': part.word(),
+                'only': part.only}
         yield ((b',\n' if turn else b'\n') + json.dumps(head).removesuffix('}').encode()
                + b', "comparison": ')
         yield from json_of_comparison(part.report, part.compared, part.left_out,
@@ -179,7 +181,7 @@ def junit_of_comparison(line: str, report: Report, compared: Compared, framings:
     Findings that say the same are one. The counts are properties, and each run of which a part is
     refused has a case with an error."""
     groups = [] if is_good else groups_alike(compared.findings)
-    cases = Cases(report.names, report.covers or (), report.accepted)
+    cases = Cases(report.names, report.covers, report.accepted)
     silent = [*telling.of_accepted(report.accepted, framings, True),
               *of_silent(compared, framings, CASES_AT_MOST)]
     more = ([f'{len(groups) - CASES_AT_MOST:,} more findings have no case']
@@ -228,14 +230,14 @@ def junit_of_parts(names: Sequence[str], covers: Sequence[Cover], losses: str,
     for part in parts:
         silent = list(of_silent(part.compared, framings, CASES_AT_MOST))
         if part.is_good:
-            cases.add(part.label, text=[part.line, *silent])
+            cases.add(str(part.name), text=[part.line(), *silent])
         else:
             groups = groups_alike(part.compared.findings)
             texts = [line for group in groups[:CASES_AT_MOST]
                      for line in of_group(group, *framings)] + silent
             more = ([f'{len(groups) - CASES_AT_MOST:,} more findings']
                     if len(groups) > CASES_AT_MOST else [])
-            cases.add(part.label, 'failure', part.line, [*texts, *more], type=part.word())
+            cases.add(str(part.name), 'failure', part.line(), [*texts, *more], type=part.word())
     return cases.written()
 
 

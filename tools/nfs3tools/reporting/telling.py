@@ -7,7 +7,7 @@ from collections.abc import Iterable, Iterator, Sequence
 from ..comparison.values import long_values
 from ..comparison.verdict.accepted import Split, entry_text
 from ..comparison.verdict.differences import Difference
-from ..comparison.verdict.findings import Compared, Finding, Framing, Silent
+from ..comparison.verdict.findings import Compared, Finding, Framing
 from ..exchanges.listing import Message
 from ..exchanges.stored import Long, Value
 
@@ -192,7 +192,7 @@ def brief_difference(difference: Difference) -> str:
 def of_silent(compared: Compared, framings: Sequence[Framing], most: int | None) -> Iterator[str]:
     """The calls that are left out, those together of one procedure and path, up to `most` of such
     groups, or each by itself."""
-    groups, (first, second) = defaultdict[object, list[Silent]](list), framings
+    groups, (first, second) = defaultdict[object, list[Finding]](list), framings
     for number, call in enumerate(compared.silent):
         key = call.kind, call.first is None, call.message.procedure, call.path
         groups[number if most is None else key].append(call)
@@ -203,22 +203,23 @@ def of_silent(compared: Compared, framings: Sequence[Framing], most: int | None)
         yield f'.. and {len(groups) - most:,} more left out (--all prints them)'
 
 
-def of_whom(call: Silent) -> str:
+def of_whom(call: Finding) -> str:
     """Returns which run has a call that is left out."""
     return ('' if call.first and call.second
             else f' of the {"first" if call.first else "second"} run')
 
 
-def silent_of(some: Sequence[Silent]) -> str:
+def silent_of(some: Sequence[Finding]) -> str:
     """Returns which calls are left out, of one procedure and path."""
     call, path = some[0], f' {some[0].path}' if some[0].path else ''
     kind = '' if call.kind == 'only' else f', {WHY_LEFT_OUT[call.kind]}'
     return f'{len(some):,} {call.message.procedure}{path}{kind}{", first" if len(some) > 1 else ""}'
 
 
-def why_of(call: Silent) -> str:
+def why_of(call: Finding) -> str:
     """Returns the change that explains an answer, or how often a call was sent."""
-    return f', by {call.why}' if call.kind == 'explained' else f', {call.why}' * bool(call.why)
+    by = 'by ' if call.kind == 'explained' else ''
+    return f', {by}{call.remark}' if call.remark else ''
 
 
 def places_text(one: Message | None, other: Message | None, first: Framing, second: Framing) -> str:

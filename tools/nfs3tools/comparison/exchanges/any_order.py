@@ -9,15 +9,14 @@ from functools import cached_property
 from ...exchanges.in_words import LISTINGS
 from ...recordings.taken import Taken
 from ..values.classes import Mask
-from .changes import BothChanges, Change
-from .explained import Explainer
+from .changes import BothChanges, Change, Changes, Turns, is_quiet
+from .explained import Doubt, free_items
 from .extras import Extras, ReasonsOfCalls, refused
 from .facts import Facts
 from .followed import Followed, partners_of, with_values
 from .matching import Pair
 from .outlines import Outlines
 from .pairing import Listing, Pairing
-from .turns import Turns, is_quiet, turns_of
 
 
 @dataclass
@@ -36,24 +35,21 @@ class TwoRuns:
     """Two runs whose exchanges are brought together, and what their answers say."""
 
     def __init__(self, taken: Sequence[Taken], pairing: Pairing,
-                 listed: Callable[[], tuple[Listing, Listing]], leaves_out: frozenset[str]) -> None:
-        """`listed` returns the listings of the canonical forms without a mask."""
-        self.taken, self.pairing = (taken[0], taken[1]), pairing
-        here, there = pairing.here, pairing.there
+                 listings: Callable[[], tuple[Listing, Listing]],
+                 leaves_out: frozenset[str]) -> None:
+        """`listings` returns those of the canonical forms without a mask."""
+        self.taken, self.pairing, self.listings = taken, pairing, listings
+        here, there = pairing.runs
         self.unequal = [(at, to) for at, to in pairing.pairs() if here.said[at] != there.said[to]]
-        self.extras = (extras_of(here, pairing.only_first(), leaves_out),
-                       extras_of(there, pairing.only_second(), leaves_out))
-        self.listed = listed
-
-    @cached_property
-    def listings(self) -> tuple[Listing, Listing]:
-        return self.listed()
+        self.extras = [[at for at in pairing.alone(run) if own.procedure_of(at) in leaves_out]
+                       for run, own in enumerate(pairing.runs)]
 
     @cached_property
     def turns(self) -> tuple[Turns, Turns] | None:
         """When the calls of both runs were sent and answered, if frames say it."""
-        has_order = all(one.has_frames for one in self.taken)
-        return turns_of(self.taken, self.pairing) if has_order else None
+        first, second = self.taken
+        return (Turns(first, self.pairing, 0), Turns(second, self.pairing, 1)) if (
+            first.has_frames and second.has_frames) else None
 
     @cached_property
     def doubtful(self) -> list[Pair]:
@@ -64,49 +60,44 @@ class TwoRuns:
             procedure_of(pair[0]) in LISTINGS or not is_quiet(turns, pair))]
 
     @cached_property
-    def wanted(self) -> tuple[set[int], set[int]]:
-        """The exchanges of both runs that may be left out."""
-        return ({at for at, _ in self.doubtful}.union(self.extras[0]),
-                {to for _, to in self.doubtful}.union(self.extras[1]))
+    def changes(self) -> BothChanges:
+        """The changes of both runs, and what their answers say about the objects of what differs,
+        which is read once it is asked for."""
+        first, second = (self.changes_of(run, {pair[run] for pair in self.doubtful}.union(some))
+                         for run, some in enumerate(self.extras))
+        return BothChanges(first, second)
 
-    @cached_property
-    def facts(self) -> tuple[Facts, Facts]:
-        """What the answers of both runs say about the objects of what differs, which is read once
-        it is asked for."""
-        here, there = self.pairing.here, self.pairing.there
-        return (Facts(here, self.listings[0](), self.wanted[0], handles_of(here, self.wanted[0])),
-                Facts(there, self.listings[1](), self.wanted[1], handles_of(there, self.wanted[1])))
-
-    def all_facts(self) -> tuple[Facts, Facts]:
-        """Returns what the answers of both runs say about all objects."""
-        return (Facts(self.pairing.here, self.listings[0]()),
-                Facts(self.pairing.there, self.listings[1]()))
-
-    @cached_property
-    def changes(self) -> BothChanges | None:
-        """The changes of both runs, if frames say their order."""
-        return BothChanges(self.turns, self.facts) if self.turns else None
+    def changes_of(self, run: int, wanted: set[int]) -> Changes:
+        """Returns the changes of a run, of which some exchanges may be left out."""
+        outlines, turns = self.pairing.runs[run], self.turns
+        # (what lists folders may have any handles)
+        handles = None if any(outlines.procedure_of(at) in LISTINGS for at in wanted) else {
+            handle for at in wanted for handle in (*outlines.objects_of(at), outlines.found[at])
+            if handle}
+        facts = Facts(outlines, self.listings()[run](), wanted, handles)
+        return Changes(self.pairing, run, facts, turns[run] if turns else None)
 
     def explanation(self, mask: Mask) -> Explanation:
         out = Explanation()
         if self.unequal or any(self.extras):
             identify(self.pairing)
-        if self.doubtful and self.changes:
-            explainer = Explainer(self.changes, self.facts, mask)
-            found = ((pair, explainer.explained(pair)) for pair in self.doubtful)
+        if self.doubtful:
+            free = free_items(mask)
+            found = ((pair, Doubt(self.changes, pair, mask, free).explained())
+                     for pair in self.doubtful)
             out.pairs = {pair: changes for pair, changes in found if changes is not None}
         if any(self.extras):
-            paired = [set(some) for some in (self.pairing.order_of_first(),
-                                             self.pairing.order_of_second())]
-            first, second = (Extras(run, facts, some, own, self.changes) for run, (
-                facts, some, own) in enumerate(zip(self.facts, self.extras, paired)))
-            out.counted = refused((first, second))
+            out.counted = refused(*(
+                Extras(self.changes, run, some, set(self.pairing.matched(run)))
+                for run, some in enumerate(self.extras)))
         return out
 
     def followed(self, classes: frozenset[str]) -> Taken:
         """Returns the second run with the first run's values of these classes."""
-        values = Followed(self.pairing, self.listings, self.all_facts(), classes).values
-        return with_values(self.taken[1], values, self.listings[1]())
+        listings = self.listings()
+        facts = [Facts(own, listing()) for own, listing in zip(self.pairing.runs, listings)]
+        values = Followed(self.pairing, listings, facts, classes).values
+        return with_values(self.taken[1], values, listings[1]())
 
 
 def identify(pairing: Pairing) -> None:
@@ -117,15 +108,3 @@ def identify(pairing: Pairing) -> None:
         if not pairing.there.identities[other] and not pairing.here.identities[handle]:
             identity = hash(('without a path', handle))
             pairing.here.identities[handle] = pairing.there.identities[other] = identity
-
-
-def handles_of(outlines: Outlines, some: Iterable[int]) -> set[int] | None:
-    """Returns the handles of some exchanges, or None if they list folders and may have any."""
-    if any(outlines.procedure_of(at) in LISTINGS for at in some):
-        return None
-    return {handle for at in some for handle in (*outlines.objects_of(at), outlines.found[at])
-            if handle}
-
-
-def extras_of(outlines: Outlines, only: Iterable[int], leaves_out: frozenset[str]) -> list[int]:
-    return [at for at in only if outlines.procedure_of(at) in leaves_out]

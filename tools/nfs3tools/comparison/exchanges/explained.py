@@ -13,18 +13,15 @@ most the end of a WRITE that was sent before. All ids are those that the run say
 """
 from __future__ import annotations
 
-from collections.abc import Iterable, Sequence
-from functools import cached_property
+from collections.abc import Sequence
 from typing import NamedTuple, Optional
 
 from ...exchanges.in_words import LISTINGS
-from ...exchanges.listing import Item
 from ...exchanges.objects import MAKING
 from ...exchanges.whose import Labels
 from ..values.classes import CLASSES, Mask, Way
-from .agreement import NOTHING_ELSE, disagrees, end_of_writes
-from .changes import ANY_OBJECT, GONE, BothChanges, Change, ChangeKey
-from .facts import DONE, LOOKUP, NO_ENTRY, Facts, Statement, facts_in_reply, is_silly
+from .changes import ANY_OBJECT, GONE, NOTHING_ELSE, BothChanges, Change, ChangeKey, Changes
+from .facts import DONE, LOOKUP, NO_ENTRY, is_silly
 from .matching import Pair
 
 SIZE_ITEMS = frozenset(('size', 'nlink'))
@@ -56,269 +53,212 @@ class Field(NamedTuple):
 class Reply:
     """The only reply of one exchange of a pair, with what it asks."""
 
-    def __init__(self, run: int, at: int, facts: Facts) -> None:
-        self.run, self.at, self.facts, self.outlines = run, at, facts, facts.outlines
-        _, (self.message,) = facts.messages[at]
+    def __init__(self, changes: Changes, at: int) -> None:
+        self.changes, self.facts, self.outlines, self.at = (
+            changes, changes.facts, changes.outlines, at)
+        _, (self.message,) = self.facts.messages[at]
         self.labels = Labels(self.message)
         self.procedure = self.message.procedure
         self.status = self.message.value_of('status')
+        # The object of the first handle of the call, and that which is found, or made
+        self.folder, found = self.outlines.object_of(at), self.outlines.found[at]
+        self.found = self.outlines.identities[found] if found else 0
 
     def identity_of(self, handle: str) -> int:
-        number = int(handle, 16) if 0 < len(handle) <= 8 else 0
-        identities = self.outlines.identities
-        return identities[number] if number < len(identities) else 0
-
-    @cached_property
-    def told(self) -> list[Statement]:
-        """What it says of all objects."""
-        return facts_in_reply(self.procedure, self.outlines.objects_of(self.at),
-                              self.facts.names.get(self.at, ('',))[0], self.message.text).told
-
-    @property
-    def folder(self) -> int:
-        """The object of the first handle of the call."""
-        return self.outlines.identities[self.outlines.folders[self.at]]
-
-    @property
-    def found(self) -> int:
-        """The object that the answer has found, or made."""
-        handle = self.outlines.found[self.at]
-        return self.outlines.identities[handle] if handle else 0
+        return self.changes.identity(int(handle, 16)) if 0 < len(handle) <= 8 else 0
 
     def owner_of(self, word: str) -> int:
-        """Returns the object of a part of the reply."""
         if word == 'obj' and self.procedure in MAKING:
             return self.found
         if (self.procedure, word) in SECOND_HANDLES:
             return self.outlines.identities[self.outlines.seconds[self.at]]
         return self.folder
 
-    def fields(self, items: range, entry: int | None = None) -> list[Field]:
-        """Returns some items. `entry` is the object of the directory's entry in which they are."""
+    def fields(self, some: range | None = None, entry: int | None = None) -> list[Field]:
+        """Returns all items, or some. `entry` is the object of the entry in which they are."""
         out = list[Field]()
-        for at in items:
-            owners = self.labels.slots[at].owners
-            word = owners[0].word if owners else ''
-            identity = entry if entry is not None else self.owner_of(word)
-            item = self.message.items[at]
-            if item.name == 'fh':
-                identity = self.identity_of(str(item.value))
+        for at in range(len(self.message.items)) if some is None else some:
+            owners, item = self.labels.slots[at].owners, self.message.items[at]
+            identity = (self.identity_of(str(item.value)) if item.name == 'fh'
+                        else self.owner_of(owners[0].word if owners else '') if entry is None
+                        else entry)
             out.append(Field(item.name, str(item.value), ' '.join(one.word for one in owners),
                              identity))
         return out
 
-    def entries(self) -> tuple[range, list[range], range]:
-        """Returns the items before the entries of a folder, those of each, and those after them."""
-        begins = [at for at, item in enumerate(self.message.items) if item.name == 'entry']
-        size = len(self.message.items)
-        if not begins:
-            return range(size), [], range(0)
-        return (range(begins[0]), [range(*ends) for ends in zip(begins, begins[1:])],
-                range(begins[-1], size))
-
-    def name_in(self, entry: range) -> str:
-        return self.text_in(entry, 'name').strip('"')
-
     def object_in(self, entry: range) -> int:
-        return self.identity_of(self.text_in(entry, 'fh'))
+        return self.identity_of(self.message.value_of('fh', entry) or '')
 
-    def text_in(self, entry: range, name: str) -> str:
-        items: Iterable[Item] = (self.message.items[at] for at in entry)
-        return next((str(item.value) for item in items if item.name == name), '')
+    def check_alone(self, identity: int) -> None:
+        """Raises `Unexplained` if it disagrees with its run on an object that it alone shows."""
+        why = {self.changes.disagrees(self.at, one)
+               for one in self.facts.said_in(self.at, self.message).told
+               if one.handle and self.changes.identity(one.handle) == identity}
+        if why - {'', NOTHING_ELSE}:
+            raise Unexplained
 
 
-Replies = tuple[Reply, Reply]
+def free_items(mask: Mask) -> frozenset[str]:
+    """Returns the names of the items that may differ under a mask."""
+    return frozenset(name for one in CLASSES for name in one.items
+                     if mask.get(one.name) is Way.ZERO and not one.is_of_changes
+                     and not one.has_names) | {
+        name for name, way in FOLLOWING_ITEMS.items() if way in mask}
 
 
-class Explainer:
-    """Finds which changes explain a pair of answers."""
+class Doubt:
+    """A pair of answers that differ, and what explains it. Items that are `free` may differ."""
 
-    def __init__(self, changes: BothChanges, facts: tuple[Facts, Facts], mask: Mask) -> None:
-        self.changes, self.facts, self.mask = changes, facts, mask
-        self.found = dict[tuple[Pair, ChangeKey], list[Change]]()  # of the last pair
-        self.free = frozenset(name for one in CLASSES for name in one.items
-                              if mask.get(one.name) is Way.ZERO and not one.is_of_changes
-                              and not one.has_names)
-        self.free |= {name for name, way in FOLLOWING_ITEMS.items() if way in mask}
+    def __init__(self, changes: BothChanges, pair: Pair, mask: Mask, free: frozenset[str]) -> None:
+        self.changes, self.pair, self.mask, self.free = changes, pair, mask, free
+        self.facts = [run.facts for run in changes.runs]
+        self.found = dict[ChangeKey, list[Change]]()
+        self.both = list[Reply]()
 
-    def explained(self, pair: Pair) -> list[Change] | None:
-        """Returns the changes that explain how two answers differ, or None if something else does.
+    def explained(self) -> list[Change] | None:
+        """Returns the changes that explain how the answers differ, or None if something else does.
         There are none if only places of masked names differ."""
-        here, there = self.facts[0].outlines, self.facts[1].outlines
-        if here.asked[pair[0]] != there.asked[pair[1]] or self.objects(0, pair) != self.objects(
-                1, pair):
+        runs = list(zip(self.changes.runs, self.pair))
+        asked = {(run.outlines.asked[at], *map(run.identity, run.outlines.objects_of(at)))
+                 for run, at in runs}
+        if len(asked) > 1 or any(at in run.facts.odd or len(run.facts.messages[at][1]) != 1
+                                 for run, at in runs):
             return None
-        if any(at in facts.odd or len(facts.messages[at][1]) != 1
-               for at, facts in zip(pair, self.facts)) or not self.are_alike_cookies(pair):
+        # (both ask from the beginning of a folder, or neither does)
+        if len({run.facts.messages[at][0].value_of('cookie') == '0' for run, at in runs}) > 1:
             return None
-        first, second = (Reply(run, at, facts)
-                         for run, (at, facts) in enumerate(zip(pair, self.facts)))
+        self.both = [Reply(run, at) for run, at in runs]
         try:
-            found = self.of_replies(pair, (first, second))
+            return list(dict.fromkeys(self.of_replies()))
         except Unexplained:
             return None
-        return list(dict.fromkeys(found))
 
-    def objects(self, run: int, pair: Pair) -> list[int]:
-        """Returns the objects about which a call of a pair asks."""
-        outlines = self.facts[run].outlines
-        return [outlines.identities[handle] for handle in outlines.objects_of(pair[run])]
-
-    def are_alike_cookies(self, pair: Pair) -> bool:
-        """Whether both ask from the beginning of a folder, or neither does."""
-        zeros = {facts.messages[at][0].value_of('cookie') == '0'
-                 for at, facts in zip(pair, self.facts)}
-        return len(zeros) == 1
-
-    def of_replies(self, pair: Pair, both: Replies) -> list[Change]:
-        first, second = both
+    def of_replies(self) -> list[Change]:
+        first, second = self.both
         if first.procedure == LOOKUP and (first.status, first.found) != (
                 second.status, second.found):
-            return self.of_lookup(pair, both)
+            return self.of_lookup()
         if first.status != second.status:
             raise Unexplained
         if first.procedure in LISTINGS and first.status == DONE:
-            return self.of_listing(pair, both)
-        return self.of_fields(pair, *(one.fields(range(len(one.message.items))) for one in both))
+            return self.of_listing()
+        return self.of_fields(first.fields(), second.fields())
 
-    def otherwise(self, pair: Pair, key: ChangeKey) -> list[Change]:
-        """Returns the changes that stand otherwise to a pair. There has to be one."""
-        if not key:
+    def otherwise(self, key: ChangeKey) -> list[Change]:
+        """Returns the changes that stand otherwise to the pair. There has to be one."""
+        if key and key not in self.found:
+            self.found[key] = self.changes.otherwise(self.pair, key)
+        if not key or not self.found[key]:
             raise Unexplained
-        if (pair, key) not in self.found:
-            self.found = {one: some for one, some in self.found.items() if one[0] == pair}
-            self.found[pair, key] = self.changes.otherwise(pair, key)
-        if not self.found[pair, key]:
-            raise Unexplained
-        return self.found[pair, key]
+        return self.found[key]
 
-    def of_lookup(self, pair: Pair, both: Replies) -> list[Change]:
+    def of_lookup(self) -> list[Change]:
         """Each answer is as changes of the name leave it."""
-        name = both[0].folder, self.facts[0].names[pair[0]][0]
-        found = self.otherwise(pair, name)
-        for run, reply in enumerate(both):
+        name = self.both[0].folder, self.facts[0].names[self.pair[0]][0]
+        found = self.otherwise(name)
+        for reply in self.both:
             if reply.status not in (DONE, NO_ENTRY):
                 raise Unexplained
             to = reply.found if reply.status == DONE else GONE
-            leads = self.changes.runs[run].leads(pair[run], name) or self.changes.beginning(
-                pair, name) or {to}
+            leads = reply.changes.leads(reply.at, name) or self.changes.beginning(
+                self.pair, name) or {to}
             if to not in leads and ANY_OBJECT not in leads:
                 raise Unexplained
-        for reply in both:
+        for reply in self.both:
             if reply.found:
-                self.check_alone(reply, reply.found)
-        folders = [[field for field in reply.fields(range(len(reply.message.items)))
-                    if field.part == 'dir'] for reply in both]
-        return found + self.of_fields(pair, *folders)
+                reply.check_alone(reply.found)
+        folders = [[field for field in reply.fields() if field.part == 'dir']
+                   for reply in self.both]
+        return found + self.of_fields(*folders)
 
-    def of_fields(self, pair: Pair, first: Sequence[Field],
-                  second: Sequence[Field]) -> list[Change]:
+    def of_fields(self, first: Sequence[Field], second: Sequence[Field]) -> list[Change]:
         """Returns the changes that explain how items of one layout differ."""
         if [one[::2] for one in first] != [other[::2] for other in second]:
             raise Unexplained
         found = list[Change]()
         for one, other in zip(first, second):
             if one.value != other.value and one.name not in self.free:
-                found += self.of_field(pair, one, other)
-        self.check_sizes(pair, first, second)
+                found += self.of_field(one, other)
+        self.check_sizes(first, second)
         return found
 
-    def of_field(self, pair: Pair, one: Field, other: Field) -> list[Change]:
+    def of_field(self, one: Field, other: Field) -> list[Change]:
         if one.identity != other.identity:
             raise Unexplained
         if one.name == 'fh':
             return []
         if one.name in BY_CHANGES:
-            return self.otherwise(pair, one.identity)
+            return self.otherwise(one.identity)
         if one.name in BY_SETTING:
-            some = [change for change in self.otherwise(pair, one.identity)
+            some = [change for change in self.otherwise(one.identity)
                     if one.name in self.facts[change.run].sets.get(change.at, ())]
             if some:
                 return some
         raise Unexplained
 
-    def check_sizes(self, pair: Pair, first: Sequence[Field], second: Sequence[Field]) -> None:
+    def check_sizes(self, first: Sequence[Field], second: Sequence[Field]) -> None:
         """Raises `Unexplained` if a size or a count of links differs that no other answer has."""
         for part in {one.part for one, other in zip(first, second)
                      if one.name in SIZE_ITEMS and one.value != other.value}:
             for run, fields in enumerate((first, second)):
-                values = {field.name: field.value for field in fields if field.part == part}
-                identity = next(field.identity for field in fields if field.part == part)
-                if not self.is_told(pair, run, identity, values.get('size'), values.get('nlink')):
+                own = [field for field in fields if field.part == part]
+                values = {field.name: field.value for field in own}
+                if not self.is_told(run, own[0].identity, values.get('size'), values.get('nlink')):
                     raise Unexplained
 
-    def is_told(self, pair: Pair, run: int, identity: int, size: Optional[str],
-                nlink: Optional[str]) -> bool:
-        """Whether another answer says a size and a count of links, or a WRITE explains the
-        size."""
+    def is_told(self, run: int, identity: int, size: Optional[str], nlink: Optional[str]) -> bool:
+        """Whether another answer has a size and a count of links, or a WRITE the size."""
         others = [fact.attributes for number, facts in enumerate(self.facts)
-                  for fact in facts.facts_of(identity) if (number, fact.at) != (run, pair[run])]
+                  for fact in facts.facts_of(identity)
+                  if (number, fact.at) != (run, self.pair[run])]
         if any(size in (None, one.size) and nlink in (None, one.nlink) for one in others):
             return True
-        return (size is not None and int(size) <= self.end_of_writes(run, pair[run], identity)
+        return (size is not None
+                and int(size) <= self.changes.runs[run].end_of_writes(self.pair[run], identity)
                 and (nlink is None or any(nlink == one.nlink for one in others)))
-
-    def end_of_writes(self, run: int, at: int, identity: int) -> int:
-        return max((end_of_writes(self.facts[run], self.changes.runs[run], at, handle)
-                    for handle in self.facts[run].handles.get(identity, ())), default=-1)
-
-    def check_alone(self, reply: Reply, identity: int) -> None:
-        """Raises `Unexplained` if a reply says something else than its run of an object, of which
-        the other reply says nothing."""
-        changes = self.changes.runs[reply.run]
-        identities = self.facts[reply.run].outlines.identities
-        why = {disagrees(self.facts[reply.run], changes, reply.at, one) for one in reply.told
-               if one.handle and identities[one.handle] == identity}
-        if why - {'', NOTHING_ELSE}:
-            raise Unexplained
 
     # --- Folders ---
 
-    def of_listing(self, pair: Pair, both: Replies) -> list[Change]:
-        """Entries may differ whose names were changed otherwise. All others are there in one
-        order."""
-        parts = [reply.entries() for reply in both]
-        found = self.of_fields(pair, *(one.fields(part[0]) for one, part in zip(both, parts)))
-        ours, theirs = (self.by_key(reply, part[1]) for reply, part in zip(both, parts))
-        for reply, own, its in ((both[0], ours, theirs), (both[1], theirs, ours)):
+    def of_listing(self) -> list[Change]:
+        """Entries may differ whose names were changed otherwise. All others are in one order."""
+        parts = [reply.message.entries() for reply in self.both]
+        found = list[Change]()
+        for some in ([head for head, _, _ in parts], [tail for _, _, tail in parts]):
+            found += self.of_fields(*(one.fields(part) for one, part in zip(self.both, some)))
+        ours, theirs = ({self.key_of(reply, entry): entry for entry in entries}
+                        for reply, (_, entries, _) in zip(self.both, parts))
+        for reply, own, its in ((self.both[0], ours, theirs), (self.both[1], theirs, ours)):
             for key in (key for key in own if key not in its):
-                found += self.of_alone(pair, both[0].folder, key)
-                self.check_alone(reply, reply.object_in(own[key]))
+                found += self.of_alone(key)
+                reply.check_alone(reply.object_in(own[key]))
         common = [key for key in ours if key in theirs]
         if [key for key in common if isinstance(key, str)] != [
                 key for key in theirs if key in ours and isinstance(key, str)]:
             raise Unexplained
         for key in common:
-            found += self.of_entry(pair, both, key, ours[key], theirs[key])
-        return found + self.of_fields(
-            pair, *(one.fields(part[2]) for one, part in zip(both, parts)))
-
-    def by_key(self, reply: Reply, entries: Iterable[range]) -> dict[str | int, range]:
-        """Returns entries by their names, and those whose names are masked by their objects."""
-        return {self.key_of(reply, entry): entry for entry in entries}
+            found += self.of_entry(key, ours[key], theirs[key])
+        return found
 
     def key_of(self, reply: Reply, entry: range) -> str | int:
-        name = reply.name_in(entry)
-        if 'sillynames' in self.mask and is_silly(name):
-            return reply.object_in(entry)
-        return name
+        """Returns the name of an entry, or the object of one whose name is masked."""
+        name = (reply.message.value_of('name', entry) or '').strip('"')
+        return reply.object_in(entry) if 'sillynames' in self.mask and is_silly(name) else name
 
-    def of_entry(self, pair: Pair, both: Replies, key: str | int, first: range,
-                 second: range) -> list[Change]:
-        objects = [reply.object_in(entry) for reply, entry in zip(both, (first, second))]
+    def of_entry(self, key: str | int, first: range, second: range) -> list[Change]:
+        both = list(zip(self.both, (first, second)))
+        objects = [reply.object_in(entry) for reply, entry in both]
         fields = [[field for field in reply.fields(entry, objects[0])
-                   if isinstance(key, str) or field.name != 'name']
-                  for reply, entry in zip(both, (first, second))]
+                   if isinstance(key, str) or field.name != 'name'] for reply, entry in both]
         # (a name that was made meanwhile may have no attributes yet)
         if objects[0] == objects[1] and [one[::2] for one in fields[0]] == [
                 one[::2] for one in fields[1]]:
-            return self.of_fields(pair, *fields)
-        for reply, identity in zip(both, objects):
-            self.check_alone(reply, identity)
-        return self.of_alone(pair, both[0].folder, key)
+            return self.of_fields(*fields)
+        for reply, identity in zip(self.both, objects):
+            reply.check_alone(identity)
+        return self.of_alone(key)
 
-    def of_alone(self, pair: Pair, folder: int, key: str | int) -> list[Change]:
+    def of_alone(self, key: str | int) -> list[Change]:
         """Returns the changes of a name that stand otherwise. There have to be some."""
         if isinstance(key, int):
             raise Unexplained
-        return self.otherwise(pair, (folder, key))
+        return self.otherwise((self.both[0].folder, key))

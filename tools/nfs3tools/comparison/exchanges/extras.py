@@ -9,11 +9,11 @@ from __future__ import annotations
 from collections import Counter
 from collections.abc import Container, Iterable
 
-from ...exchanges.in_words import LISTINGS, short_name
+from ...exchanges.in_words import LISTINGS, short
+from ...exchanges.listing import Message
 from ...exchanges.searches import names_in
-from .agreement import disagrees
 from .changes import ANY_OBJECT, GONE, BothChanges
-from .facts import ACCESS, DONE, LOOKUP, NO_ENTRY, Facts, facts_in_reply, is_silly
+from .facts import ACCESS, DONE, LOOKUP, NO_ENTRY, is_silly
 
 FEW, SHARE = 10, 10  # so many calls of a procedure, or one of so many
 Question = tuple[str, int, tuple[str, ...]]  # the procedure, the object, and the name
@@ -23,34 +23,29 @@ ReasonsOfCalls = tuple[dict[int, str], dict[int, str]]  # calls of both runs, ea
 class Extras:
     """The calls of a run that the other run does not have, and only ask."""
 
-    def __init__(self, run: int, facts: Facts, some: Iterable[int], paired: Container[int],
-                 changes: BothChanges | None) -> None:
+    def __init__(self, both: BothChanges, run: int, some: Iterable[int],
+                 paired: Container[int]) -> None:
         """`paired` are the exchanges that the other run has, too."""
-        self.facts, self.outlines, self.some = facts, facts.outlines, sorted(some)
-        self.changes = changes.runs[run] if changes else None
-        self.both, self.run = changes, run
+        self.both, self.run, self.some, self.changes = both, run, sorted(some), both.runs[run]
+        self.facts, self.outlines = self.changes.facts, self.changes.outlines
         self.objects = set(self.outlines.identities) - {0}
         own = set(self.some)
         # Handles of calls that the other run has, too: it knows what they are.
         self.shared = {handle for at in range(len(self.outlines)) if at in paired
                        for handle in (*self.outlines.objects_of(at), self.outlines.found[at])}
-        self.names = {(self.outlines.identities[self.outlines.folders[at]], name)
-                      for at, names in facts.names.items() if at not in own for name in names}
+        self.names = {(self.outlines.object_of(at), name) for at, names in self.facts.names.items()
+                      if at not in own for name in names}
 
     def asked(self, at: int) -> Question:
         """Returns what a call asks, whoever asks."""
-        return (self.outlines.procedure_of(at), self.folder(at), self.facts.names.get(at, ()))
-
-    def folder(self, at: int) -> int:
-        return self.outlines.identities[self.outlines.folders[at]]
+        return (self.outlines.procedure_of(at), self.outlines.object_of(at),
+                self.facts.names.get(at, ()))
 
     def more_than(self, other: 'Extras') -> dict[str, str]:
-        """Returns the procedures of which this run has too many more calls, and what is said of
-        that."""
+        """Returns the procedures of which this run has too many more calls, each in words."""
         own, its = (Counter(map(one.outlines.procedure_of, one.some)) for one in (self, other))
         totals = Counter(map(self.outlines.procedure_of, range(len(self.outlines))))
-        return {procedure: f'{short_name(procedure).strip()}: {more:,} more than '
-                           f'{most:,}'
+        return {procedure: f'{short(procedure)}: {more:,} more than {most:,}'
                 for procedure, number in own.items()
                 if (more := number - its[procedure]) > (
                     most := max(FEW, totals[procedure] // SHARE))}
@@ -65,37 +60,35 @@ class Extras:
             return '' if replies[0].value_of('accept_stat') == DONE else 'it is not accepted'
         if status not in (DONE, NO_ENTRY):
             return 'it has failed'
-        if self.outlines.folders[at] not in self.shared and self.folder(at) not in other.objects:
+        folder = self.outlines.object_of(at)
+        if self.outlines.folders[at] not in self.shared and folder not in other.objects:
             return 'the other run does not know the object'
-        names = [(self.folder(at), name) for name in self.facts.names.get(at, ())]
+        names = [(folder, name) for name in self.facts.names.get(at, ())]
         if not other.names.issuperset(names):
             return 'the other run does not know the name'
-        return (self.wrong_attributes(at, call.procedure, replies[0].text)
+        return (self.wrong_attributes(at, replies[0])
                 or self.wrong_access(at) or self.wrong_lead(at, status)
                 or self.wrong_entries(at, call.value_of('cookie') or '', replies[0].text, other))
 
-    def wrong_attributes(self, at: int, procedure: str, text: str) -> str:
-        told = facts_in_reply(procedure, self.outlines.objects_of(at),
-                              self.facts.names.get(at, ('',))[0], text).told
+    def wrong_attributes(self, at: int, reply: Message) -> str:
         if at in self.facts.odd:
             return 'it has another file id than its run elsewhere'
-        found = (disagrees(self.facts, self.changes, at, one) for one in told)
+        found = (self.changes.disagrees(at, one) for one in self.facts.said_in(at, reply).told)
         return next(filter(None, found), '')
 
     def wrong_access(self, at: int) -> str:
         if self.outlines.procedure_of(at) != ACCESS:
             return ''
-        key = self.outlines.folders[at], self.facts.asked_bits[at]
-        some = self.facts.bits[key]
-        own = [bits for one, bits in some if one == at]
-        others = [bits for one, bits in some if one != at]
-        return '' if not others or set(own) <= set(others) else 'it grants something else'
+        some = self.facts.bits[self.outlines.folders[at], self.facts.asked_bits[at]]
+        own, others = ({bits for one, bits in some if (one == at) is is_own}
+                       for is_own in (True, False))
+        return '' if not others or own <= others else 'it grants something else'
 
     def wrong_lead(self, at: int, status: str) -> str:
         """Returns why a LOOKUP leads elsewhere than the changes of its run say, or nothing."""
-        if self.outlines.procedure_of(at) != LOOKUP or not self.both or not self.changes:
+        if self.outlines.procedure_of(at) != LOOKUP or not self.changes.turns:
             return ''
-        name = self.folder(at), self.facts.names[at][0]
+        name = self.outlines.object_of(at), self.facts.names[at][0]
         handle = self.outlines.found[at]
         to = self.outlines.identities[handle] if status == DONE else GONE
         pair = (at, -1) if self.run == 0 else (-1, at)
@@ -106,9 +99,9 @@ class Extras:
 
     def wrong_entries(self, at: int, cookie: str, text: str, other: 'Extras') -> str:
         """Returns why a listing has not the names that the changes of its run leave, or nothing."""
-        if self.outlines.procedure_of(at) not in LISTINGS or not self.changes:
+        if self.outlines.procedure_of(at) not in LISTINGS or not self.changes.turns:
             return ''
-        folder, names = self.folder(at), set(names_in(text))
+        folder, names = self.outlines.object_of(at), set(names_in(text))
         leads = {key[1]: self.changes.leads(at, key) for key in self.changes.of_key
                  if not isinstance(key, int) and key[0] == folder}
         if any(leads.get(name) == {GONE} for name in names):
@@ -122,18 +115,15 @@ class Extras:
         return 'it lacks a name' if is_whole and wanted - names else ''
 
 
-def refused(extras: tuple[Extras, Extras]) -> ReasonsOfCalls:
-    """Returns the calls that are differences all the same, of the first and of the second run, each
-    with the reason."""
-    first, second = extras
+def refused(first: Extras, second: Extras) -> ReasonsOfCalls:
+    """Returns the calls of both runs that are differences all the same, each with the reason."""
     common = set(map(first.asked, first.some)) & set(map(second.asked, second.some))
     out: ReasonsOfCalls = {}, {}
     for run, other, found in ((first, second, out[0]), (second, first, out[1])):
         more = run.more_than(other)
         for at in run.some:
-            why = run.wrong(at, other) or more.get(run.outlines.procedure_of(at), '')
-            if not why and run.asked(at) in common:
-                why = 'the other run has such a call alone, too'
+            again = 'the other run has such a call alone, too' * (run.asked(at) in common)
+            why = run.wrong(at, other) or more.get(run.outlines.procedure_of(at), again)
             if why:
                 found[at] = why
     return out

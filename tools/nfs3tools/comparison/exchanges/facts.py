@@ -11,7 +11,7 @@ from functools import cached_property
 from typing import NamedTuple
 
 from ...exchanges.in_words import LISTINGS
-from ...exchanges.listing import Line, Message, line_of
+from ...exchanges.listing import Line, Message
 from ...exchanges.objects import MAKING
 from ...exchanges.searches import (
     ReplyPart, SpelledAttributes, access_in, end_of_write_in, names_in, parts_in, settings_in)
@@ -34,11 +34,7 @@ class Statement(NamedTuple):
     fileid: str
 
 
-class Lead(NamedTuple):
-    """A name in a folder, and the object to which it leads, 0 for none."""
-    folder: int
-    name: str
-    handle: int
+Lead = tuple[int, str, int]  # a folder, a name in it, and to which object it leads, 0 for none
 
 
 class ReplyFacts(NamedTuple):
@@ -63,12 +59,13 @@ def facts_in_reply(procedure: str, handles: Sequence[int], name: str, text: str)
         return entry_facts(handles[0], parts)
     is_done = ' status=0' in text
     found = next((part.handle for part in parts if part.handle is not None), 0)
+    # (attributes, or that there are none)
+    shown = (part for part in parts if part.name is None and part.handle is None)
     told = [statement_of(part, owner)
-            for part, owner in zip(filter(lambda part: part.is_of_attributes, parts),
-                                   owners_of(procedure, handles, found, is_done))
+            for part, owner in zip(shown, owners_of(procedure, handles, found, is_done))
             if part.attributes and owner]
     is_lead = procedure in MAKING and found or procedure == LOOKUP and ' status=2' in text
-    return ReplyFacts(told, [Lead(handles[0], name, found)] if is_lead else [])
+    return ReplyFacts(told, [(handles[0], name, found)] if is_lead else [])
 
 
 def statement_of(part: ReplyPart, handle: int, name: str = '') -> Statement:
@@ -76,25 +73,19 @@ def statement_of(part: ReplyPart, handle: int, name: str = '') -> Statement:
 
 
 def entry_facts(folder: int, parts: Iterable[ReplyPart]) -> ReplyFacts:
-    """Reads the entries of a folder: each has a name, then attributes if it has some, and then a
-    handle if it has one."""
+    """Reads the entries of a folder: names, each with attributes and a handle if it has them."""
     told, leads, first = list[Statement](), list[Lead](), 0
     name: str | None = None  # of the entry
     for part in parts:
         if part.name is not None:
             first, name = len(told), part.name
-            told.append(statement_of(part, *of_name(folder, name)))
+            told.append(statement_of(part, folder, '' if name == '.' else name))
         elif part.attributes:
-            told.append(statement_of(part, *of_name(folder, name or '.')))
+            told.append(statement_of(part, folder, '' if name is None or name == '.' else name))
         elif part.handle is not None and name is not None:
-            leads.append(Lead(folder, name, part.handle))
+            leads.append((folder, name, part.handle))
             told[first:] = [one._replace(handle=part.handle, name='') for one in told[first:]]
     return ReplyFacts(told, leads)
-
-
-def of_name(folder: int, name: str) -> tuple[int, str]:
-    """Returns by what an entry without a handle is known."""
-    return (folder, '') if name == '.' else (folder, name)
 
 
 class Fact(NamedTuple):
@@ -137,13 +128,13 @@ class Facts:
         # By folders and names of entries, two exchanges that say them.
         self.entries = dict[tuple[int, str], tuple[int, ...]]()
         self.asked_bits = dict[int, str]()
-        for at, line in outlines.located(map(line_of, lines)):
+        for at, line in outlines.located(lines):
             (self.take_call if line.is_call else self.take_reply)(at, line)
 
     def take_call(self, at: int, line: Line) -> None:
         text = line.text
         if at in self.wanted:
-            self.messages[at] = message_without_data(line), []
+            self.messages[at] = line.message(), []
         names = names_in(text)
         if names:
             self.names[at] = tuple(names)
@@ -159,12 +150,12 @@ class Facts:
 
     def take_reply(self, at: int, line: Line) -> None:
         if at in self.wanted:
-            self.messages[at][1].append(message_without_data(line))
+            self.messages[at][1].append(line.message())
         handles = self.outlines.objects_of(at)
         if self.objects is not None and line.procedure not in LISTINGS and not any(
                 handle in self.objects for handle in (*handles, self.outlines.found[at])):
             return
-        answer = facts_in_reply(line.procedure, handles, self.names.get(at, ('',))[0], line.text)
+        answer = self.said_in(at, line)
         for one in answer.told:
             self.take_told(at, one)
         for folder, name, handle in answer.leads:
@@ -176,6 +167,11 @@ class Facts:
             granted = access_in(line.text)
             if granted is not None:
                 self.bits[handles[0], self.asked_bits[at]].append((at, granted))
+
+    def said_in(self, at: int, reply: Line | Message) -> ReplyFacts:
+        """Returns what a reply of an exchange says."""
+        return facts_in_reply(reply.procedure, self.outlines.objects_of(at),
+                              self.names.get(at, ('',))[0], reply.text)
 
     def take_told(self, at: int, one: Statement) -> None:
         own = one.handle, one.name
@@ -215,15 +211,8 @@ class Facts:
                 if handle in handles and any(at != but for at in some)}
 
     def facts_of(self, identity: int) -> Iterator[Fact]:
-        """Iterates over what answers say of an object."""
         return (fact for handle in self.handles.get(identity, ())
                 for fact in self.told.get(handle, ()))
-
-
-def message_without_data(line: Line) -> Message:
-    """Returns the message of a line, without the digits of data, which are compared elsewhere."""
-    return Message(line.connection, 'client' if line.is_call else 'server', line.record, line.xid,
-                   line.procedure, line.text)
 
 
 def is_silly(name: str) -> bool:

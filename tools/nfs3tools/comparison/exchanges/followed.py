@@ -9,17 +9,17 @@ other id stays, and differs.
 from __future__ import annotations
 
 from collections import Counter, defaultdict
-from collections.abc import Iterable, Iterator, Mapping
+from collections.abc import Iterable, Mapping, Sequence
 
 from ...exchanges.in_words import LISTINGS
 from ...exchanges.listing import Line, LinePlace, line_of
 from ...exchanges.searches import cookies_in, cookies_of_names_in, verifier_in
 from ...recordings.records import LAST_FRAGMENT
-from ...recordings.spool import Spool, Stored
-from ...recordings.taken import Taken, TakenStream, whole
+from ...recordings.spool import Stored
+from ...recordings.taken import Taken, TakenConnection, TakenStream, whole
 from ...shared.layouts import BY_NAME, BodyReader
 from ...shared.places import SIDES, Side
-from .facts import Facts, Known, facts_in_reply
+from .facts import Facts
 from .pairing import Listing, Pairing
 
 CREATE = 'NFSPROC3_CREATE'
@@ -29,8 +29,7 @@ Replacements = dict[tuple[str, str], str]
 
 
 def partners_of(pairing: Pairing) -> dict[int, int]:
-    """Returns for each handle of the second run that of the first with which it is most often in
-    exchanges that belong together."""
+    """Returns the first run's handle for each of the second: by most of the pairs with both."""
     votes = defaultdict[int, Counter[int]](Counter)
     here, there = pairing.here, pairing.there
     for at, to in pairing.pairs():
@@ -45,7 +44,7 @@ class Followed:
     """Which values of the second run become which of the first."""
 
     def __init__(self, pairing: Pairing, listings: tuple[Listing, Listing],
-                 facts: tuple[Facts, Facts], classes: frozenset[str]) -> None:
+                 facts: Sequence[Facts], classes: frozenset[str]) -> None:
         """The listings are those of the canonical forms without a mask."""
         self.pairing, self.facts = pairing, facts
         self.partners = partners_of(pairing)
@@ -53,17 +52,16 @@ class Followed:
         self.cookies = self.cookies_of(listings) if 'cookies' in classes else {}
         self.has_ids = not classes.isdisjoint(('ids', 'fsids'))
         self.values = dict[LinePlace, Replacements]()
-        for at, line in pairing.there.each(map(line_of, listings[1]())):
+        for at, line in pairing.there.each(listings[1]()):
             values = self.of_call(at, line) if line.is_call else self.of_reply(at, line)
             changed = {key: new for key, new in values.items() if key[1] != new}
             if changed:
                 self.values[LinePlace(line.connection, line.is_call, line.record)] = changed
 
     def verifiers_of(self, listings: tuple[Listing, Listing]) -> dict[tuple[int, str], str]:
-        """Returns the verifiers of exclusive creates, by what is created and the second run's
-        verifier."""
+        """Returns verifiers of exclusive creates, by what is created and the second run's."""
         firsts, seconds = (
-            {at: verifier for at, line in outlines.located(map(line_of, listing()))
+            {at: verifier for at, line in outlines.located(listing())
              if line.is_call and line.procedure == CREATE and (verifier := verifier_in(line.text))}
             for outlines, listing in zip((self.pairing.here, self.pairing.there), listings))
         out = dict[tuple[int, str], str]()
@@ -76,7 +74,7 @@ class Followed:
         """Returns the cookies of the first run, by the second run's folders and cookies."""
         first, second = (
             {(outlines.folders[at], name): cookie
-             for at, line in outlines.located(map(line_of, listing()))
+             for at, line in outlines.located(listing())
              if not line.is_call and line.procedure in LISTINGS
              for name, cookie in cookies_of_names_in(line.text)}
             for outlines, listing in zip((self.pairing.here, self.pairing.there), listings))
@@ -97,24 +95,19 @@ class Followed:
                 if (new := self.cookies.get((folder, cookie)))}
 
     def of_reply(self, at: int, line: Line) -> Replacements:
-        there = self.pairing.there
         values = self.of_cookies(at, line.text) if line.procedure in LISTINGS else {}
         if not self.has_ids:
             return values
-        name = self.facts[1].names.get(at, ('',))[0]
-        for one in facts_in_reply(line.procedure, there.objects_of(at), name, line.text).told:
-            own, other = self.facts[1].ids[one.handle, one.name], self.id_of((one.handle, one.name))
+        for one in self.facts[1].said_in(at, line).told:
+            own = self.facts[1].ids[one.handle, one.name]
+            # (that of the first run)
+            other = self.facts[0].ids.get((self.partners.get(one.handle, 0), one.name))
             fsid = one.attributes.fsid if one.attributes else ''
             if other:
                 values.update(swapped_ids('fileid', one.fileid, own[1], other[1]))
             if other and fsid and own[0] and other[0]:
                 values.update(swapped_ids('fsid', fsid, own[0], other[0]))
         return values
-
-    def id_of(self, own: Known) -> tuple[str, str] | None:
-        """Returns the first run's id of an object of the second run."""
-        partner = self.partners.get(own[0])
-        return None if partner is None else self.facts[0].ids.get((partner, own[1]))
 
 
 def swapped_ids(name: str, told: str, own: str, other: str) -> Replacements:
@@ -132,21 +125,19 @@ def with_values(taken: Taken, values: Mapping[LinePlace, Replacements],
     procedures = {place: line.procedure for line in map(line_of, lines)
                   if (place := LinePlace(line.connection, line.is_call, line.record)) in values}
     out = Taken(taken.spool, taken.is_recording, False, taken.ports)
-    for connection in taken.connections:
-        client, server = (stream_of(taken.spool, bodies_of(
-            connection.stream(side), connection.number, side, values, procedures))
-            for side in SIDES)
-        out.connections.append(connection._replace(client=client, server=server))
+
+    def written(connection: TakenConnection, side: Side) -> TakenStream:
+        stored = Stored(taken.spool)
+        for number, body in connection.stream(side).records():
+            place = LinePlace(connection.number, side == 'client', number)
+            if place in values:
+                body = with_some(body, place.is_call, procedures[place], values[place])
+            stored.append((LAST_FRAGMENT | len(body)).to_bytes(4, 'big') + body)
+        return TakenStream(stored, None, whole(stored))
+    for one in taken.connections:
+        client, server = (written(one, side) for side in SIDES)
+        out.connections.append(one._replace(client=client, server=server))
     return out
-
-
-def bodies_of(stream: TakenStream, connection: int, side: Side,
-              values: Mapping[LinePlace, Replacements],
-              procedures: Mapping[LinePlace, str]) -> Iterator[bytes]:
-    for number, body in stream.records():
-        place = LinePlace(connection, side == 'client', number)
-        yield (with_some(body, place.is_call, procedures[place], values[place])
-               if place in values else body)
 
 
 def with_some(body: bytes, is_call: bool, procedure: str, values: Replacements) -> bytes:
@@ -159,10 +150,3 @@ def with_some(body: bytes, is_call: bool, procedure: str, values: Replacements) 
             out[item.begin:item.end] = (bytes.fromhex(new) if item.name == 'createverf'
                                         else int(new).to_bytes(item.end - item.begin, 'big'))
     return bytes(out)
-
-
-def stream_of(spool: Spool, bodies: Iterable[bytes]) -> TakenStream:
-    stored = Stored(spool)
-    for body in bodies:
-        stored.append((LAST_FRAGMENT | len(body)).to_bytes(4, 'big') + body)
-    return TakenStream(stored, None, whole(stored))

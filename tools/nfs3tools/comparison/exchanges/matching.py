@@ -18,16 +18,14 @@ Pair = tuple[int, int]
 
 
 class Block(NamedTuple):
-    """Elements that follow one another on both sides and are equal: where they begin, and how many
-    there are."""
+    """Equal elements that follow one another: where they begin, and how many there are."""
     at: int
     to: int
     size: int
 
 
 def increasing(pairs: Sequence[Pair]) -> list[Pair]:
-    """Returns a longest selection of pairs, given in the order of their firsts, whose seconds
-    increase."""
+    """Returns most of some pairs, sorted by their firsts, so that their seconds increase."""
     tails: list[int] = []
     at: list[int] = []
     before: list[int] = []
@@ -52,8 +50,7 @@ def anchors(first: Sequence[Hashable], second: Sequence[Hashable]) -> list[Pair]
 
 
 def by_turn(first: Sequence[Hashable], second: Sequence[Hashable]) -> list[Pair]:
-    """Returns the n-th element of a key with the n-th of the other side, as far as they are in the
-    same order."""
+    """Returns the n-th elements of a key of both sides, as far as they are in the same order."""
     places: dict[Hashable, list[int]] = defaultdict(list)
     for at in range(len(second) - 1, -1, -1):
         places[second[at]].append(at)
@@ -118,8 +115,7 @@ def common_end(first: 'array[int]', second: 'array[int]', at: int, to: int) -> i
 
 
 def meeting(first: 'array[int]', second: 'array[int]', at: int, to: int) -> Pair:
-    """Returns where two sequences meet again that part at these places: near, or else at their
-    equal ends."""
+    """Returns where two sequences meet again after these places: near, or at their equal ends."""
     for distance in range(1, NEAR):
         for here in range(max(0, distance - len(second) + to), min(distance, len(first) - at) + 1):
             end, other_end = at + here, to + distance - here

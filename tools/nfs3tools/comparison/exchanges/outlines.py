@@ -16,10 +16,10 @@ from itertools import groupby
 from operator import attrgetter
 
 from ...exchanges.answering import Answering
-from ...exchanges.listing import Line, Message, line_of
+from ...exchanges.listing import Line, LinePlace, Message, line_of, place_of
 from ...exchanges.objects import LISTING, MAKING
 from ...exchanges.searches import (
-    alike_in, first_handle_in, first_name_in, handles_in, names_and_handles_in, pattern_of_items)
+    alike_in, entries_in, first_handle_in, first_name_in, handles_in, pattern_of_items)
 from ..values.bindings import RENAMED
 from ..values.classes import CLASSES, Mask, Way
 
@@ -47,8 +47,7 @@ When = Callable[[int, int], int]
 
 
 class HandleOrigins:
-    """What file handles mean: the folder and the name by which each was made, or else reached
-    first."""
+    """What file handles mean: folder and name by which each was made, or else reached first."""
 
     def __init__(self) -> None:
         self.folders, self.names, self.known, self.origins = (
@@ -76,21 +75,14 @@ class HandleOrigins:
     def place(self, handle: int, exchange: int, folder: int, name: int) -> None:
         self.origins[handle], self.folders[handle], self.names[handle] = exchange, folder, name
 
-    def origin_of(self, handle: int) -> int | None:
-        """Returns the exchange that says where an object is."""
-        return self.origins[handle] if handle < len(self.known) and self.known[handle] else None
-
-    def settle(self, when: Callable[[int], int]) -> None:
-        """Of several places of an object the one counts that was said first."""
+    def identities(self, when: Callable[[int], int]) -> 'array[int]':
+        """Returns a number for each object that is the same in all runs: of its path, and of how
+        many were made there before. It is 0 if the path is not known. Of several places of an
+        object the one counts that was said first."""
         for handle, rivals in self.rivals.items():
             own = self.origins[handle], self.folders[handle], self.names[handle]
             self.place(handle, *min((own, *rivals), key=lambda rival: when(rival[0])))
         self.rivals = {}
-
-    def identities(self, when: Callable[[int], int]) -> 'array[int]':
-        """Returns a number for each object that is the same in all runs: of its path, and of how
-        many were made there before. It is 0 if the path is not known."""
-        self.settle(when)
         below = defaultdict[int, dict[int, list[int]]](dict)
         for handle, known in enumerate(self.known):
             if known:
@@ -132,18 +124,16 @@ class Outlines:
         self.again, self.repeated = dict[int, list[int]](), dict[int, set[int]]()
         self.unmade = set[int]()  # calls that would have changed something, and failed
         self.objects = HandleOrigins()
-        self.take(map(line_of, lines), renamed_values(mask))
+        pattern = renamed_values(mask)
+        for connection, some in groupby(map(line_of, lines), attrgetter('connection')):
+            self.connections.append(connection)
+            self.starts.append(len(self))
+            self.take_connection(some, pattern)
         self.names = list(self.procedures)
         self.ask_of_objects(lambda at: when(*self.record_of(at)) if when else at)
 
     def __len__(self) -> int:
         return len(self.asked)
-
-    def take(self, lines: Iterable[Line], pattern: re.Pattern[str]) -> None:
-        for connection, some in groupby(lines, attrgetter('connection')):
-            self.connections.append(connection)
-            self.starts.append(len(self))
-            self.take_connection(some, pattern)
 
     def take_connection(self, lines: Iterable[Line], pattern: re.Pattern[str]) -> None:
         rule, owners, named = Answering(), array('I'), dict[int, int]()
@@ -202,15 +192,11 @@ class Outlines:
                 known = SEEN if procedure == 'NFSPROC3_LOOKUP' else MADE
                 self.objects.learn(found, folder, name, known, at)
         elif procedure == LISTING:
-            for one in names_and_handles_in(rest):
-                if isinstance(one, int):
-                    self.objects.learn(one, folder, name, SEEN, at)
-                else:
-                    name = hash(one)
+            for entry, handle in entries_in(rest):
+                self.objects.learn(handle, folder, hash(entry), SEEN, at)
 
     def ask_of_objects(self, when: Callable[[int], int]) -> None:
-        """Handles have another number in each run. So what a call asks has the objects in their
-        place."""
+        """In what a call asks, objects take the place of handles, which each run numbers anew."""
         identities = self.objects.identities(when)
         identities.extend([0] * (1 + max(
             max(self.folders, default=0), max(self.seconds.values(), default=0),
@@ -225,10 +211,9 @@ class Outlines:
     def procedure_of(self, at: int) -> str:
         return self.names[self.kinds[at]]
 
-    def about(self, at: int) -> tuple[str, int]:
-        """Returns the procedure of a call, and the object that it is about: the folder of a
-        name."""
-        return self.procedure_of(at), self.identities[self.folders[at]]
+    def object_of(self, at: int) -> int:
+        """Returns the object that a call is about: the folder of a name."""
+        return self.identities[self.folders[at]]
 
     def connection_of(self, at: int) -> int:
         """Returns the place of an exchange's connection among all."""
@@ -243,74 +228,65 @@ class Outlines:
         return range(self.starts[place],
                      self.starts[place + 1] if place + 1 < len(self.starts) else len(self))
 
-    def first_asked(self, place: int, number: int) -> tuple[int, ...]:
-        """Returns what the first calls of a connection ask, so many of them."""
-        return tuple(self.asked[at] for at in self.exchanges_of(place)[:number])
-
-    def first_procedures(self, place: int, number: int) -> tuple[str, ...]:
-        """Returns their procedures."""
-        return tuple(map(self.procedure_of, self.exchanges_of(place)[:number]))
-
     def record_of(self, at: int) -> tuple[int, int]:
         """Returns the number of a call's connection, and the call's record."""
         return self.connections[self.connection_of(at)], self.records[at]
 
     def sent_again(self, at: int) -> tuple[list[int], list[int]]:
-        """Returns the records of a call's retransmissions, and of replies that say the same
-        again."""
+        """Returns the records of retransmissions, and of replies that say the same again."""
         return self.again.get(at, []), sorted(self.repeated.get(at, ()))
 
     def replies_of(self, at: int) -> list[int]:
-        """Returns the records of a call's replies."""
         return [self.replies[at], *self.further.get(at, ())] if self.replies[at] else []
 
-    def all_replies_of(self, at: int) -> list[int]:
-        """Returns the records of a call's replies, with those that say the same again."""
+    def all_records_of(self, at: int, is_call: bool) -> list[int]:
+        """Returns the records of a call, or of its replies, each time that it was sent."""
+        if is_call:
+            return [self.records[at], *self.again.get(at, ())]
         return [*self.replies_of(at), *self.repeated.get(at, ())]
 
-    def last_reply(self, place: int) -> int:
-        """Returns the largest record of a reply of a connection, or 0."""
-        return max((max(self.all_replies_of(at)) for at in self.exchanges_of(place)
-                    if self.replies[at]), default=0)
+    def last_record(self, place: int, is_call: bool) -> int:
+        """Returns the largest record of a call of a connection, or of a reply, or 0."""
+        return max((max(self.all_records_of(at, is_call), default=0)
+                    for at in self.exchanges_of(place)), default=0)
 
-    def exchanges_of_replies(self, place: int) -> 'array[int]':
-        """Returns the exchange of each reply of a connection, by its record."""
-        out = array('I', [0]) * (1 + self.last_reply(place))
+    def by_record(self, place: int, is_call: bool) -> 'array[int]':
+        """Returns the exchange of each call of a connection, or of each reply, by its record."""
+        out = array('I', [0]) * (1 + self.last_record(place, is_call))
         for at in self.exchanges_of(place):
-            for record in self.all_replies_of(at):
+            for record in self.all_records_of(at, is_call):
                 out[record] = at
         return out
 
-    def exchanges_of_calls(self, place: int) -> 'array[int]':
-        """Returns the exchange of each call of a connection, by its record."""
-        own = self.exchanges_of(place)
-        number = len(own) + sum(len(self.again[at]) for at in own if at in self.again)
-        out = array('I', [0]) * (1 + number)
-        for at in own:
-            for record in (self.records[at], *self.again.get(at, ())):
-                out[record] = at
-        return out
-
-    def each(self, lines: Iterable[Line]) -> Iterator[tuple[int, Line]]:
+    def each(self, lines: Iterable[str]) -> Iterator[tuple[int, Line]]:
         """Iterates over the lines of a listing of the run, each with its exchange."""
-        for connection, some in groupby(lines, attrgetter('connection')):
+        for connection, some in groupby(map(line_of, lines), attrgetter('connection')):
             place = self.place_of(connection)
-            calls, replies = self.exchanges_of_calls(place), self.exchanges_of_replies(place)
+            replies, calls = self.by_record(place, False), self.by_record(place, True)
             for line in some:
                 yield (calls if line.is_call else replies)[line.record], line
 
-    def located(self, lines: Iterable[Line]) -> Iterator[tuple[int, Line]]:
-        """Iterates over the same, but for calls that were sent again, and replies that say the same
-        again."""
+    def located(self, lines: Iterable[str]) -> Iterator[tuple[int, Line]]:
+        """The same, but for retransmissions, and for replies that say the same again."""
         return ((at, line) for at, line in self.each(lines)
                 if (line.record == self.records[at] if line.is_call
                     else line.record not in self.repeated.get(at, ())))
 
-    def exchanges_of_messages(self, messages: Iterable[Message]) -> set[int]:
-        """Returns the exchanges of some messages."""
-        calls, replies = cache(self.exchanges_of_calls), cache(self.exchanges_of_replies)
-        return {(calls if message.is_call else replies)(
-            self.place_of(message.connection))[message.record] for message in messages}
+    def exchanges_of_messages(self, messages: Iterable[Message]) -> list[int]:
+        by_record = cache(self.by_record)
+        return [by_record(self.place_of(one.connection), one.is_call)[one.record]
+                for one in messages]
+
+    def lines_of(self, some: Iterable[int], lines: Iterable[str]) -> Iterator[tuple[int, str]]:
+        """Iterates over the lines of some exchanges, but for retransmissions and replies that say
+        the same again, each with its exchange."""
+        places = dict[LinePlace, int]()
+        for at in some:
+            connection, record = self.record_of(at)
+            places[LinePlace(connection, True, record)] = at
+            places.update((LinePlace(connection, False, record), at)
+                          for record in self.replies_of(at))
+        return ((places[place], line) for line in lines if (place := place_of(line)) in places)
 
     def objects_of(self, at: int) -> list[int]:
         """Returns the handles of a call."""
@@ -319,28 +295,27 @@ class Outlines:
     def calls_alike(self, lines: Iterable[str], wanted: set[int]) -> dict[int, tuple[object, ...]]:
         """Returns of some exchanges what alike calls have in common: procedure, objects, names and
         offset. The lines are those of the listing."""
-        return {at: (self.procedure_of(at), alike_in(line.text),
+        return {at: (self.procedure_of(at), *alike_in(line),
                      *map(self.identities.__getitem__, self.objects_of(at)))
-                for at, line in self.located(map(line_of, lines)) if line.is_call and at in wanted}
+                for at, line in self.lines_of(wanted, lines) if place_of(line).is_call}
 
     def said_again(self, lines: Iterable[str], wanted: set[int],
                    mask: Mask) -> dict[int, tuple[int, ...]]:
         """Returns what is said in some exchanges, by the listing under another mask."""
         out, pattern = {at: [self.asked[at], self.identities[self.found[at]]]
                         for at in wanted}, renamed_values(mask)
-        for at, line in self.located(map(line_of, lines)):
-            if at in wanted:
-                out[at].append(hash(pattern.sub('', line.text)))
+        for at, line in self.lines_of(wanted, lines):
+            out[at].append(hash(pattern.sub('', line_of(line).text)))
         return {at: tuple(said) for at, said in out.items()}
 
     def with_origins(self, exchanges: Iterable[int]) -> set[int]:
         """Returns these exchanges, and all that say where their objects are."""
-        out = set(exchanges)
+        out, objects = set(exchanges), self.objects
         waiting = list(out)
         while waiting:
-            for handle in self.objects_of(waiting.pop()):
-                origin = self.objects.origin_of(handle)
-                if origin is not None and origin not in out:
-                    out.add(origin)
-                    waiting.append(origin)
+            handles = self.objects_of(waiting.pop())
+            more = {objects.origins[handle] for handle in handles
+                    if handle < len(objects.known) and objects.known[handle]} - out
+            out |= more
+            waiting += more
         return out

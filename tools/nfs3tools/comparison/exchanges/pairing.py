@@ -4,11 +4,9 @@ from __future__ import annotations
 
 from array import array
 from collections import Counter, defaultdict, deque
-from collections.abc import Callable, Hashable, Iterable, Iterator, Sequence
-from dataclasses import dataclass
+from collections.abc import Callable, Hashable, Iterable, Iterator, Mapping, Sequence
 from functools import cached_property
 from itertools import groupby, islice, tee
-from typing import NamedTuple
 
 from ..values.classes import Mask
 from .matching import Pair, aligned, blocks_of, increasing
@@ -16,6 +14,8 @@ from .outlines import Outlines
 from .reordered import Numbered
 
 Listing = Callable[[], Iterable[str]]
+Key = Callable[[int], Hashable]  # of an exchange
+KeysOfRuns = tuple[Key, Key]  # of exchanges of both runs
 
 # Calls that change nothing. A client's caches and timers decide when they are sent. COMMIT is none:
 # what it makes safe is no matter of caches.
@@ -42,36 +42,51 @@ class InOrder:
                          [outlines.records[at]], outlines.replies_of(at)) for at in self.order)
 
 
-class Repeats:
-    """The retransmissions of a run, and the replies that say the same again."""
-
-    def __init__(self, outlines: Outlines) -> None:
-        self.outlines = outlines
-
-    def __iter__(self) -> Iterator[Numbered]:
-        for at in sorted(self.outlines.again):
-            connection, _ = self.outlines.record_of(at)
-            yield Numbered(connection, *self.outlines.sent_again(at))
+def repeats_of(outlines: Outlines) -> Iterator[Numbered]:
+    """Iterates over the retransmissions of a run, and the replies that say the same again."""
+    for at in sorted(outlines.again):
+        yield Numbered(outlines.record_of(at)[0], *outlines.sent_again(at))
 
 
-@dataclass
 class Pairing:
-    """The matched exchanges: for each of the first run that of the second, or NOBODY.
-    So for connections, by their places among all."""
-    here: Outlines
-    there: Outlines
-    partners: 'array[int]'
-    homes: list[int]
+    """Two runs, and which of their exchanges are matched.
+
+    partners, owners: for each exchange of the first run that of the second, and the other way round
+    homes: for each connection of the first run that of the second, by their places among all
+    """
+
+    def __init__(self, here: Outlines, there: Outlines, homes: list[int]) -> None:
+        self.here, self.there, self.homes = here, there, homes
+        self.runs = here, there
+        self.partners, self.owners = (array('i', [NOBODY]) * len(run) for run in self.runs)
+
+    def bind(self, at: int, to: int) -> None:
+        self.partners[at], self.owners[to] = to, at
 
     def pairs(self) -> Iterator[Pair]:
         return ((at, to) for at, to in enumerate(self.partners) if to != NOBODY)
 
     def without(self, some: Iterable[Pair]) -> 'Pairing':
         """Returns the same without some pairs, whose exchanges have no partner then."""
-        partners = self.partners[:]
-        for at, _ in some:
-            partners[at] = NOBODY
-        return Pairing(self.here, self.there, partners, self.homes)
+        out = Pairing(self.here, self.there, self.homes)
+        out.partners, out.owners = self.partners[:], self.owners[:]
+        for at, to in some:
+            out.partners[at] = out.owners[to] = NOBODY
+        return out
+
+    def name_of(self, run: int, at: int) -> int:
+        """Returns what an exchange of a run is called in both: the same as its partner."""
+        if run == 0:
+            return at if self.partners[at] != NOBODY else -2 - 2 * at
+        return self.owners[at] if self.owners[at] != NOBODY else -3 - 2 * at
+
+    def matched(self, run: int) -> 'array[int]':
+        """Returns the exchanges of a run that have a partner, in the order of the first run."""
+        return array('I', (pair[run] for pair in self.pairs()))
+
+    def alone(self, run: int) -> list[int]:
+        """Returns the exchanges of a run that have no partner."""
+        return [at for at, other in enumerate((self.partners, self.owners)[run]) if other == NOBODY]
 
     @cached_property
     def is_in_place(self) -> bool:
@@ -81,26 +96,8 @@ class Pairing:
             for name in ('connections', 'starts', 'records', 'replies', 'further', 'again',
                          'repeated'))
 
-    def order_of_first(self) -> 'array[int]':
-        """Returns the exchanges of the first run that have a partner, in their order."""
-        return array('I', (at for at, to in enumerate(self.partners) if to != NOBODY))
-
-    def order_of_second(self) -> 'array[int]':
-        """Returns their partners, in the order of the first run."""
-        return array('I', (to for to in self.partners if to != NOBODY))
-
-    def only_first(self) -> list[int]:
-        return [at for at, to in enumerate(self.partners) if to == NOBODY]
-
-    def only_second(self) -> list[int]:
-        taken = bytearray(len(self.there))
-        for _, to in self.pairs():
-            taken[to] = 1
-        return [to for to, is_taken in enumerate(taken) if not is_taken]
-
     def home_of(self, place: int) -> range:
-        """Returns the exchanges of the connection to which one of the first run belongs, by its
-        place among all."""
+        """Returns the exchanges of the second run's connection that belongs to one of the first."""
         return (self.there.exchanges_of(self.homes[place]) if self.homes[place] != NOBODY
                 else range(0))
 
@@ -140,8 +137,7 @@ class Pairing:
 
     @cached_property
     def late_replies(self) -> list[tuple[int, int, int]]:
-        """The connections of the first run whose replies come in another order: how many of them,
-        and of how many."""
+        """The connections with replies in another order: how many of them, and of how many."""
         if self.is_in_place:
             return []
         turns = [(place, self.turns_of_replies(place)) for place in range(len(self.homes))]
@@ -156,15 +152,14 @@ class Pairing:
 
     @cached_property
     def places_of_homes(self) -> dict[int, int]:
-        """The places of the connections of the first run, by those of the second that belong to
-        them."""
+        """The places of connections of the first run, by those of the second that belong there."""
         return {home: place for place, home in enumerate(self.homes) if home != NOBODY}
 
     def turns_of_replies(self, place: int) -> 'array[int]':
         """Returns the records of the second run's replies, in the order of those of a connection of
         the first run to which they belong."""
         own, home = self.here.exchanges_of(place), self.home_of(place)
-        turns = array('I', [0]) * (1 + self.here.last_reply(place))
+        turns = array('I', [0]) * (1 + self.here.last_record(place, is_call=False))
         for at in own:
             if self.partners[at] in home:
                 for record, other in zip(self.here.replies_of(at),
@@ -172,20 +167,87 @@ class Pairing:
                     turns[record] = other
         return array('I', filter(None, turns))
 
+    # --- Matching ---
+
+    def in_order(self) -> None:
+        """Binds equal exchanges, as they follow one another in connections that are matched."""
+        for place, own in enumerate(map(self.here.exchanges_of, range(len(self.homes)))):
+            its = self.home_of(place)
+            for at, to, size in blocks_of(self.here.said[own.start:own.stop],
+                                          self.there.said[its.start:its.stop]):
+                first, second = own.start + at, its.start + to
+                self.partners[first:first + size] = array('i', range(second, second + size))
+                self.owners[second:second + size] = array('i', range(first, first + size))
+
+    def by_turn(self, keys: KeysOfRuns) -> None:
+        """Binds exchanges of one key in their order: in matched connections first, then in any."""
+        here, there = keys
+        for is_at_home in (True, False):
+            waiting = defaultdict[Hashable, deque[int]](deque)
+            for to in self.alone(1):
+                home = (self.places_of_homes.get(self.there.connection_of(to)) if is_at_home
+                        else None)
+                waiting[there(to), home].append(to)
+            for at in self.alone(0):
+                own = waiting.get((here(at), self.here.connection_of(at) if is_at_home else None))
+                if own:
+                    self.bind(at, own.popleft())
+
+    def gaps(self, more: int) -> Iterator[tuple[list[int], list[int]]]:
+        """Returns what is left between two neighbours, in connections that are matched. The
+        second run may have so many more calls there than the first."""
+        for _, run in groupby(enumerate(self.alone(0)),
+                              lambda numbered: (self.here.connection_of(numbered[1]),
+                                                numbered[1] - numbered[0])):
+            here = [at for _, at in run]
+            place = self.here.connection_of(here[0])
+            own, its = self.here.exchanges_of(place), self.home_of(place)
+            before = self.partners[here[0] - 1] if here[0] > own.start else its.start - 1
+            after = self.partners[here[-1] + 1] if here[-1] + 1 < own.stop else its.stop
+            if before + 1 in its and after - 1 in its and after - before - 1 <= len(here) + more:
+                yield here, [to for to in range(before + 1, after) if self.owners[to] == NOBODY]
+
+    def in_gaps(self, keys: KeysOfRuns, more: int) -> None:
+        """Binds exchanges of one key, as they follow one another between two bound neighbours."""
+        for own, its in self.gaps(more):
+            for at, to in aligned(list(map(keys[0], own)), list(map(keys[1], its))):
+                self.bind(own[at], its[to])
+
+    def as_often(self, keys: KeysOfRuns) -> None:
+        """Binds exchanges of one key, if both runs have as many between two bound neighbours."""
+        for own, its in self.gaps(SURPLUS_AT_MOST):
+            waiting = grouped(its, keys[1])
+            for key, some in grouped(own, keys[0]).items():
+                if len(some) == len(waiting.get(key, ())):
+                    for at, to in zip(some, waiting[key]):
+                        self.bind(at, to)
+
+    def by_key(self, keys: KeysOfRuns) -> None:
+        """Binds exchanges that have a key in common: those between near neighbours first, for one
+        run may have one more before them."""
+        self.in_gaps(keys, SURPLUS_AT_MOST)
+        self.by_turn(keys)
+
+
+def begin_of(outlines: Outlines, place: int, key: Key) -> tuple[Hashable, ...]:
+    """Returns the keys of the first calls of a connection."""
+    return tuple(map(key, outlines.exchanges_of(place)[:FIRST_CALLS]))
+
 
 def matched_connections(here: Outlines, there: Outlines) -> list[int]:
     """Returns for each connection the one of the other run that has most calls in common with it at
     its beginning, or else one that begins with the same calls, or with calls of the same
     procedures."""
-    begun = defaultdict[int, list[int]](list)
+    begun, votes = defaultdict[Hashable, list[int]](list), Counter[Pair]()
+    keys: list[KeysOfRuns] = [(here.asked.__getitem__, there.asked.__getitem__),
+                        (here.procedure_of, there.procedure_of)]
     for other in range(len(there.starts)):
-        for asked in set(there.first_asked(other, FIRST_CALLS)):
-            begun[asked].append(other)
-    votes = Counter[Pair]()
+        for key in set(begin_of(there, other, keys[0][1])):
+            begun[key].append(other)
     for place in range(len(here.starts)):
-        for asked in set(here.first_asked(place, FIRST_CALLS)):
-            if len(begun[asked]) <= ASKED_BY_MANY:
-                votes.update((place, other) for other in begun[asked])
+        for key in set(begin_of(here, place, keys[0][0])):
+            if len(begun[key]) <= ASKED_BY_MANY:
+                votes.update((place, other) for other in begun[key])
     homes, taken = [NOBODY] * len(here.starts), set[int]()
     for (place, other), _ in sorted(votes.items(),
                                     key=lambda vote: (-vote[1], abs(vote[0][0] - vote[0][1]),
@@ -193,15 +255,12 @@ def matched_connections(here: Outlines, there: Outlines) -> list[int]:
         if homes[place] == NOBODY and other not in taken:
             homes[place] = other
             taken.add(other)
-    keys: tuple[Callable[[Outlines, int, int], Hashable],
-                ...] = (Outlines.first_asked, Outlines.first_procedures)
-    for begins in keys:
+    for own, its in keys:
         waiting = defaultdict[Hashable, deque[int]](deque)
-        for other in range(len(there.starts)):
-            if other not in taken:
-                waiting[begins(there, other, FIRST_CALLS)].append(other)
-        for place, home in enumerate(homes):
-            alike = waiting.get(begins(here, place, FIRST_CALLS)) if home == NOBODY else None
+        for other in (other for other in range(len(there.starts)) if other not in taken):
+            waiting[begin_of(there, other, its)].append(other)
+        for place in (place for place, home in enumerate(homes) if home == NOBODY):
+            alike = waiting.get(begin_of(here, place, own))
             if alike:
                 homes[place] = alike.popleft()
                 taken.add(homes[place])
@@ -214,150 +273,59 @@ def is_in_order(numbers: Iterable[int]) -> bool:
 
 
 def out_of_order(pairs: Sequence[Pair]) -> list[Pair]:
-    """Returns the pairs, given in the order of their firsts, whose seconds are not in order: as few
-    as may be."""
+    """Returns as few pairs as may be, sorted by their firsts, whose seconds are out of order."""
     kept = set(increasing(pairs))
     return [pair for pair in pairs if pair not in kept]
 
 
-class Pairs:
-    """The pairs so far, and who has none yet."""
-
-    def __init__(self, here: Outlines, there: Outlines) -> None:
-        self.here, self.there, self.homes = here, there, matched_connections(here, there)
-        self.partners = array('i', [NOBODY]) * len(here)
-        self.taken = bytearray(len(there))
-        self.home_of_other = {home: place for place, home in enumerate(self.homes)}
-
-    def bind(self, at: int, to: int) -> None:
-        self.partners[at], self.taken[to] = to, 1
-
-    def left(self) -> tuple[list[int], list[int]]:
-        """Returns the exchanges of both runs that have no partner."""
-        return ([at for at, to in enumerate(self.partners) if to == NOBODY],
-                [to for to, is_taken in enumerate(self.taken) if not is_taken])
-
-    def in_order(self) -> None:
-        """Binds exchanges that are equal, as they follow one another in connections that belong
-        together."""
-        for place, home in enumerate(self.homes):
-            if home != NOBODY:
-                own, its = self.here.exchanges_of(place), self.there.exchanges_of(home)
-                for at, to, size in blocks_of(self.here.said[own.start:own.stop],
-                                              self.there.said[its.start:its.stop]):
-                    first, second = own.start + at, its.start + to
-                    self.partners[first:first + size] = array('i', range(second, second + size))
-                    self.taken[second:second + size] = b'\1' * size
-
-    def by_turn(self, here: Callable[[int], Hashable], there: Callable[[int], Hashable]) -> None:
-        """Binds exchanges that have a key in common, in their order: first in connections that
-        are matched, then in any."""
-        for is_at_home in (True, False):
-            left, others = self.left()
-            waiting = defaultdict[Hashable, deque[int]](deque)
-            for to in others:
-                home = self.home_of_other.get(self.there.connection_of(to)) if is_at_home else None
-                waiting[there(to), home].append(to)
-            for at in left:
-                own = waiting.get((here(at), self.here.connection_of(at) if is_at_home else None))
-                if own:
-                    self.bind(at, own.popleft())
-
-    def gaps(self, more: int) -> Iterator[tuple[list[int], list[int]]]:
-        """Returns what is left between two neighbours, in connections that are matched. The
-        second run may have so many more calls there than the first."""
-        left, _ = self.left()
-        for _, run in groupby(enumerate(left),
-                              lambda numbered: (self.here.connection_of(numbered[1]),
-                                                numbered[1] - numbered[0])):
-            here = [at for _, at in run]
-            place = self.here.connection_of(here[0])
-            own = self.here.exchanges_of(place)
-            its = (self.there.exchanges_of(self.homes[place]) if self.homes[place] != NOBODY
-                   else range(0))
-            before = self.partners[here[0] - 1] if here[0] > own.start else its.start - 1
-            after = self.partners[here[-1] + 1] if here[-1] + 1 < own.stop else its.stop
-            if before + 1 in its and after - 1 in its and after - before - 1 <= len(here) + more:
-                yield here, [to for to in range(before + 1, after) if not self.taken[to]]
-
-    def in_gaps(self, here: Callable[[int], Hashable], there: Callable[[int], Hashable],
-                more: int) -> None:
-        """Binds exchanges that have a key in common, as they follow one another between two
-        neighbours that are bound."""
-        for own, its in self.gaps(more):
-            for at, to in aligned([here(at) for at in own], [there(to) for to in its]):
-                self.bind(own[at], its[to])
-
-    def as_often(self, here: Callable[[int], Hashable], there: Callable[[int], Hashable]) -> None:
-        """Binds exchanges that have a key in common, if between two neighbours that are bound both
-        runs have as many of them."""
-        for own, its in self.gaps(SURPLUS_AT_MOST):
-            waiting = grouped(its, there)
-            for key, some in grouped(own, here).items():
-                if len(some) == len(waiting.get(key, ())):
-                    for at, to in zip(some, waiting[key]):
-                        self.bind(at, to)
-
-    def by_key(self, here: Callable[[int], Hashable], there: Callable[[int], Hashable]) -> None:
-        """Binds exchanges that have a key in common: those between near neighbours first, for one
-        run may have one more before them."""
-        self.in_gaps(here, there, SURPLUS_AT_MOST)
-        self.by_turn(here, there)
-
-
-def grouped(some: Iterable[int], key: Callable[[int], Hashable]) -> dict[Hashable, list[int]]:
+def grouped(some: Iterable[int], key: Key) -> dict[Hashable, list[int]]:
     out = defaultdict[Hashable, list[int]](list)
     for at in some:
         out[key(at)].append(at)
     return out
 
 
-class Relaxed(NamedTuple):
-    """A mask that masks more, and the listings of both runs under it."""
-    mask: Mask
-    listings: tuple[Listing, Listing]
+def keys_in(first: Mapping[int, Hashable], second: Mapping[int, Hashable]) -> KeysOfRuns:
+    """Returns the keys of exchanges of both runs that have one. All others are by themselves."""
+    return lambda at: first.get(at, ('first', at)), lambda to: second.get(to, ('second', to))
 
 
-def several(pairs: Pairs) -> tuple[set[int], set[int]]:
-    """Returns the exchanges without a partner of which several ask the same, and both runs have
-    some."""
-    left, others = pairs.left()
-    asked, asked_there = Counter(map(pairs.here.asked.__getitem__,
-                                     left)), Counter(map(pairs.there.asked.__getitem__, others))
+def several(pairing: Pairing) -> tuple[set[int], set[int]]:
+    """Returns the exchanges without a partner of which both runs have some that ask the same."""
+    left = [{at: run.asked[at] for at in pairing.alone(number)}
+            for number, run in enumerate(pairing.runs)]
+    asked, asked_there = (Counter(some.values()) for some in left)
     keys = {key for key in asked.keys() & asked_there.keys() if asked[key] + asked_there[key] > 2}
-    return {at for at in left
-            if pairs.here.asked[at] in keys}, {to for to in others if pairs.there.asked[to] in keys}
+    own, its = ({at for at, key in some.items() if key in keys} for some in left)
+    return own, its
 
 
 def paired(here: Outlines, there: Outlines, listings: tuple[Listing, Listing],
            lonely: frozenset[str],
-           relaxed: Callable[[], Relaxed] | None = None) -> Pairing:
+           relaxed: Callable[[], tuple[Mask, tuple[Listing, Listing]]] | None = None) -> Pairing:
     """Brings the exchanges of two runs together: those that are equal first, also under a relaxed
-    mask if there is one; then those whose calls ask the same, then alike calls, then calls of one
-    procedure between the same neighbours. Calls of the lonely procedures are brought together only
-    if they ask the same, or if both runs have as many of one procedure, on one object, between the
-    same neighbours: caches of clients leave no such traces, but a client that asks for another name
-    does.
+    mask if there is one, which masks more; then those whose calls ask the same, then alike calls,
+    then calls of one procedure between the same neighbours. Calls of the lonely procedures are
+    brought together only if they ask the same, or if both runs have as many of one procedure, on
+    one object, between the same neighbours: caches of clients leave no such traces, but a client
+    that asks for another name does.
     """
-    pairs = Pairs(here, there)
-    pairs.in_order()
-    pairs.by_turn(here.said.__getitem__, there.said.__getitem__)
-    own, its = several(pairs) if relaxed else (set[int](), set[int]())
+    pairing = Pairing(here, there, matched_connections(here, there))
+    pairing.in_order()
+    pairing.by_turn((here.said.__getitem__, there.said.__getitem__))
+    own, its = several(pairing) if relaxed else (set[int](), set[int]())
     if relaxed and own:
         mask, (first, second) = relaxed()
-        said, answered = here.said_again(first(), own, mask), there.said_again(second(), its, mask)
-        pairs.by_key(lambda at: said.get(at, ('first', at)),
-                     lambda to: answered.get(to, ('second', to)))
-    pairs.by_key(here.asked.__getitem__, there.asked.__getitem__)
-    left, others = ({at for at in some if outlines.procedure_of(at) not in lonely}
-                    for some, outlines in zip(pairs.left(), (here, there)))
+        pairing.by_key(keys_in(here.said_again(first(), own, mask),
+                               there.said_again(second(), its, mask)))
+    pairing.by_key((here.asked.__getitem__, there.asked.__getitem__))
+    left, others = ({at for at in pairing.alone(number) if run.procedure_of(at) not in lonely}
+                    for number, run in enumerate(pairing.runs))
     if left and others:
-        alike, like = (here.calls_alike(listings[0](), left),
-                       there.calls_alike(listings[1](), others))
-        pairs.by_key(lambda at: alike.get(at, ('first', at)),
-                     lambda to: like.get(to, ('second', to)))
-        pairs.in_gaps(lambda at: here.procedure_of(at) if at in left else ('first', at),
-                      lambda to: there.procedure_of(to) if to in others else ('second', to),
-                      len(there))
-    pairs.as_often(here.about, there.about)
-    return Pairing(here, there, pairs.partners, pairs.homes)
+        pairing.by_key(keys_in(here.calls_alike(listings[0](), left),
+                               there.calls_alike(listings[1](), others)))
+        pairing.in_gaps(keys_in({at: here.procedure_of(at) for at in left},
+                                {to: there.procedure_of(to) for to in others}), len(there))
+    pairing.as_often((lambda at: (here.procedure_of(at), here.object_of(at)),
+                      lambda to: (there.procedure_of(to), there.object_of(to))))
+    return pairing

@@ -69,8 +69,7 @@ class Records:
 
 
 class Rewriting:
-    """A run that is written in an order. An exchange is iterated over for its call, and again for
-    its replies."""
+    """A run that is written in an order, which is iterated over for calls, and for replies."""
 
     def __init__(self, taken: Taken, exchanges: Iterable[Numbered]) -> None:
         self.exchanges = exchanges
@@ -84,8 +83,7 @@ class Rewriting:
         return map(records.use, exchange.calls if side == 'client' else exchange.replies)
 
     def messages(self, side: Side) -> Iterator[bytes]:
-        """Returns the messages of one side in the order, with their new xids, each as a record of
-        one fragment."""
+        """Returns one side's messages in the order, with new xids, as records of one fragment."""
         for turn, exchange in enumerate(self.exchanges, 1):
             for body in self.use(exchange, side):
                 xid = int.from_bytes(body[:4], 'big')

@@ -1,8 +1,8 @@
 """Which exchanges of two captures in one order differ, by their listings."""
 from __future__ import annotations
 
-from array import array
 from collections.abc import Iterable, Iterator
+from functools import cache
 from itertools import chain, groupby, zip_longest
 
 from ...exchanges.listing import has_rest, place_of, said_in, xid_of
@@ -10,7 +10,7 @@ from ..values.classes import Mask
 from .outlines import Outlines, classes_of_items, renamed_values
 from .pairing import Listing
 
-TurnKey = tuple[bool, int]
+TurnKey = tuple[bool, int]  # whether a line is of a reply, and the turn of its exchange
 KeyedLines = tuple[TurnKey, list[str]]
 NO_LINES: KeyedLines = (True, 1 << 62), []
 
@@ -35,28 +35,19 @@ class TwoListings:
     def turn_of(self, line: str) -> int:
         return xid_of(line) - 1
 
-    def key_of(self, line: str) -> TurnKey:
-        """Returns whether a line is of a reply, and the turn of its exchange."""
-        return not place_of(line).is_call, self.turn_of(line)
-
     def messages(self, lines: Iterable[str]) -> Iterator[KeyedLines]:
         """Returns the calls, and then the replies to each call, without their records' numbers."""
-        for key, some in groupby(lines, self.key_of):
-            yield key, list(map(said_in, some))
+        return ((key, list(map(said_in, some))) for key, some in groupby(
+            lines, lambda line: (not place_of(line).is_call, self.turn_of(line))))
 
     def unequal(self) -> set[int]:
         """Returns the turns of the exchanges that are listed in another way."""
-        ones, others = iter(self.first()), iter(self.second())
-        for one in ones:
-            other = next(others, None)
-            if one != other:
-                return self.of_messages(self.messages(chain([one], ones)),
-                                        self.messages(
-                                            chain([] if other is None else [other], others)))
-        return self.of_messages(iter(()), self.messages(others))
-
-    def of_messages(self, ones: Iterator[KeyedLines], others: Iterator[KeyedLines]) -> set[int]:
-        """Returns the turns at which something else is said."""
+        first, second = iter(self.first()), iter(self.second())
+        # (what is equal at the beginning is not taken apart)
+        one, other = next(((one, other) for one, other in zip_longest(first, second)
+                           if one != other), (None, None))
+        ones, others = (self.messages(chain([line] if line is not None else [], lines))
+                        for line, lines in ((one, first), (other, second)))
         out = set[int]()
         (key, said), (other_key, other_said) = next(ones, NO_LINES), next(others, NO_LINES)
         while (key, other_key) != (NO_LINES[0], NO_LINES[0]):
@@ -89,23 +80,15 @@ class TwoListings:
 
 
 class ListedInPlace(TwoListings):
-    """Two captures in canonical form whose exchanges stand in the same places: the turns are the
-    numbers of the exchanges."""
+    """The same of exchanges that are in the same places: the turns are their numbers."""
 
     def __init__(self, first: Listing, second: Listing, mask: Mask, outlines: Outlines) -> None:
         super().__init__(first, second, mask)
-        self.outlines = outlines
-        # By connections and sides: the exchange of each record
-        self.exchanges: dict[tuple[int, bool], array[int]] = {}
+        self.outlines, self.by_record = outlines, cache(outlines.by_record)
 
     def turn_of(self, line: str) -> int:
         connection, is_call, record = place_of(line)
-        if (connection, is_call) not in self.exchanges:
-            place = self.outlines.place_of(connection)
-            self.exchanges[connection, is_call] = (
-                self.outlines.exchanges_of_calls(place) if is_call
-                else self.outlines.exchanges_of_replies(place))
-        return self.exchanges[connection, is_call][record]
+        return self.by_record(self.outlines.place_of(connection), is_call)[record]
 
     def unequal(self) -> set[int]:
         out = set[int]()

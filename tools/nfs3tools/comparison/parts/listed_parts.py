@@ -9,16 +9,15 @@ import re
 from bisect import bisect_left
 from collections import defaultdict
 from collections.abc import Iterable, Iterator, Sequence
-from functools import cached_property
 from itertools import accumulate, groupby
 
 from ...exchanges.listing import place_of, with_connection
 from ...recordings.container import capture_of
 from ...recordings.taken import Taken
+from ...shared.programs import MASKED, run_program
 from ..exchanges.outlines import classes_of_items, renamed_values
 from ..exchanges.pairing import Listing
 from ..values.classes import Mask, mask_text
-from ..values.masking import write_masked
 from ..verdict.trial import Trial
 from .marks import Both
 
@@ -30,50 +29,41 @@ PartLines = tuple[list[str], ...]  # of a part in both runs
 
 def listed_at_once(pairs: Iterable[Both]) -> Iterator[list[Both]]:
     """Iterates over parts, as many at once as may be listed together. A larger one is by itself."""
-    some, share = list[Both](), 0.0
+    some, share = list[Both](), 0.0  # of what may be listed at once
     for pair in pairs:
-        share += share_of_limits(pair)
+        own = max(max(part.bytes() / BYTES_AT_MOST, part.size().connections / LISTED_CONNECTIONS)
+                  for part in pair)
+        share += own
         if some and share > 1:
             yield some
-            some, share = [], share_of_limits(pair)
+            some, share = [], own
         some.append(pair)
     if some:
         yield some
 
 
-def share_of_limits(pair: Both) -> float:
-    """Returns how much of what may be listed at once a part has."""
-    return max(max(part.bytes() / BYTES_AT_MOST, part.size().connections / LISTED_CONNECTIONS)
-               for part in pair)
-
-
 class ListedParts:
-    """The lines of the parts of a trial: those of the captures, and by masks those of their
-    canonical forms."""
+    """The lines of the parts of a trial."""
 
     def __init__(self, trial: Trial, pairs: Sequence[Both]) -> None:
         self.trial = trial
         self.connections = [[part.size().connections for part in parts] for parts in zip(*pairs)]
         self.forms = dict[str, list[PartLines]]()
 
-    @cached_property
-    def recorded(self) -> list[PartLines]:
-        return self.parts_of(map(self.trial.listing, self.trial.captures))
-
-    def canonical(self, mask: Mask) -> list[PartLines]:
-        word = mask_text(mask)
+    def lines(self, mask: Mask | None = None) -> list[PartLines]:
+        """Returns the lines of the parts, or under a mask those of their canonical forms."""
+        word = '' if mask is None else mask_text(mask)
         if word not in self.forms:
-            self.forms[word] = self.parts_of(self.trial.canonical(self.trial.captures, mask))
+            captures = self.trial.captures
+            listings = (map(self.trial.listing, captures) if mask is None
+                        else self.trial.canonical(captures, mask))
+            self.forms[word] = list(zip(*(lines_by_part(listing(), some) for listing, some in zip(
+                listings, self.connections))))
         return self.forms[word]
-
-    def parts_of(self, listings: Iterable[Listing]) -> list[PartLines]:
-        return list(zip(*(lines_by_part(listing(), some)
-                          for listing, some in zip(listings, self.connections))))
 
 
 class PartTrial(Trial):
-    """A trial of one of these parts. Its captures are not written: they are read from a pipe to be
-    masked."""
+    """A trial of one of these parts. Its captures are not written, but masked from a pipe."""
 
     def __init__(self, listed: ListedParts, at: int, runs: Sequence[Taken]) -> None:
         self.listed, self.at, self.forms = listed, at, dict[str, list[list[str]]]()
@@ -90,12 +80,13 @@ class PartTrial(Trial):
             super().mask(captures, names, mask)
             return
         for taken, name in zip(self.runs, names):
-            write_masked(self.program, '/dev/stdin', name, mask, capture_of(taken.pairs()))
+            program, *words = self.masking('/dev/stdin', name, mask)
+            run_program(program, words, MASKED, capture_of(taken.pairs()))
 
     def listing(self, capture: str) -> Listing:
         if capture not in self.captures:
             return super().listing(capture)
-        return self.listed.recorded[self.at][self.captures.index(capture)].__iter__
+        return self.listed.lines()[self.at][self.captures.index(capture)].__iter__
 
     def canonical(self, captures: Sequence[str],
                   mask: Mask | None = None) -> tuple[Listing, Listing]:
@@ -104,14 +95,13 @@ class PartTrial(Trial):
         mask = mask or {}
         if mask_text(mask) not in self.forms:
             self.forms[mask_text(mask)] = [renumbered(lines, mask)
-                                           for lines in self.listed.canonical(mask)[self.at]]
+                                           for lines in self.listed.lines(mask)[self.at]]
         first, second = self.forms[mask_text(mask)]
         return first.__iter__, second.__iter__
 
 
 def lines_by_part(lines: Iterable[str], connections: Sequence[int]) -> list[list[str]]:
-    """Returns the lines of each part, by how many connections it has, whose numbers begin with
-    1."""
+    """Returns the lines of each part, by how many connections it has, numbered from 1."""
     out, ends = [list[str]() for _ in connections], list(accumulate(connections, initial=0))
     for number, some in groupby(lines, lambda line: place_of(line).connection):
         part = bisect_left(ends, number) - 1
@@ -121,8 +111,7 @@ def lines_by_part(lines: Iterable[str], connections: Sequence[int]) -> list[list
 
 
 def renumbered(lines: Iterable[str], mask: Mask) -> list[str]:
-    """Returns lines in which renamed values have numbers by their first appearance in these. Zeros
-    stay."""
+    """Returns lines in which renamed values are numbered by first appearance. Zeros stay."""
     classes, numbers = classes_of_items(mask), defaultdict[str, dict[str, int]](dict)
 
     def number(found: re.Match[str]) -> str:

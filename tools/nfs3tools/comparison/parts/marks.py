@@ -19,24 +19,19 @@ from operator import itemgetter
 from typing import NamedTuple
 
 from ...exchanges.answering import Answering
-from ...exchanges.listing import Line, Message, line_of, message_of
+from ...exchanges.listing import Message, line_of
 from ...recordings.records import Window, extents
 from ...recordings.taken import Taken, TakenConnection, TakenStream
 from ...shared.places import SIDES, Side
 from ...shared.programs import Died
-from ..exchanges.outlines import Outlines
 from ..exchanges.pairing import Listing
 from ..values.long_values import bytes_of
 from ..verdict.cover import Size
-from ..verdict.trial import when_of
 
 MARKING = frozenset(('NFSPROC3_LOOKUP', 'NFSPROC3_CREATE', 'NFSPROC3_MKDIR'))
 # When a call was sent: its frame or 0, its connection, and its record
 SentAt = tuple[int, int, int]
-
-
-class NoMark(Exception):
-    """No call of either run is a mark; its text is the message for the user."""
+Mark = tuple[SentAt, str]  # when a call was sent at which a part begins, and its name
 
 
 class PartName(NamedTuple):
@@ -45,16 +40,15 @@ class PartName(NamedTuple):
     name: str | None
     number: int
 
+    @property
+    def plain(self) -> str | None:
+        """The name without its quotes."""
+        return self.name and self.name[1:-1]
+
     def __str__(self) -> str:
         if self.name is None:
             return 'before the first mark'
         return self.name if self.number == 1 else f'{self.name} ({self.number})'
-
-
-class Mark(NamedTuple):
-    """A call at which a part begins."""
-    moment: SentAt
-    name: str
 
 
 class Piece(NamedTuple):
@@ -84,10 +78,6 @@ class RunPart:
     def sides_of(self, connection: int) -> dict[Side, list[Piece]]:
         return self.pieces.setdefault(connection, {'client': [], 'server': []})
 
-    def has_messages_of(self, other: 'RunPart') -> bool:
-        """Whether both parts have the same messages, by their connections and numbers."""
-        return self.numbers() == other.numbers()
-
     def numbers(self) -> list[tuple[int, list[tuple[int, int]]]]:
         """Returns of each connection, by its number, the number of the first record of each piece,
         and of how many there are."""
@@ -107,21 +97,6 @@ class RunPart:
 Both = tuple[RunPart, RunPart]  # a part in both runs
 
 
-class Answered:
-    """The calls of a connection: how many there are, and which of them each reply belongs to,
-    counted from 0."""
-
-    def __init__(self) -> None:
-        self.calls, self.owners, self.rule = 0, array('I'), Answering()
-
-    def add_call(self, line: Line) -> None:
-        self.rule.call(line.xid, line.text)
-        self.calls += 1
-
-    def add_reply(self, xid: int) -> None:
-        self.owners.append(self.rule.reply(xid))
-
-
 class MarkedRun:
     """A run and its parts, in their order. The listing is that of the run in canonical form."""
 
@@ -132,54 +107,49 @@ class MarkedRun:
         self.sent = {connection.number: array('Q',
                                               accumulate(connection.client.first_frames(), max))
                      for connection in taken.connections if taken.has_frames}
-        self.answered = defaultdict[int, Answered](Answered)
-        marks = begun_by(sorted(self.marks(re.compile(fnmatch.translate(pattern)))))
+        # By connections: the calls, and which of them each reply belongs to, counted from 0
+        self.rules = defaultdict[int, Answering](Answering)
+        self.owners = defaultdict[int, 'array[int]'](lambda: array('I'))
+        # A mark of the name of the part that goes on begins none: a client looks a name up before
+        # it makes it, and again later.
+        found = sorted(self.marks(re.compile(fnmatch.translate(pattern))))
+        marks = [next(some) for _, some in groupby(found, itemgetter(1))]
         self.parts = parts_by_marks(marks)
         for connection in taken.connections:
-            self.cut(connection, [mark.moment for mark in marks])
+            self.cut(connection, [moment for moment, _ in marks])
         self.parts = [part for part in self.parts if part.pieces]
-
-    def has_marks(self) -> bool:
-        return any(part.name.name is not None for part in self.parts)
-
-    def has_silly_names(self) -> bool:
-        """Whether a part may have a name that a mask changes."""
-        return any('.nfs' in (part.name.name or '') for part in self.parts)
-
-    def outlines(self) -> Outlines:
-        return Outlines(self.listing(), {}, when_of(self.taken))
 
     def marks(self, pattern: re.Pattern[str]) -> Iterator[Mark]:
         """Reads the listing, and iterates over the calls that are marks."""
         for line in self.listing():
             read = line_of(line)
-            connection = self.answered[read.connection]
+            rule = self.rules[read.connection]
             if not read.is_call:
-                connection.add_reply(read.xid)
+                self.owners[read.connection].append(rule.reply(read.xid))
                 continue
-            connection.add_call(read)
-            name = message_of(line).value_of('name') if read.procedure in MARKING else None
+            rule.call(read.xid, read.text)
+            name = read.message().value_of('name') if read.procedure in MARKING else None
             if name is not None and pattern.match(os.fsdecode(bytes_of(name))):
-                frame = self.sent[read.connection][connection.calls - 1] if self.sent else 0
-                yield Mark((frame, read.connection, connection.calls), name)
+                number = len(rule.said)
+                frame = self.sent[read.connection][number - 1] if self.sent else 0
+                yield (frame, read.connection, number), name
 
     def cut(self, connection: TakenConnection, begins: Sequence[SentAt]) -> None:
         """Gives the parts, which begin at these moments, their pieces of a connection. One without
         calls is of the first part."""
-        answered = self.answered[connection.number]
-        sent = self.sent[connection.number] if self.sent else repeat(0, answered.calls)
+        owners, rule = self.owners[connection.number], self.rules[connection.number]
+        sent = self.sent[connection.number] if self.sent else repeat(0, len(rule.said))
         calls = array('I',
                       (bisect_right(begins, (frame, connection.number, record))
                        for record, frame in enumerate(sent, 1)))
-        for side, parts in zip(SIDES, (calls, map(calls.__getitem__, answered.owners))):
+        for side, parts in zip(SIDES, (calls, map(calls.__getitem__, owners))):
             for part, piece in pieces_of(connection.stream(side), parts):
                 self.parts[part].sides_of(connection.number)[side].append(piece)
         if not calls:
             self.parts[0].sides_of(connection.number)
 
     def taken_of(self, parts: Iterable[RunPart]) -> Taken:
-        """Returns what is taken of some parts, one after the other. It ends with what is taken of
-        the run."""
+        """Returns what is taken of some parts in their order. It ends with that of the run."""
         out = Taken(self.taken.spool, self.taken.is_recording, self.taken.has_frames)
         pieces = chain.from_iterable(part.pieces.items() for part in parts)
         for number, (own, sides) in enumerate(pieces, 1):
@@ -197,18 +167,12 @@ def is_cut_by_records(taken: Taken) -> bool:
     return not taken.has_frames or len(taken.connections) == 1
 
 
-def begun_by(marks: Iterable[Mark]) -> list[Mark]:
-    """Returns the marks that begin a part. One of the name of the part that goes on does not: a
-    client looks a name up before it makes it, and again later."""
-    return [next(some) for _, some in groupby(marks, lambda mark: mark.name)]
-
-
 def parts_by_marks(marks: Iterable[Mark]) -> list[RunPart]:
     """Returns the parts that begin with these marks, after the one before them."""
     parts, numbers = [RunPart(PartName(None, 1))], Counter[str]()
-    for mark in marks:
-        numbers[mark.name] += 1
-        parts.append(RunPart(PartName(mark.name, numbers[mark.name])))
+    for _, name in marks:
+        numbers[name] += 1
+        parts.append(RunPart(PartName(name, numbers[name])))
     return parts
 
 

@@ -11,49 +11,58 @@ import tempfile
 from collections import Counter
 from collections.abc import Iterator, Sequence
 from contextlib import contextmanager
-from dataclasses import replace
-from functools import cache
+from dataclasses import dataclass, replace
 from pathlib import Path
 
 from ...exchanges.listing import Message
 from ...recordings.taken import Taken
 from ...shared.printed import escaped
 from ..exchanges.outlines import Outlines
-from ..verdict.decision import Judged, judged_runs, run_of, same_of
-from ..verdict.findings import Compared, Finding, ParsedExchanges, Run, Silent
+from ..verdict.cover import Size
+from ..verdict.decision import Report, judged_runs, run_of, same_of
+from ..verdict.findings import RUNS, Compared, Finding, ParsedExchanges, Run
 from ..verdict.ignored import Ignored, without_ignored
 from ..verdict.orders import Choices, NothingToCompare
-from ..verdict.report import PartReport
-from ..verdict.trial import Trial
+from ..verdict.trial import Trial, when_of
 from .listed_parts import ListedParts, PartTrial, listed_at_once
-from .marks import Both, MarkedRun, NoMark, PartName, RunPart, is_cut_by_records
+from .marks import Both, MarkedRun, PartName, RunPart, is_cut_by_records
 
 # How many parts are judged at once, and by what that is divided if they are not the same
 PARTS_AT_ONCE, FEWER = 64, 8
 CONNECTIONS_AT_MOST = 4_000  # of a run in parts that are judged at once
 
 
-class PathsInRun:
-    """The paths of what is found in the parts of a run, by the whole run."""
+@dataclass(frozen=True)
+class PartReport:
+    """What is said of a part of two runs.
 
-    def __init__(self, run: Run, marked: MarkedRun, messages: Sequence[Message]) -> None:
-        outlines = marked.outlines() if messages else Outlines((), {})
-        replies = cache(outlines.exchanges_of_replies)
-        self.exchanges = dict[str, int]()
-        for message in messages:
-            place = outlines.place_of(message.connection)
-            self.exchanges[message.place] = (outlines.starts[place] + message.record - 1
-                                             if message.is_call
-                                             else replies(place)[message.record])
-        self.apart = ParsedExchanges(run, outlines, set(self.exchanges.values()))
+    size: how much it has in the first run, or else in the second
+    only: 'first' or 'second' if one run alone has it
+    report, compared, left_out: if both runs have it, as of whole runs
+    """
+    name: PartName
+    size: Size
+    only: str | None
+    report: Report | None
+    compared: Compared
+    left_out: Counter[tuple[str, str]]
 
-    def path(self, message: Message) -> str | None:
-        return self.apart.path(self.exchanges[message.place])
+    @property
+    def is_good(self) -> bool:
+        """Whether it is the same, if the order counts as was asked for."""
+        return self.report is not None and self.report.is_same
+
+    def word(self) -> str:
+        return self.report.word() if self.report else f'only in the {self.only} run'
+
+    def line(self) -> str:
+        said = self.report.line() if self.report else f'{self.word()}: {self.size}'
+        return f'{self.name}: {said}'
 
 
 class PartByPart:
-    """Two runs that are cut at marks, and their parts. Raises `NoMark` if neither has one: then
-    nothing would be compared by parts, though the user asked for that."""
+    """Two runs that are cut at marks, and their parts. Raises `NothingToCompare` if neither
+    has a mark, though the user asked for that."""
 
     def __init__(self, whole: Trial, names: Sequence[str], runs: Sequence[Run], pattern: str,
                  choices: Choices) -> None:
@@ -61,12 +70,13 @@ class PartByPart:
         self.are_wholes_same = whole.same(whole.captures, choices.masks[0]) == 'same'
         listings = whole.canonical(whole.captures)
         first = MarkedRun(whole.runs[0], listings[0], pattern)
-        is_cut_alike = (self.are_wholes_same and not first.has_silly_names()
-                        and all(map(is_cut_by_records, whole.runs)))
+        # (a mask changes names of removed files)
+        is_cut_alike = (self.are_wholes_same and all(map(is_cut_by_records, whole.runs)) and not
+                        any('.nfs' in (part.name.name or '') for part in first.parts))
         self.marked = first, first if is_cut_alike else MarkedRun(whole.runs[1], listings[1],
                                                                   pattern)
-        if not any(marked.has_marks() for marked in self.marked):
-            raise NoMark(
+        if not any(part.name.name for marked in self.marked for part in marked.parts):
+            raise NothingToCompare(
                 f'no call of LOOKUP, CREATE or MKDIR has a name that fits {escaped(pattern)!r}')
 
     def reports(self, ignored: Sequence[Ignored]) -> list[PartReport]:
@@ -76,38 +86,24 @@ class PartByPart:
         both = [(part, second[name]) for name, part in first.items() if name in second]
         found = {pair[0].name: one for pair, one in self.judged(both)}
         compared = dict(zip(found, self.with_paths([one.found.compared for one in found.values()])))
-        return [self.report(first.get(name), second.get(name), found.get(name),
-                            *without_ignored(compared.get(name, Compared()), ignored))
-                for name in (*first, *(name for name in second if name not in first))]
+        return [PartReport(name, (first.get(name) or second[name]).size(),
+                           None if name in found else RUNS[name not in first], found.get(name),
+                           *without_ignored(compared.get(name, Compared()), ignored))
+                for name in dict.fromkeys((*first, *second))]
 
-    def report(self, one: RunPart | None, other: RunPart | None, said: Judged | None,
-               compared: Compared, left_out: Counter[tuple[str, str]]) -> PartReport:
-        part = one or other
-        assert part
-        name = part.name.name and part.name.name[1:-1]
-        if one is None or other is None or said is None:
-            only = 'first' if one else 'second'
-            line = f'{part.name}: only in the {only} run: {part.size()}'
-            return PartReport(str(part.name), name, part.name.number, line, False, only, None,
-                              compared, left_out)
-        report = said.report(self.choices, self.names, [one.size(), other.size()])
-        line = f'{part.name}: {said.line(self.choices, part.size())}'
-        return PartReport(str(part.name), name, part.name.number, line, said.is_same, None, report,
-                          compared, left_out)
-
-    def judged(self, pairs: Sequence[Both]) -> Iterator[tuple[Both, Judged]]:
+    def judged(self, pairs: Sequence[Both]) -> Iterator[tuple[Both, Report]]:
         """Judges parts: first those that are the same, and then each of the others."""
         same = set[PartName]()
         for pair in self.same(pairs):
             same.add(pair[0].name)
-            yield pair, same_of([part.size() for part in pair], self.choices.order)
+            yield pair, same_of(self.names, [part.size() for part in pair], self.choices)
         for some in listed_at_once(pair for pair in pairs if pair[0].name not in same):
             yield from self.each(some)
 
     def same(self, pairs: Sequence[Both]) -> Iterator[Both]:
         """Iterates over parts that are the same. If the runs are, a part of the same messages in
         both is: one renaming of the runs renames each part."""
-        if self.are_wholes_same and all(one.has_messages_of(other) for one, other in pairs):
+        if self.are_wholes_same and all(one.numbers() == other.numbers() for one, other in pairs):
             return iter(pairs)
         return self.same_at_once(pairs, PARTS_AT_ONCE)
 
@@ -130,9 +126,8 @@ class PartByPart:
         with self.trial(pairs) as trial:
             return trial.same(trial.captures, self.choices.masks[0]) == 'same'
 
-    def each(self, pairs: Sequence[Both]) -> Iterator[tuple[Both, Judged]]:
-        """Judges each of some parts. They are listed at once, unless it is one, which may be
-        large."""
+    def each(self, pairs: Sequence[Both]) -> Iterator[tuple[Both, Report]]:
+        """Judges each of some parts, which are listed at once. A single one may be large."""
         if len(pairs) == 1:
             with self.trial(pairs) as trial:
                 yield pairs[0], self.alone(trial, *pairs[0])
@@ -142,23 +137,23 @@ class PartByPart:
             for at, pair in enumerate(pairs):
                 yield pair, self.alone(PartTrial(listed, at, self.taken([pair])), *pair)
 
-    def alone(self, trial: Trial, one: RunPart, other: RunPart) -> Judged:
+    def alone(self, trial: Trial, one: RunPart, other: RunPart) -> Report:
         """Judges a part. The places of what is found are those in the whole runs."""
         runs = [run_of(trial, *each) for each in zip(trial.runs, trial.captures, self.names)]
         sizes = [one.size(), other.size()]
         try:
-            said = judged_runs(trial, runs, sizes, self.choices)
+            said = judged_runs(trial, runs, self.names, sizes, self.choices)
         except NothingToCompare:  # (then what one run alone has is all that there is)
-            said = judged_runs(trial, runs, sizes, replace(self.choices, leaves_out=frozenset()))
-        compared = said.found.compared
-        findings = [replace(finding, first=finding.first and one.in_the_whole(finding.first),
+            said = judged_runs(trial, runs, self.names, sizes,
+                               replace(self.choices, leaves_out=frozenset()))
+        def placed(findings: Sequence[Finding]) -> list[Finding]:
+            return [replace(finding, first=finding.first and one.in_the_whole(finding.first),
                             second=finding.second and other.in_the_whole(finding.second))
-                            for finding in compared.findings]
-        silent = [replace(call, first=call.first and one.in_the_whole(call.first),
-                          second=call.second and other.in_the_whole(call.second))
-                  for call in compared.silent]
-        found = replace(said.found, compared=replace(compared, findings=findings, silent=silent))
-        return said._replace(verdict=said.verdict.partition(' at ')[0], found=found)
+                    for finding in findings]
+        compared = said.found.compared
+        found = replace(said.found, compared=replace(
+            compared, findings=placed(compared.findings), silent=placed(compared.silent)))
+        return replace(said, verdict=said.verdict.partition(' at ')[0], found=found)
 
     @contextmanager
     def trial(self, pairs: Sequence[Both]) -> Iterator[Trial]:
@@ -171,31 +166,22 @@ class PartByPart:
         return [marked.taken_of(parts) for marked, parts in zip(self.marked, zip(*pairs))]
 
     def with_paths(self, compared: Sequence[Compared]) -> list[Compared]:
-        """Returns what was found in the parts, and what is left out, with the paths that are known
-        from the whole runs."""
-        messages: tuple[list[Message], list[Message]] = ([], [])
-        found: list[Finding | Silent] = []
-        for one in compared:
-            found += one.findings
-            found += one.silent
-        for message, is_second in map(named_by, found):
-            messages[is_second].append(message)
-        places = [PathsInRun(run, marked, some)
-                  for run, marked, some in zip(self.runs, self.marked, messages)]
-
-        def path_of(finding: Finding | Silent) -> str | None:
-            message, is_second = named_by(finding)
-            return places[is_second].path(message)
+        """Returns what was found, and what is left out, with the paths of the whole runs."""
+        found = [finding for one in compared for finding in (*one.findings, *one.silent)]
+        paths = [paths_in(run, marked, [finding.message for finding in found
+                                        if (finding.first is None) == is_second])
+                 for run, marked, is_second in zip(self.runs, self.marked, (False, True))]
 
         def with_path(finding: Finding) -> Finding:
-            return (finding if finding.kind in ('order', 'connection')
-                    else replace(finding, path=path_of(finding)))
+            return (finding if finding.kind in ('order', 'connection') else replace(
+                finding, path=paths[finding.first is None][finding.message.place]))
         return [replace(one, findings=list(map(with_path, one.findings)),
-                        silent=[replace(call, path=path_of(call)) for call in one.silent])
-                for one in compared]
+                        silent=list(map(with_path, one.silent))) for one in compared]
 
 
-def named_by(finding: Finding | Silent) -> tuple[Message, bool]:
-    """Returns the message by which a finding or a call that is left out is named, and whether it is
-    of the second run."""
-    return finding.message, finding.first is None
+def paths_in(run: Run, marked: MarkedRun, messages: Sequence[Message]) -> dict[str, str | None]:
+    """Returns the paths of what messages of parts are about, by their places in the run."""
+    outlines = Outlines(marked.listing() if messages else (), {}, when_of(marked.taken))
+    exchanges = outlines.exchanges_of_messages(messages)
+    apart = ParsedExchanges(run, outlines, exchanges)
+    return {message.place: apart.path(at) for message, at in zip(messages, exchanges)}

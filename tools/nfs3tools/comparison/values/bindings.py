@@ -9,8 +9,7 @@ RENAMED = {'fh': HANDLES, 'verf': VERIFIERS}  # by the names of items
 
 @dataclass
 class Bindings:
-    """For each class of renamed values, which value of the second run belongs to which of the
-    first."""
+    """By classes of renamed values, which of the second run belongs to which of the first."""
     forth: dict[tuple[str, str], str] = field(default_factory=dict)
     back: dict[tuple[str, str], str] = field(default_factory=dict)
 
@@ -27,10 +26,6 @@ class Bindings:
             return f'elsewhere {second} of the second run is {owner} of the first'
         return f'elsewhere {first} of the first run is {bound} of the second'
 
-    def in_place_of(self, handle: str) -> str | None:
-        """Returns the second run's handle in place of one of the first."""
-        return self.forth.get((HANDLES, handle))
-
     def renamed(self, rest: str) -> str:
         """Returns raw bytes, in hexadecimal, with each bound handle that is in them in place of the
         first run's. A handle is spelled as its length, a word, its bytes, and padding (RFC 1813,
@@ -40,7 +35,7 @@ class Bindings:
             word = rest[at:at + 8]
             size = int(word, 16) if len(word) == 8 else 0
             handle = rest[at + 8:at + 8 + 2 * size] if 0 < size <= 64 else ''
-            bound = self.in_place_of(handle) if handle else None
+            bound = self.forth.get((HANDLES, handle)) if handle else None
             if bound is None:
                 out.append(word)
                 at += 8

@@ -8,8 +8,7 @@ from dataclasses import dataclass
 
 
 class Way(enum.Enum):
-    """How the values of a class are masked: all become zero, or each becomes its number by first
-    appearance."""
+    """How values of a class are masked: as zero, or as their numbers by first appearance."""
     ZERO = 'zero'
     NUMBER = 'number'
 
@@ -40,8 +39,7 @@ class ValueClass:
     is_raw: bool = False
 
     def has(self, name: str, is_call: bool) -> bool:
-        """Returns whether an item of this name in a call, or in a reply, may be one of the
-        class."""
+        """Returns whether an item of this name, in a call or a reply, may be of the class."""
         return (name in self.items and (is_call or name not in self.only_in_calls)
                 and not (is_call and self.is_of_changes))
 
@@ -124,7 +122,6 @@ def mask_of(text: str) -> Mask:
 
 
 def mask_word(text: str) -> str:
-    """Returns the word of `--mask` if it is one."""
     mask_of(text)
     return text
 

@@ -30,18 +30,6 @@ class Parting(NamedTuple):
     shown: tuple[str, str]
 
 
-class ValueBytes:
-    """The bytes of a value of a listing: of a string in quotes, or of hexadecimal digits."""
-
-    def __init__(self, value: Value) -> None:
-        self.long = value if isinstance(value, Long) else None
-        self.bytes = b'' if isinstance(value, Long) else bytes_of(value)
-        self.size = len(self.bytes) if self.long is None else self.long.size
-
-    def read(self, begin: int, end: int) -> bytes:
-        return self.bytes[begin:end] if self.long is None else self.long.read(begin, end)
-
-
 def is_long(value: Value) -> bool:
     return isinstance(value, Long) or len(value) > LONG_TEXT
 
@@ -53,19 +41,23 @@ def bytes_of(value: str) -> bytes:
     return bytes.fromhex(value)
 
 
+def content_of(value: Value) -> bytes | Long:
+    """Returns the bytes of a value of a listing: a string in quotes, or hexadecimal digits."""
+    return value if isinstance(value, Long) else bytes_of(value)
+
+
 def parting_between(first: Value, second: Value, offset: int | None = None) -> Parting:
-    """Returns where two values of a listing part that differ. The offset is that of the first byte
-    in its file."""
-    one, other = ValueBytes(first), ValueBytes(second)
-    size = min(one.size, other.size)
+    """Returns where two values part. The offset is that of the first byte in its file."""
+    one, other = content_of(first), content_of(second)
+    size = min(len(one), len(other))
     at, differing = size, 0
     for begin in range(0, size, COMPARED_AT_ONCE):
-        first_of_piece, number = parting(one.read(begin, min(size, begin + COMPARED_AT_ONCE)),
-                                         other.read(begin, min(size, begin + COMPARED_AT_ONCE)))
+        piece = slice(begin, min(size, begin + COMPARED_AT_ONCE))
+        first_of_piece, number = parting(one[piece], other[piece])
         at = min(at, begin + first_of_piece) if number else at
         differing += number
     is_text = str(first).startswith('"')
-    return Parting(at, None if offset is None else offset + at, differing, (one.size, other.size),
+    return Parting(at, None if offset is None else offset + at, differing, (len(one), len(other)),
                    (bytes_around(one, at, is_text), bytes_around(other, at, is_text)))
 
 
@@ -77,13 +69,12 @@ def parting(one: bytes, other: bytes) -> tuple[int, int]:
     return len(one) - len(bits.lstrip(b'\0')), len(one) - bits.count(0)
 
 
-def bytes_around(content: ValueBytes, at: int, is_text: bool) -> str:
+def bytes_around(content: bytes | Long, at: int, is_text: bool) -> str:
     """Returns the bytes round a place: of a name as the listing spells it, of others in
     hexadecimal, with a space before the place."""
     begin = max(0, at - SHOWN // 2)
-    piece, before, after = (
-        content.read(begin, begin + SHOWN), '..' * (begin > 0),
-        '..' * (begin + SHOWN < content.size))
+    piece, before, after = (content[begin:begin + SHOWN], '..' * (begin > 0),
+                            '..' * (begin + SHOWN < len(content)))
     if is_text:
         return f'{before}"{spelled_bytes(piece)}"{after}'
     gap = ' ' if begin < at < begin + len(piece) else ''

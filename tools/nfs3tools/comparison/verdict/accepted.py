@@ -48,44 +48,30 @@ class Accepted:
         for number, entry in enumerate(entries):
             self.by_path[key_of(entry.get('path', ANY))].append(number)
 
-    def of(self, finding: Finding, mask: Mask) -> list[int]:
-        """Returns the numbers of the entries that fit the message of a finding."""
-        some = [*self.by_path.get((finding.path,), ()), *self.by_path.get(ANY, ())]
-        return [number for number in some if fits(self.entries[number], finding, mask)]
-
     def split(self, compared: Compared) -> tuple[Compared, Split]:
         """Returns what is left of a comparison, and what was accepted of it. A finding of which
         some fields are accepted is in both, with its own fields in each."""
-        left, taken, uses = list[Finding](), list[Finding](), Uses(self.entries)
+        left, taken, uses = list[Finding](), list[Finding](), Counter[int]()
+
+        def take(numbers: Iterable[int]) -> bool:
+            """Uses the first entry that accepts more, and returns whether there is one."""
+            found = next((number for number in numbers
+                          if uses[number] < self.entries[number].get('times', 1)), None)
+            uses.update([] if found is None else [found])
+            return found is not None
         for finding in compared.findings:
-            numbers = self.of(finding, compared.mask)
+            near = [*self.by_path.get((finding.path,), ()), *self.by_path.get(ANY, ())]
+            numbers = [one for one in near if fits(self.entries[one], finding, compared.mask)]
             if not finding.differences:
-                (taken if uses.take(numbers) else left).append(finding)
+                (taken if take(numbers) else left).append(finding)
                 continue
-            some = [uses.take(entries_with(self.entries, numbers, one))
-                    for one in finding.differences]
+            some = [take(entries_with(self.entries, numbers, one)) for one in finding.differences]
             taken += with_fields(finding, some)
             left += with_fields(finding, (not is_taken for is_taken in some))
-        gone = [entry for number, entry in enumerate(self.entries) if not uses.numbers[number]]
-        rest = replace(compared, findings=left, lonely=lonely_without(compared, taken))
-        return rest, Split(taken, gone)
-
-
-class Uses:
-    """How often each entry has accepted something."""
-
-    def __init__(self, entries: Sequence[AcceptedEntry]) -> None:
-        self.entries, self.numbers = entries, Counter[int]()
-
-    def take(self, numbers: Iterable[int]) -> bool:
-        """Uses the first of some entries that accepts more, and returns whether there is one."""
-        some = (number for number in numbers
-                if self.numbers[number] < self.entries[number].get('times', 1))
-        found = next(some, None)
-        if found is None:
-            return False
-        self.numbers[found] += 1
-        return True
+        gone = [entry for number, entry in enumerate(self.entries) if not uses[number]]
+        sides = [one.first is None for one in taken if one.kind == 'only']
+        lonely = compared.lonely[0] - sides.count(False), compared.lonely[1] - sides.count(True)
+        return replace(compared, findings=left, lonely=lonely), Split(taken, gone)
 
 
 def key_of(pattern: str | None) -> object:
@@ -99,12 +85,6 @@ def with_fields(finding: Finding, wanted: Iterable[bool]) -> list[Finding]:
     """Returns a finding with some of its fields, or nothing if there are none."""
     its = tuple(compress(finding.differences, wanted))
     return [replace(finding, differences=its)] if its else []
-
-
-def lonely_without(compared: Compared, taken: Iterable[Finding]) -> tuple[int, int]:
-    """Returns how many calls each run has alone, without some."""
-    sides = [one.first is None for one in taken if one.kind == 'only']
-    return compared.lonely[0] - sides.count(False), compared.lonely[1] - sides.count(True)
 
 
 def fits(entry: AcceptedEntry, finding: Finding, mask: Mask) -> bool:
@@ -126,19 +106,16 @@ def fits(entry: AcceptedEntry, finding: Finding, mask: Mask) -> bool:
 
 def members_besides_fields(finding: Finding, mask: Mask) -> dict[str, object]:
     """Returns what an entry says of a finding besides its fields: of a call of one run alone which
-    run, what it asks and the statuses of its replies; of replies the statuses of both runs."""
+    run, what it asks, but for values that are its run's own, and the statuses of its replies; of
+    replies the statuses of both runs."""
     if finding.kind == 'only':
-        return {'only': RUNS[finding.first is None], 'asks': asks_of(finding, mask),
+        asks = [f'{one.label}={one.value}' for one in finding.arguments
+                if not is_of_run(one.name, True, mask)]
+        return {'only': finding.run, 'asks': asks,
                 'status': finding.statuses[finding.first is None]}
     if finding.kind == 'replies':
         return {'kind': 'replies', **dict(zip(RUNS, finding.statuses))}
     return {'kind': finding.kind} if finding.kind in PLAIN_KINDS else {}
-
-
-def asks_of(finding: Finding, mask: Mask) -> list[str]:
-    """Returns the arguments of a call of one run alone, but for values that are its run's own."""
-    return [f'{one.label}={one.value}' for one in finding.arguments
-            if not is_of_run(one.name, True, mask)]
 
 
 def kind_of_entry(entry: AcceptedEntry) -> str:
@@ -156,8 +133,7 @@ def entries_with(entries: Sequence[AcceptedEntry], numbers: Iterable[int],
 
 
 def values_by_run(difference: Difference) -> dict[str, str | None]:
-    """Returns both values as an entry has them: of long ones their digests, of file handles the
-    paths."""
+    """Returns both values as an entry has them: digests of long ones, paths of file handles."""
     both = difference.objects or (difference.first, difference.second)
     return {side: None if value is None else str(value) for side, value in zip(RUNS, both)}
 
@@ -192,7 +168,6 @@ def refusal(path: str, why: str) -> argparse.ArgumentTypeError:
 
 
 def fault_of_entry(entry: object) -> str | None:
-    """Returns what is wrong with an entry."""
     if not isinstance(entry, dict):
         return 'it is no object'
     procedure, which = entry.get('procedure'), {'field', 'only', 'kind'} & entry.keys()
@@ -231,8 +206,7 @@ def is_text(value: object) -> bool:
 
 
 def file_of(findings: Iterable[Finding], mask: Mask) -> bytes:
-    """Returns a file that accepts findings, those that can be. Equal entries are one, which says
-    how often."""
+    """Returns a file that accepts findings. Equal entries are one, which says how often."""
     lines = Counter(json.dumps(entry) for finding in findings
                     for entry in entries_of(finding, mask))
     entries = ','.join('\n  ' + (line if number == 1 else f'{line[:-1]}, "times": {number}}}')

@@ -57,7 +57,7 @@ class Cover:
     @property
     def is_refused(self) -> bool:
         """Whether a part of it is not valid, or cannot be read."""
-        return bool(self.refused or self.taken.damage)
+        return bool(self.faults())
 
     @property
     def missing(self) -> int:
@@ -91,15 +91,12 @@ class Cover:
         """Whether it has calls whose bodies are kept as they are."""
         return any(one.called.raw or one.called.unchecked for one in self.covered)
 
-    def faults(self) -> Iterator[str]:
+    def faults(self) -> list[str]:
         """What of it is not valid, or cannot be read."""
-        yield from self.refused.values()
-        if self.taken.damage:
-            yield self.taken.damage
+        return [*self.refused.values(), *filter(None, [self.taken.damage])]
 
     def notes(self) -> Iterator[str]:
-        """What `Taken` does not have among its notes: the connections that are refused or not
-        checked, and why."""
+        """What `Taken` does not note: connections that are refused or not checked, and why."""
         yield from self.refused.values()
         for row in self.rows():
             if row.word in ('not checked', 'in part') and row.connection is not None:
@@ -120,7 +117,7 @@ class Cover:
                     for word in words if number[word])
         others = [one.reason for one in self.covered if not is_connection(one)]
         yield from (f'{reason} ({name} run)'
-                    for reason in [*others, *([self.taken.damage] if self.taken.damage else [])])
+                    for reason in [*others, *filter(None, [self.taken.damage])])
 
 
 def is_connection(covered: Covered) -> bool:
@@ -162,8 +159,7 @@ def checked_size(answer: Answer) -> Size:
 
 
 def fault_with_frame(taken: Taken, connection: TakenConnection, answer: Answer) -> str:
-    """Returns the fault of a connection that was checked alone, with its place in the run and its
-    frame."""
+    """Returns the fault of a connection that was checked alone, at its place, with its frame."""
     fault = parse_fault(answer.error)
     if fault is None or isinstance(fault.place, FilePlace):
         raise Died(f'nfs3canon check prints {answer.error.strip()!r}')

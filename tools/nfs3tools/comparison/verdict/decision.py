@@ -1,66 +1,81 @@
-"""What is said of two runs, whole ones or a part of each."""
+"""What is said of two runs, whole ones or a part of each, for all forms of output."""
 from __future__ import annotations
 
 from collections.abc import Sequence
-from dataclasses import replace
-from typing import NamedTuple
+from dataclasses import dataclass, replace
 
 from ...exchanges.listing import Message
+from ...recordings.coverage import Allowed
+from ...recordings.selection import count
 from ...recordings.taken import Taken
 from ...shared.places import Place
 from ...shared.printed import escaped
+from ..values.classes import Mask
 from . import summary
-from .accepted import Accepted
+from .accepted import Split
 from .cover import Cover, Size
 from .findings import Compared, Run
 from .orders import Choices, Order, Orders, Outcome
-from .report import IN_ANY_ORDER, Report
 from .trial import Trial
 
+IN_ANY_ORDER = ' in any order'
 
-class Judged(NamedTuple):
-    """What is said of two runs: the program's verdict, what was found, and whether the order
-    counts."""
+
+@dataclass(frozen=True)
+class Report:
+    """What is said of two runs: the program's verdict, and what was found as it was asked for; of
+    both their names and how much they have; and how much of both is compared, unless they are
+    parts."""
     verdict: str
     found: Outcome
-    order: Order
+    choices: Choices
+    names: Sequence[str]
+    sizes: Sequence[Size]
+    covers: Sequence[Cover] = ()
 
     @property
-    def is_turned(self) -> bool:
-        """Whether the runs are the same in another order, and in no other way."""
-        return self.found.same_under is not None
+    def mask(self) -> Mask:
+        return self.choices.masks[0]
 
     @property
-    def number_accepted(self) -> int:
-        return len(self.found.accepted.findings) if self.found.accepted else 0
+    def same_under(self) -> Mask | None:
+        """The mask under which the runs are the same in another order, and in no other way."""
+        return self.found.same_under
+
+    @property
+    def accepted(self) -> Split | None:
+        return self.found.accepted
 
     @property
     def is_same(self) -> bool:
         """Whether the runs are the same, if the order counts as was asked for."""
-        return self.verdict == 'same' or self.is_turned and self.order == 'any'
+        return self.verdict == 'same' or (
+            self.same_under is not None and self.choices.order == 'any')
 
-    def report(self, choices: Choices, names: Sequence[str], sizes: Sequence[Size],
-               covers: Sequence[Cover] = ()) -> Report:
-        both = (covers[0], covers[1]) if covers else None
-        return Report(self.verdict, choices.masks[0], (names[0], names[1]), (sizes[0], sizes[1]),
-                      self.found.same_under, summary.word_of(self.found) if self.is_turned else '',
-                      both, self.found.accepted)
+    @property
+    def is_in_part(self) -> bool:
+        """Whether something of a run is not compared."""
+        return not all(cover.is_good(Allowed()) for cover in self.covers)
 
-    def line(self, choices: Choices, size: Size, losses: str = '') -> str:
+    def word(self) -> str:
+        verdict = (self.verdict.partition(' at ')[0].removesuffix(IN_ANY_ORDER)
+                   if self.same_under is None else summary.word_of(self.found))
+        return f'{verdict} in part' if verdict.startswith('same') and self.is_in_part else verdict
+
+    def line(self, losses: str = '') -> str:
         """What is printed of the verdict: how much was compared, and in which part."""
-        if self.is_turned:
-            return verdict_line(summary.with_explained(self.found),
-                                summary.of_same(self.found, choices.masks[0]), losses,
-                                self.number_accepted)
-        return verdict_line(self.verdict, size, losses, self.number_accepted)
-
-
-def verdict_line(verdict: str, compared: Size | str, losses: str, accepted: int) -> str:
-    if verdict.startswith('differ'):
-        return f'{verdict}\ncompared in part: {losses}' if losses else verdict
-    but = f' but for {accepted:,} accepted' if accepted else ''
-    return (f'{verdict}{" in part" if losses else ""}{but}: '
-            f'{compared}{f", {losses}" if losses else ""}')
+        verdict, compared = self.verdict, str(self.sizes[0])
+        if self.same_under is not None:
+            explained = self.found.compared.explained
+            verdict = summary.word_of(self.found) + (
+                f', {count(explained, "answer")} explained by order' if explained else '')
+            compared = summary.of_same(self.found, self.mask)
+        elif verdict.startswith('differ'):
+            return f'{verdict}\ncompared in part: {losses}' if losses else verdict
+        number = len(self.accepted.findings) if self.accepted else 0
+        but = f' but for {number:,} accepted' if number else ''
+        return (f'{verdict}{" in part" if losses else ""}{but}: '
+                f'{compared}{f", {losses}" if losses else ""}')
 
 
 def run_of(trial: Trial, taken: Taken, capture: str, name: str) -> Run:
@@ -70,27 +85,27 @@ def run_of(trial: Trial, taken: Taken, capture: str, name: str) -> Run:
     return Run(escaped(name), trial.listing(capture), frames)
 
 
-def same_of(sizes: Sequence[Size], order: Order, accepted: Accepted | None = None) -> Judged:
+def same_of(names: Sequence[str], sizes: Sequence[Size], choices: Choices,
+            covers: Sequence[Cover] = ()) -> Report:
     """Returns what is said of two runs of these sizes that the program calls the same."""
     first, second = (size.calls for size in sizes)
     compared = Compared(exchanges=first, calls=(first, second))
-    split = accepted.split(compared)[1] if accepted else None
-    return Judged('same', Outcome(compared, accepted=split), order)
+    split = choices.accepted.split(compared)[1] if choices.accepted else None
+    return Report('same', Outcome(compared, accepted=split), choices, names, sizes, covers)
 
 
-def judged_runs(trial: Trial, runs: Sequence[Run], sizes: Sequence[Size],
-                choices: Choices) -> Judged:
+def judged_runs(trial: Trial, runs: Sequence[Run], names: Sequence[str], sizes: Sequence[Size],
+                choices: Choices, covers: Sequence[Cover] = ()) -> Report:
     """Compares both runs of a trial. They are brought together only if they differ, or are to be
     shown side by side."""
     verdict = trial.placed(trial.same(trial.captures, choices.masks[0]))
     if verdict == 'same' and choices.around is None:
-        return same_of(sizes, choices.order, choices.accepted)
+        return same_of(names, sizes, choices, covers)
     order: Order = 'strict' if verdict == 'same' else choices.order
-    first, second = runs
-    found = Orders(trial, first, second, replace(choices, order=order)).found()
-    if found.same_under is not None:
-        return Judged(verdict, found, choices.order)
-    return Judged(with_position(verdict, found, order == 'any'), found, choices.order)
+    found = Orders(trial, runs, replace(choices, order=order)).found()
+    if found.same_under is None:
+        verdict = with_position(verdict, found, order == 'any')
+    return Report(verdict, found, choices, names, sizes, covers)
 
 
 def with_position(verdict: str, found: Outcome, is_any: bool) -> str:

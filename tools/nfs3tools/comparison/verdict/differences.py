@@ -1,21 +1,29 @@
-"""How two matched messages differ, item by item."""
+"""How two matched messages differ, item by item, and what a call of one run alone asks for."""
 from __future__ import annotations
 
 from collections import Counter
 from collections.abc import Iterable, Iterator, Sequence
 from dataclasses import dataclass
+from typing import NamedTuple
 
-from ...exchanges.listing import Item, Message
+from ...exchanges.listing import Message
 from ...exchanges.stored import Value, spelled
 from ...exchanges.whose import Labels
 from ..values.bindings import RENAMED, Bindings
 from ..values.classes import CLASSES, Mask, ValueClass, Way
-from ..values.long_values import Parting, ValueBytes, is_long, parting_between
+from ..values.long_values import Parting, content_of, is_long, parting_between
 
 # After one of these the rest of a reply has another layout.
 DECIDING = ('reply_stat', 'reject_stat', 'accept_stat', 'status')
 # Calls and replies whose data is of a file, from the offset of the call on.
 WRITE, READ = 'NFSPROC3_WRITE', 'NFSPROC3_READ'
+LAST_OF_HEAD = 'verf_body'  # RFC 5531, section 9
+# Words that say whether a value follows, which is there or not.
+CHOICES = frozenset(('set_mode', 'set_uid', 'set_gid', 'set_size', 'check'))
+# set_atime and set_mtime: only the server's time has no value.
+TIMES, SERVER_TIME = frozenset(('set_atime', 'set_mtime')), '1'
+# What a call is about: its path names it.
+ABOUT = ('fh', 'name')
 
 
 @dataclass(frozen=True)
@@ -42,8 +50,7 @@ class Difference:
 
     @property
     def is_equal(self) -> bool:
-        """Whether both runs have one value here, which means others elsewhere: the remark says
-        for which."""
+        """Whether both runs have one value here, which the remark says is another elsewhere."""
         return self.first == self.second and self.apart is None
 
 
@@ -51,15 +58,45 @@ class RunMessage:
     """A message of one run, with the call to which it belongs if it is a reply."""
 
     def __init__(self, message: Message, call: Message | None) -> None:
-        self.items, self.is_call, self.labels = message.items, message.is_call, Labels(message)
+        self.message, self.labels = message, Labels(message)
         self.asking = message if message.is_call else call
 
     def offset(self) -> int | None:
         """Returns where in the file the data of the message is, if that is known."""
-        if self.asking is None or self.asking.procedure != (WRITE if self.is_call else READ):
+        if self.asking is None or self.asking.procedure != (
+                WRITE if self.message.is_call else READ):
             return None
         offset = self.asking.value_of('offset')
         return None if offset is None else int(offset)
+
+    def items(self, some: range) -> list[ComparedItem]:
+        return [ComparedItem(self, at) for at in some]
+
+
+class ComparedItem(NamedTuple):
+    """An item of a message, by its index."""
+    side: RunMessage
+    at: int
+
+    @property
+    def name(self) -> str:
+        return self.side.message.items[self.at].name
+
+    @property
+    def value(self) -> Value:
+        return self.side.message.items[self.at].value
+
+    @property
+    def field(self) -> str:
+        return self.side.labels.field(self.at)
+
+    def is_of(self, owner: ValueClass) -> bool:
+        """Returns whether an item with a name of a class is of the class. The parts that it is in
+        may decide, or its value."""
+        labels = self.side.labels
+        if owner.is_of_changes:
+            return labels.is_of_a_change(self.at) or labels.is_of_a_directory(self.at)
+        return owner.has_value(str(self.value))
 
 
 class Comparison:
@@ -70,78 +107,63 @@ class Comparison:
         self.mask, self.bindings = mask, Bindings()
         self.owners: dict[tuple[str, bool], ValueClass | None] = {}
 
-    def class_of(self, name: str, is_call: bool) -> ValueClass | None:
-        """Returns the masked class to which items of a name may belong."""
-        key = name, is_call
+    def class_of(self, *items: ComparedItem) -> ValueClass | None:
+        """Returns the masked class to which all these items of one name belong."""
+        key = name, is_call = items[0].name, items[0].side.message.is_call
         if key not in self.owners:
             self.owners[key] = next((one for one in CLASSES if one.name in self.mask
                                      and one.has(name, is_call)), None)
-        return self.owners[key]
+        owner = self.owners[key]
+        return owner if owner and all(item.is_of(owner) for item in items) else None
 
-    def owner_of(self, side: RunMessage, at: int) -> ValueClass | None:
-        """Returns the masked class of an item."""
-        owner = self.class_of(side.items[at].name, side.is_call)
-        return owner if owner is not None and is_of(owner, side, at) else None
-
-    def is_length_of_a_machine(self, item: Item) -> bool:
-        """A machine's name has a length, which is left out with it."""
-        return item.name == 'cred_length' and 'machines' in self.mask
-
-    def of_values(self, here: RunMessage, at: int, there: RunMessage, to: int) -> Difference | None:
+    def of_values(self, one: ComparedItem, other: ComparedItem) -> Difference | None:
         """Returns how two items of one name differ, and binds renamed values."""
-        (name, first), (_, second) = here.items[at], there.items[to]
-        owner = self.class_of(name, here.is_call)
-        if owner is not None and not (is_of(owner, here, at) and is_of(owner, there, to)):
-            owner = None
-        if first == second == '':
+        name, owner = one.name, self.class_of(one, other)
+        if one.value == other.value == '':
             return None
         if owner is not None and self.mask[owner.name] is Way.ZERO:
-            return self.of_lengths(here, at, there, to) if owner.is_raw else None
+            # (raw bytes that are masked differ only in their number)
+            if not owner.is_raw or len(content_of(one.value)) == len(content_of(other.value)):
+                return None
+            return difference_of(one, other, 'only the lengths count')
         renaming = owner.name if owner is not None else RENAMED.get(name)
         if renaming is not None:
-            return self.of_renamed(renaming, owner, here, at, there, to)
+            return self.of_renamed(renaming, owner, one, other)
         if name == 'rest':
-            return self.of_raw(here, at, there, to)
-        return (None if first == second or self.is_length_of_a_machine(here.items[at])
-                else difference_of(here, at, there, to))
+            return self.of_raw(one, other)
+        # (a machine's name has a length, which is left out with it)
+        is_masked = name == 'cred_length' and 'machines' in self.mask
+        return None if is_masked or one.value == other.value else difference_of(one, other)
 
-    def of_lengths(self, here: RunMessage, at: int, there: RunMessage,
-                   to: int) -> Difference | None:
-        """Raw bytes that are masked differ only in their number."""
-        sizes = [ValueBytes(side.items[place].value).size
-                 for side, place in ((here, at), (there, to))]
-        return (None if sizes[0] == sizes[1]
-                else difference_of(here, at, there, to, remark='only the lengths count'))
-
-    def of_raw(self, here: RunMessage, at: int, there: RunMessage, to: int) -> Difference | None:
+    def of_raw(self, one: ComparedItem, other: ComparedItem) -> Difference | None:
         """Handles in raw bytes are those of the other run where they are known."""
-        first, second = spelled(here.items[at].value), spelled(there.items[to].value)
+        first, second = spelled(one.value), spelled(other.value)
         renamed = self.bindings.renamed(first)
         if renamed == second:
             return None
         remark = ('' if renamed == first
                   else 'the file handles of the first are written as those of the second')
-        return difference_of(here, at, there, to, remark=remark, first=renamed)
+        return difference_of(one, other, remark, first=renamed)
 
-    def of_renamed(self, name: str, owner: ValueClass | None, here: RunMessage, at: int,
-                   there: RunMessage, to: int) -> Difference | None:
-        first, second = str(here.items[at].value), str(there.items[to].value)
+    def of_renamed(self, name: str, owner: ValueClass | None, one: ComparedItem,
+                   other: ComparedItem) -> Difference | None:
+        first, second = str(one.value), str(other.value)
         zeros = [not value.strip('0') for value in (first, second)]
         if any(zeros) and (owner is not None and owner.keeps_zero or '' in (first, second)):
             # A zero cookie, a verifier of zeros and the empty handle mean themselves alone.
-            return None if first == second else difference_of(here, at, there, to, is_renamed=True)
+            return None if first == second else difference_of(one, other, is_renamed=True)
         is_first = (name, first) in self.bindings.forth
         why = self.bindings.bind(name, first, second)
-        return difference_of(here, at, there, to, why, alike=f'{name}, {is_first}',
+        return difference_of(one, other, why, alike=f'{name}, {is_first}',
                              is_renamed=True) if why else None
 
-    def of_items(self, here: RunMessage, first: range, there: RunMessage,
-                 second: range) -> list[Difference]:
+    def of_items(self, ours: Sequence[ComparedItem],
+                 theirs: Sequence[ComparedItem]) -> list[Difference]:
         """Returns how two runs of items differ. An optional part that one of them alone has is one
         difference: the item before it, which says whether it follows."""
         found: list[Difference] = []
-        for at, to in in_both(here, first, there, second):
-            difference = self.of_values(here, at, there, to)
+        for one, other in in_both(ours, theirs):
+            difference = self.of_values(one, other)
             if difference:
                 found.append(difference)
                 if difference.name in DECIDING:
@@ -155,19 +177,19 @@ class Comparison:
         turn."""
         here, there = RunMessage(first, call), RunMessage(second, other)
         if first.is_call or first.procedure not in ('NFSPROC3_READDIR', 'NFSPROC3_READDIRPLUS'):
-            return self.of_items(here, range(len(first.items)), there, range(len(second.items)))
-        head, entries, tail = ranges_of_entries(first.items)
-        other_head, other_entries, other_tail = ranges_of_entries(second.items)
-        found = self.of_items(here, head, there, other_head)
+            return self.of_items(here.items(range(len(first.items))),
+                                 there.items(range(len(second.items))))
+        head, entries, tail = first.entries()
+        other_head, other_entries, other_tail = second.entries()
+        found = self.of_items(here.items(head), there.items(other_head))
         if any(difference.name in DECIDING for difference in found):
             return found
         return [*found, *self.of_entries(here, entries, there, other_entries),
-                *self.of_items(here, tail, there, other_tail)]
+                *self.of_items(here.items(tail), there.items(other_tail))]
 
     def of_entries(self, here: RunMessage, first: list[range], there: RunMessage,
                    second: list[range]) -> Iterator[Difference]:
-        """Yields how the entries of two directories differ, and whether they come in another
-        order."""
+        """Yields how the entries of two directories differ, also in their order."""
         ours = by_name((self.key_of_entry(here, entry), entry) for entry in first)
         theirs = by_name((self.key_of_entry(there, entry), entry) for entry in second)
         yield from (of_entry(entry_name(here, entry), None) for key, entry in ours.items()
@@ -176,7 +198,7 @@ class Comparison:
                     if key not in ours)
         for key, entry in ours.items():
             if key in theirs:
-                yield from self.of_items(here, entry, there, theirs[key])
+                yield from self.of_items(here.items(entry), there.items(theirs[key]))
         common = [key for key in ours if key in theirs]
         others = [key for key in theirs if key in ours]
         turns = next(((ours[key], theirs[other]) for key, other in zip(common, others)
@@ -187,32 +209,24 @@ class Comparison:
 
     def key_of_entry(self, side: RunMessage, entry: range) -> str:
         """Returns the name of an entry, in quotes, or the class of its name if that is masked."""
-        at = at_name(side, entry)
-        owner = None if at is None else self.owner_of(side, at)
-        return entry_name(side, entry) if owner is None else owner.name
+        item = next((one for one in side.items(entry) if one.name == 'name'), None)
+        owner = item and self.class_of(item)
+        return owner.name if owner else entry_name(side, entry)
 
 
-def in_both(here: RunMessage, first: range, there: RunMessage,
-            second: range) -> Iterator[tuple[int, int]]:
+def in_both(ours: Sequence[ComparedItem], theirs: Sequence[ComparedItem]
+            ) -> Iterator[tuple[ComparedItem, ComparedItem]]:
     """Iterates over the items that are at the same place of the layouts in both messages."""
-    ours, theirs = iter(first), iter(second)
-    at, to = next(ours, None), next(theirs, None)
-    while at is not None and to is not None:
-        if here.labels.field(at) == there.labels.field(to):
-            yield at, to
-            at, to = next(ours, None), next(theirs, None)
-        elif here.labels.field(at) in there.labels.fields_from(to):
-            to = next(theirs, None)
+    own, its = iter(ours), iter(theirs)
+    one, other = next(own, None), next(its, None)
+    while one is not None and other is not None:
+        if one.field == other.field:
+            yield one, other
+            one, other = next(own, None), next(its, None)
+        elif one.field in other.side.labels.fields_from(other.at):
+            other = next(its, None)
         else:
-            at = next(ours, None)
-
-
-def is_of(owner: ValueClass, side: RunMessage, at: int) -> bool:
-    """Returns whether an item with a name of a class is of the class. The parts that it is in may
-    decide, or its value."""
-    if owner.is_of_changes:
-        return side.labels.is_of_a_change(at) or side.labels.is_of_a_directory(at)
-    return owner.has_value(str(side.items[at].value))
+            one = next(own, None)
 
 
 # Entries by their keys, and by how many of a key are before. A broken directory may have several of
@@ -229,41 +243,24 @@ def by_name(entries: Iterable[tuple[str, range]]) -> Entries:
     return out
 
 
-def at_name(side: RunMessage, entry: range) -> int | None:
-    return next((at for at in entry if side.items[at].name == 'name'), None)
-
-
 def entry_name(side: RunMessage, entry: range) -> str:
-    at = at_name(side, entry)
-    return '' if at is None else str(side.items[at].value)
-
-
-def ranges_of_entries(items: Sequence[Item]) -> tuple[range, list[range], range]:
-    """Returns the items of a READDIR or READDIRPLUS reply before its entries, those of each entry,
-    and those after them."""
-    begins = [at for at, item in enumerate(items) if item.name == 'entry']
-    if not begins:
-        return range(len(items)), [], range(0)
-    return range(begins[0]), [range(at, end)
-                              for at, end in zip(begins, begins[1:])], range(begins[-1], len(items))
+    return side.message.value_of('name', entry) or ''
 
 
 # --- What is said of a difference ---
 
-def difference_of(here: RunMessage, at: int, there: RunMessage, to: int, remark: str = '', *,
+def difference_of(one: ComparedItem, other: ComparedItem, remark: str = '', *,
                   first: str | None = None, alike: str = '',
                   is_renamed: bool = False) -> Difference:
-    """Two items of one name whose values differ. `first` is what is compared with the second value,
-    if it is not the first."""
-    one, other = here.items[at], there.items[to]
-    parting = None
+    """Two items that differ. `first` is what is compared with the second, if it is another."""
+    here, there, parting = one.side, other.side, None
     if not is_renamed and (is_long(one.value) or is_long(other.value)
                            or first not in (None, one.value)):
         offset = here.offset() if one.name == 'data' and here.offset() == there.offset() else None
         parting = parting_between(one.value if first is None else first, other.value, offset)
-    return Difference(one.name, one.value, other.value, remark, here.labels.label(at),
-                      here.labels.field(at),
-                      (here.labels.meaning(at), there.labels.meaning(to)), parting, alike)
+    return Difference(one.name, one.value, other.value, remark, here.labels.label(one.at),
+                      one.field, (here.labels.meaning(one.at), there.labels.meaning(other.at)),
+                      parting, alike)
 
 
 def of_entry(first: str | None, second: str | None, remark: str = '') -> Difference:
@@ -271,3 +268,33 @@ def of_entry(first: str | None, second: str | None, remark: str = '') -> Differe
     name = 'entry' if remark else 'name'
     field = 'entry' if remark else 'entry.name'
     return Difference(name, first, second, remark, field, field)
+
+
+# --- Calls of one run alone ---
+
+class Argument(NamedTuple):
+    """An argument: its name, the name with whose it is, its value, the value's name if it has one,
+    and whether it is a part of the call's path."""
+    name: str
+    label: str
+    value: Value
+    meaning: str
+    is_of_path: bool
+
+
+def arguments_of(call: Message, mask: Mask) -> Iterator[Argument]:
+    """Returns the arguments of a call. Values that are masked as zero are left out, and words that
+    only say what follows."""
+    labels, about = Labels(call), set(ABOUT)
+    begin = next((at for at, item in enumerate(call.items) if item.name == LAST_OF_HEAD), -1) + 1
+    for at, (name, value) in enumerate(call.items[begin:], begin):
+        if name in CHOICES or name in TIMES and value != SERVER_TIME or is_zero(name, value, mask):
+            continue
+        yield Argument(name, labels.label(at), value, labels.meaning(at), name in about)
+        about.discard(name)
+
+
+def is_zero(name: str, value: Value, mask: Mask) -> bool:
+    """Returns whether an item of a call is masked as zero."""
+    return any(mask.get(one.name) is Way.ZERO and not one.has_names and one.has(name, True)
+               and one.has_value(str(value)) for one in CLASSES)

@@ -6,7 +6,6 @@ from array import array
 from bisect import bisect_left
 from collections.abc import Callable, Iterable, Iterator, Sequence
 from dataclasses import dataclass, field
-from functools import cached_property
 from itertools import accumulate, groupby
 from typing import NamedTuple
 
@@ -16,8 +15,7 @@ from ..exchanges.pairing import NOBODY, Pairing
 
 
 class Around(NamedTuple):
-    """How much is shown: how many pairs before and after an exchange that differs, and how many of
-    those that differ."""
+    """How many pairs are shown before and after what differs, and how many that differ."""
     pairs: int
     most: int
 
@@ -71,23 +69,12 @@ class Shown:
         exchanges of the first run that are reported."""
         self.pairing, self.here, self.there = pairing, pairing.here, pairing.there
         self.told = set(told)
+        # By connections of the second run: after which exchange of the first run each of its
+        # exchanges comes
+        self.followed = dict[int, 'array[int]']()
         self.told_of_first = sorted({*(at for at, _ in self.told if at != NOBODY), *besides})
         chosen = sorted(self.told, key=self.key_of)[:around.most]
         self.pairs = {*chosen, *(pair for one in chosen for pair in self.near(one, around.pairs))}
-
-    @cached_property
-    def partners(self) -> 'array[int]':
-        """For each exchange of the second run that of the first, or NOBODY."""
-        out = array('i', [NOBODY]) * len(self.there)
-        for at, to in self.pairing.pairs():
-            out[to] = at
-        return out
-
-    @cached_property
-    def followed(self) -> dict[int, 'array[int]']:
-        """By connections of the second run: after which exchange of the first run each of its
-        exchanges comes."""
-        return {}
 
     def comes_after(self, to: int) -> int:
         """Returns which exchange of the first run is before one of the second, in connections that
@@ -97,16 +84,15 @@ class Shown:
         own, home = (self.there.exchanges_of(place),
                      self.here.exchanges_of(self.place_of((NOBODY, to))))
         if place not in self.followed:
-            paired = [at in home for at in self.partners[own.start:own.stop]]
+            paired = [at in home for at in self.pairing.owners[own.start:own.stop]]
             before = [home.start - 1, *sorted(filter(home.__contains__,
-                                                     self.partners[own.start:own.stop]))]
+                                                     self.pairing.owners[own.start:own.stop]))]
             self.followed[place] = array('i', (before[number]
                                                for number in accumulate(paired, initial=0)))
         return self.followed[place][to - own.start]
 
     def place_of(self, pair: Pair) -> int:
-        """Returns the place of the connection of the first run where a pair is shown, or one behind
-        all."""
+        """Returns the place of the first run's connection where a pair is shown, or one behind."""
         at, to = pair
         if at != NOBODY:
             return self.here.connection_of(at)
@@ -127,15 +113,14 @@ class Shown:
         at, to = pair
         outlines, middle, partners = (
             (self.here, at, self.pairing.partners) if at != NOBODY
-            else (self.there, to, self.partners))
+            else (self.there, to, self.pairing.owners))
         own = outlines.exchanges_of(outlines.connection_of(middle))
         some = range(max(own.start, middle - number), min(own.stop, middle + number + 1))
         return ((one, partners[one]) if at != NOBODY else (partners[one], one) for one in some
                 if partners[one] != NOBODY)
 
     def beside(self, row: Callable[[Pair, bool], ExcerptRow]) -> Beside:
-        """Returns what is shown. `row` returns a pair taken apart, and is given whether it is
-        reported."""
+        """Returns what is shown. `row` takes a pair apart, given whether it is reported."""
         groups = groupby(sorted(self.pairs, key=self.key_of), self.connections_of)
         connections = {both: list(self.rows(both[0], list(pairs), row)) for both, pairs in groups}
         others = [place for place in range(len(self.pairing.homes))

@@ -35,8 +35,7 @@ class Ignored(NamedTuple):
 
 
 def ignored_of(text: str) -> list[Ignored]:
-    """Reads the word of `--ignore`. Raises `ArgumentTypeError` if no procedure or field has a
-    name."""
+    """Reads the word of `--ignore`. Raises `ArgumentTypeError` if a name is of none."""
     return [one_of(word) for word in WORD.findall(text)]
 
 
@@ -55,8 +54,7 @@ def one_of(word: str) -> Ignored:
 
 def without_ignored(compared: Compared,
                     ignored: Sequence[Ignored]) -> tuple[Compared, Counter[tuple[str, str]]]:
-    """Returns what is left of a comparison without these fields, and how often each field of each
-    procedure was left out."""
+    """Returns a comparison without these fields, and how often each was left out."""
     left_out, findings = Counter[tuple[str, str]](), list[Finding]()
     for finding in compared.findings:
         procedure = finding.message.procedure

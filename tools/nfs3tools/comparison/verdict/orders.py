@@ -7,7 +7,6 @@ from dataclasses import dataclass, replace
 from typing import Literal, Optional
 
 from ..exchanges.any_order import Explanation, TwoRuns
-from ..exchanges.matching import Pair
 from ..exchanges.pairing import ASKING, Pairing
 from ..exchanges.unequal import ListedInPlace, TwoListings
 from ..values.classes import CLASSES, Mask, Way
@@ -60,15 +59,15 @@ class Outcome:
 
 
 class NothingToCompare(Exception):
-    """A run has no call that can be compared, or none that is not left out; the text is the message
-    for the user."""
+    """A run has no call that can be compared, or none that is not left out, or no call of both is a
+    mark; the text is the message for the user."""
 
 
 class Orders:
     """Two runs whose exchanges are brought together, and their captures in one order."""
 
-    def __init__(self, trial: Trial, first: Run, second: Run, choices: Choices) -> None:
-        self.trial, self.runs, self.choices = trial, (first, second), choices
+    def __init__(self, trial: Trial, runs: Sequence[Run], choices: Choices) -> None:
+        self.trial, self.runs, self.choices = trial, runs, choices
         is_strict, (mask, *more) = choices.order == 'strict', choices.masks
         self.leaves_out = frozenset[str]() if is_strict else choices.leaves_out
         # (to bring exchanges together it is all one whether a class is numbered or zero)
@@ -81,11 +80,10 @@ class Orders:
         self.is_in_place = self.pairing.is_in_place
         self.captures = (self.trial.captures if self.is_in_place
                          else self.trial.in_one_order(self.pairing))
-        self.explaining = Explaining(*self.runs, self.pairing, self.leaves_out, explanation)
+        self.explaining = Explaining(self.runs, self.pairing, self.leaves_out, explanation)
 
     def found(self) -> Outcome:
-        """Finds what differs, or that nothing does in another order, and what of it was
-        accepted."""
+        """Finds what differs, or that another order is the same, and what was accepted."""
         found = self.found_of_all()
         found = replace(found, whole=found.compared if found.same_under is None else None)
         if self.choices.accepted is None:
@@ -99,8 +97,10 @@ class Orders:
         """Finds whether the runs are the same without the exchanges of all findings, which were
         accepted. That is the word of the program, as without them."""
         mask = found.compared.mask
-        rest = self.pairing.without(pairs_of(self.pairing, accepted))
-        if not len(rest.order_of_first()):
+        some = self.pairing.here.exchanges_of_messages(
+            finding.first for finding in accepted if finding.first and finding.second)
+        rest = self.pairing.without((at, self.pairing.partners[at]) for at in {*some})
+        if not len(rest.matched(0)):
             return found
         self.captures = self.trial.in_one_order(rest)
         if self.is_in_own_order():
@@ -108,8 +108,7 @@ class Orders:
         return replace(found, same_under=mask) if self.is_same(mask) else found
 
     def is_in_own_order(self) -> bool:
-        """Whether the order counts, or makes no difference. Then reordered calls are
-        findings."""
+        """Whether the order counts, or makes no difference: reordered calls are findings."""
         order = self.choices.order
         return order == 'strict' or order is None and not self.explaining.has_another_order()
 
@@ -131,12 +130,15 @@ class Orders:
         if not classes:
             return found
         self.follow(classes)
-        return replace(self.found_under(without_classes(mask, classes)), follows=True)
+        left = {name: way for name, way in mask.items() if name not in classes}
+        return replace(self.found_under(left), follows=True)
 
     def not_one_to_one(self, compared: Compared, mask: Mask) -> frozenset[str]:
         """Returns the classes that are to follow their objects: those of values that differ. If
         pairs differ of which no field is reported, values are shared by other messages."""
-        told, groups = classes_in(compared), [group & self.choices.follows for group in GROUPS]
+        names = {one.name for finding in compared.findings for one in finding.differences}
+        told = {one.name for one in CLASSES if names & one.items}
+        groups = [group & self.choices.follows for group in GROUPS]
         if self.explaining.are_all_told:
             return frozenset().union(*(group for group in groups if group & told))
         own = self.listed(mask).unequal()
@@ -148,7 +150,7 @@ class Orders:
         """Finds what differs under a mask in any order, or that nothing does."""
         if self.explaining.tells_lonely() or not self.is_same(mask):
             return Outcome(self.explained(mask))
-        if not len(self.explaining.firsts):
+        if not len(self.explaining.runs[0].order):
             raise NothingToCompare('nothing to compare: no call of one run is in the other')
         return Outcome(self.explained(mask), mask)
 
@@ -183,20 +185,3 @@ class Orders:
         differing = listed.unequal()
         return self.explaining.explained(differing, listed.turns_of_values(differing), mask,
                                          self.choices.order == 'strict', self.choices.around)
-
-
-def classes_in(compared: Compared) -> frozenset[str]:
-    """Returns the classes of the values that differ."""
-    names = {one.name for finding in compared.findings for one in finding.differences}
-    return frozenset(one.name for one in CLASSES if names & one.items)
-
-
-def without_classes(mask: Mask, classes: frozenset[str]) -> Mask:
-    return {name: way for name, way in mask.items() if name not in classes}
-
-
-def pairs_of(pairing: Pairing, findings: Sequence[Finding]) -> list[Pair]:
-    """Returns the matched exchanges of which findings are."""
-    some = pairing.here.exchanges_of_messages(
-        finding.first for finding in findings if finding.first and finding.second)
-    return [(at, pairing.partners[at]) for at in sorted(some)]

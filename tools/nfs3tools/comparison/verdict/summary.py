@@ -4,6 +4,7 @@ from __future__ import annotations
 from collections import Counter, defaultdict
 from collections.abc import Iterator, Sequence
 
+from ...exchanges.in_words import short
 from ...recordings.selection import count, plural
 from ..values.classes import Mask
 from .findings import RUNS, Compared, replies
@@ -15,11 +16,6 @@ IN_ANOTHER_ORDER, BUT_IDS, BUT_LEFT_OUT = (
 # On a part
 VERDICTS = ('same', BUT_IDS, BUT_LEFT_OUT, IN_ANOTHER_ORDER, 'differ', 'only in the first run',
             'only in the second run')
-
-
-def short(procedure: str) -> str:
-    """Returns a procedure's name without its program's."""
-    return procedure.removeprefix('NFSPROC3_').replace('MOUNTPROC3_', 'MOUNT ')
 
 
 def turns(compared: Compared) -> list[str]:
@@ -38,8 +34,7 @@ def left_out(compared: Compared) -> Iterator[tuple[str, str]]:
 
 
 def of_both(compared: Compared) -> Iterator[str]:
-    """The calls of both runs that are left out, by why that is and by procedures, with their path
-    if it is one."""
+    """The calls of both runs that are left out, by why and procedure, and their only path."""
     paths = defaultdict[tuple[str, str], list[str]](list)
     for call in compared.silent:
         if call.kind != 'only':
@@ -58,12 +53,6 @@ def word_of(found: Outcome) -> str:
     if found.follows:
         return BUT_IDS
     return BUT_LEFT_OUT if compared.silent else IN_ANOTHER_ORDER
-
-
-def with_explained(found: Outcome) -> str:
-    """Returns the same, with how many answers an order explains."""
-    number = found.compared.explained
-    return word_of(found) + (f', {count(number, "answer")} explained by order' if number else '')
 
 
 def of_same(found: Outcome, mask: Mask) -> str:

@@ -4,7 +4,7 @@ from __future__ import annotations
 import os
 import re
 import tempfile
-from collections.abc import Callable, Iterable, Iterator, Sequence
+from collections.abc import Callable, Iterable, Sequence
 from functools import partial
 from itertools import chain
 from pathlib import Path
@@ -14,13 +14,12 @@ from ...recordings.taken import Taken
 from ...shared.outputs import write_temporary
 from ...shared.places import Place
 from ...shared.programs import (
-    CHECKED, COMPARED, lines_of_program, run_program, run_side_by_side)
+    CHECKED, COMPARED, MASKED, lines_of_program, program_beside, run_program, run_side_by_side)
 from ...shared.progress import Progress
 from ..exchanges.outlines import Outlines, When
-from ..exchanges.pairing import InOrder, Listing, Pairing, Relaxed, Repeats, paired
+from ..exchanges.pairing import InOrder, Listing, Pairing, paired, repeats_of
 from ..exchanges.reordered import write_in_order
-from ..values.classes import Mask, mask_text
-from ..values.masking import write_both_masked
+from ..values.classes import CLASSES_BY_NAME, Mask, mask_text
 
 SMALL = 1 << 18  # bytes of a capture whose lines are kept
 RUN_LETTERS = 'ab'  # begin the names of captures
@@ -79,11 +78,15 @@ class Trial:
 
     def mask(self, captures: Sequence[str], names: Sequence[str], mask: Mask) -> None:
         self.progress.begin('masking values')
-        write_both_masked(self.program, captures, names, mask)
+        run_side_by_side([self.masking(*one, mask) for one in zip(captures, names)], MASKED)
+
+    def masking(self, capture: str, name: str, mask: Mask) -> list[str]:
+        """Returns the command that writes a well-formed capture with masked values."""
+        words = (f'{one}={mask[one].value if one in mask else "keep"}' for one in CLASSES_BY_NAME)
+        return [program_beside(self.program, 'nfs3mask'), capture, name, *words]
 
     def same(self, captures: Sequence[str], mask: Mask) -> str:
-        """Returns what the program says of two captures under a mask: `same`, or where they
-        differ."""
+        """Returns what the program says of two captures: `same`, or where they differ."""
         masked = self.masked(captures, mask)
         key = masked[0], masked[1]
         if key not in self.said:
@@ -94,61 +97,50 @@ class Trial:
     def listing(self, capture: str) -> Listing:
         """Returns the lines of a capture. Connections have the numbers that they have in the run,
         of which some may be left out."""
-        taken = self.runs[RUN_LETTERS.index(Path(capture).name[0])]
-        numbers = self.numbers_of(taken)
-        if numbers is None:
-            return partial(self.lines, capture, taken)
-        return partial(self.numbered, capture, taken, numbers)
+        return partial(self.lines, capture, self.runs[RUN_LETTERS.index(Path(capture).name[0])])
 
     def lines(self, capture: str, taken: Taken) -> Iterable[str]:
-        """Returns the lines of a capture."""
-        if os.path.getsize(capture) <= SMALL:
-            if capture not in self.few:
-                self.few[capture] = list(lines_of_program(self.program, ['show', capture]))
-            return self.few[capture]
-        lines = lines_of_program(self.program, ['show', capture])
-        return self.progress.lines('reading the calls', lines, taken.count_records)
-
-    def numbered(self, capture: str, taken: Taken, numbers: Sequence[int]) -> Iterator[str]:
-        """Returns the lines of a capture, whose connections get these numbers."""
-        return (with_connection(line, numbers[place_of(line).connection - 1])
-                for line in self.lines(capture, taken))
-
-    def numbers_of(self, taken: Taken) -> list[int] | None:
-        """Returns the numbers of the connections of a run, or None if none is left out."""
+        lines: Iterable[str] = self.few.get(capture, ())
+        if not lines:
+            lines = lines_of_program(self.program, ['show', capture])
+            if os.path.getsize(capture) <= SMALL:
+                lines = self.few[capture] = list(lines)
+            else:
+                lines = self.progress.lines('reading the calls', lines, taken.count_records)
         numbers = [connection.number for connection in taken.connections]
-        return None if numbers == list(range(1, len(numbers) + 1)) else numbers
+        if numbers == list(range(1, len(numbers) + 1)):
+            return lines
+        return (with_connection(line, numbers[place_of(line).connection - 1]) for line in lines)
 
     def placed(self, verdict: str) -> str:
         """Returns what `same` says of both captures with the number that the connection has in the
         first run, or else in the second."""
         found = DIFFERING_CONNECTION.search(verdict)
-        some = [numbers for taken in self.runs
-                if (numbers := [one.number for one in taken.connections]) and found
-                and int(found[1]) <= len(numbers)]
-        return DIFFERING_CONNECTION.sub(f'connection {some[0][int(found[1]) - 1]}', verdict,
-                                        1) if found and some else verdict
+        place = int(found[1]) if found else 0
+        numbers = [taken.connections[place - 1].number for taken in self.runs
+                   if 0 < place <= len(taken.connections)]
+        return DIFFERING_CONNECTION.sub(f'connection {numbers[0]}', verdict,
+                                        1) if numbers else verdict
 
     def canonical(self, captures: Sequence[str],
                   mask: Mask | None = None) -> tuple[Listing, Listing]:
         """Returns the listings of two captures in canonical form, under a mask if there is one."""
         masked = captures if mask is None else self.masked(captures, mask)
-        names = self.made_of(masked, 'canon', self.make_canonical)
-        return self.listing(names[0]), self.listing(names[1])
 
-    def make_canonical(self, captures: Sequence[str], names: Sequence[str]) -> None:
-        self.progress.begin('making the canonical form')
-        run_side_by_side([[self.program, 'canon', *one] for one in zip(captures, names)], CHECKED)
+        def make(captures: Sequence[str], names: Sequence[str]) -> None:
+            self.progress.begin('making the canonical form')
+            run_side_by_side([[self.program, 'canon', *one] for one in zip(captures, names)],
+                             CHECKED)
+        first, second = self.made_of(masked, 'canon', make)
+        return self.listing(first), self.listing(second)
 
     def paired(self, masks: Sequence[Mask], lonely: frozenset[str]) -> Pairing:
-        """Brings the exchanges of both runs together, by what they have in common under the first
-        mask, or else under the second."""
+        """Brings the exchanges of both runs together under the first mask, or else the second."""
         mask, *more = masks
         listings = self.canonical(self.captures, mask)
         here, there = (Outlines(listing(), mask, when_of(taken))
                        for listing, taken in zip(listings, self.runs))
-        relaxed = (lambda: Relaxed(more[0],
-                                   self.canonical(self.captures, more[0]))) if more else None
+        relaxed = (lambda: (more[0], self.canonical(self.captures, more[0]))) if more else None
         self.progress.begin(f'bringing {len(here) + len(there):,} calls together')
         return paired(here, there, listings, lonely, relaxed)
 
@@ -157,9 +149,8 @@ class Trial:
         partner, each call once. Returns the captures' names."""
         self.progress.begin('writing both runs in one order')
         names = self.named()
-        sides = ((pairing.here, pairing.order_of_first(), pairing.only_first()),
-                 (pairing.there, pairing.order_of_second(), pairing.only_second()))
-        for taken, name, (outlines, order, only) in zip(self.runs, names, sides):
-            left_out = chain(InOrder(outlines, only), Repeats(outlines))
-            write_in_order(taken, InOrder(outlines, order), left_out, name)
+        for run, (taken, name) in enumerate(zip(self.runs, names)):
+            outlines = pairing.runs[run]
+            left_out = chain(InOrder(outlines, pairing.alone(run)), repeats_of(outlines))
+            write_in_order(taken, InOrder(outlines, pairing.matched(run)), left_out, name)
         return names
