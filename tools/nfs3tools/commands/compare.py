@@ -62,7 +62,6 @@ compare, 3 if a file, a program or memory failed.
 from __future__ import annotations
 
 import argparse
-import os
 import re
 import sys
 import tempfile
@@ -89,9 +88,9 @@ from ..comparison.verdict.orders import Choices, NothingToCompare
 from ..comparison.verdict.report import Report
 from ..comparison.verdict.trial import Trial
 from ..pages import compared as pages
-from ..pages.compared import ComparedContent, RunFiles
+from ..pages.compared import ComparedContent
 from ..recordings.coverage import Allowed
-from ..recordings.parts import files_in, files_of
+from ..recordings.parts import files_in
 from ..recordings.selection import Options
 from ..recordings.taken import NotTaken, Taken, take
 from ..reporting import telling
@@ -164,13 +163,6 @@ def print_missing(name: str, taken: Taken) -> None:
         print(f'{escaped(name)}: {line}', file=sys.stderr)
 
 
-def recorded_of(taken: Taken, name: str) -> RunFiles:
-    files = files_of(name)
-    is_known = all(os.path.isfile(file) for file in files)
-    return RunFiles(sum(map(os.path.getsize, files)) if is_known else None, taken.ends(),
-                    taken.parts)
-
-
 class Whole(NamedTuple):
     """Both runs as they were taken, checked and written as captures."""
     names: list[str]
@@ -181,10 +173,6 @@ class Whole(NamedTuple):
 
     def framings(self) -> list[Framing]:
         return [run.frames for run in self.runs]
-
-    @property
-    def taken(self) -> list[Taken]:
-        return [cover.taken for cover in self.covers]
 
     @property
     def sizes(self) -> list[Size]:
@@ -294,9 +282,7 @@ def explain(words: argparse.Namespace, whole: Whole, line: str, report: Report, 
         suite = junit_of_comparison(line, report, told_of, whole.framings(), is_good)
         write_file(words.junit, [suite], whole.inputs)
     if words.html:
-        recorded = [recorded_of(*one) for one in zip(whole.taken, whole.names)]
-        content = ComparedContent(line, report, compared, words.ignore, left_out, whole.runs,
-                                  recorded)
+        content = ComparedContent(line, report, compared, words.ignore, left_out, whole.runs)
         write_file(words.html, pages.compared_page(content), whole.inputs)
     if words.json:
         write_file(words.json, json_of_comparison(report, compared, left_out, whole.framings()),
@@ -318,8 +304,7 @@ def print_comparison(words: argparse.Namespace, whole: Whole, report: Report, co
         return
     screen = screen_of(words.color)
     if is_told(words, report):
-        first, second = whole.framings()
-        for text in telling.of_compared(compared, first, second,
+        for text in telling.of_compared(compared, whole.framings(),
                                         None if words.all else FINDINGS_AT_MOST, left_out,
                                         words.brief):
             print(coloured(text, screen))

@@ -5,7 +5,7 @@ from __future__ import annotations
 
 from collections.abc import Callable, Iterator, Sequence
 from html import escape
-from itertools import groupby, zip_longest
+from itertools import chain, groupby, zip_longest
 from typing import NamedTuple
 
 from ..comparison.values import long_values
@@ -32,37 +32,37 @@ LAST_OF_REPLY = 'accept_stat'  # RFC 5531, section 9
 
 # --- What differs ---
 
-def signed_values(finding: Finding) -> Iterator[str]:
+def changed_values(finding: Finding) -> Iterator[str]:
     """The values of both runs, each with its sign, or the arguments of a call that one run alone
     has."""
-    if finding.kind == 'only' and not any(telling.of_arguments(finding)):
+    arguments, more = telling.of_arguments(finding), len(finding.differences) - DIFFERENCES_AT_MOST
+    if finding.kind == 'only' and not arguments:
         yield '<p class=quiet>It has no arguments but its path.</p>'
         return
     yield '<div class=change>'
-    for difference in finding.differences[:DIFFERENCES_AT_MOST]:
-        yield from marked_difference(difference)
-    yield from map(signed_line, telling.of_arguments(finding))
-    if len(finding.differences) > DIFFERENCES_AT_MOST:
-        yield f'<div>.. and {len(finding.differences) - DIFFERENCES_AT_MOST:,} more fields</div>'
+    yield from chain.from_iterable(map(marked_difference,
+                                       finding.differences[:DIFFERENCES_AT_MOST]))
+    yield from (signed_line(line[0], escape(line[2:])) for line in arguments)
+    if more > 0:
+        yield f'<div>.. and {more:,} more fields</div>'
     yield '</div>'
 
 
 def marked_difference(difference: Difference) -> Iterator[str]:
     """The lines of a difference, with the bytes marked that differ."""
-    lines = [line.strip() for line in telling.difference_lines(difference)]
-    values, remark = marked_values(difference), telling.remark_on(difference)
-    if not values or len(lines) != len(values):
-        yield from map(signed_line, lines)
-        return
-    for sign, side, value in zip(SIGNS, SIGN_CLASSES, values):
-        more = f' <span class=quiet># {escape(remark)}</span>' if remark and sign == '+' else ''
-        yield f'<div class={side}>{sign}{GLUE}{escape(difference.label)}={value}{more}</div>'
+    rows, values = telling.signed_rows(difference), marked_values(difference)
+    if len(rows) != len(values):
+        return (signed_line(sign, escape(value + (f'    # {remark}' if remark else '')))
+                for sign, value, remark in rows)
+    return (signed_line(sign, f'{escape(difference.label)}={value}' + (
+        f' <span class=quiet># {escape(remark)}</span>' if remark else ''))
+            for (sign, _, remark), value in zip(rows, values))
 
 
-def signed_line(line: str) -> str:
-    """A line that has a sign before it."""
-    look = markup.class_of(SIGN_CLASSES[SIGNS.index(line[0])] if line[0] in SIGNS else '')
-    return f'<div{look}>{line[0]}{GLUE}{escape(line[2:])}</div>'
+def signed_line(sign: str, words: str) -> str:
+    """A line of HTML after its sign."""
+    look = markup.class_of(SIGN_CLASSES[SIGNS.index(sign)] if sign in SIGNS else '')
+    return f'<div{look}>{sign}{GLUE}{words}</div>'
 
 
 # --- Bytes that differ ---
@@ -145,7 +145,7 @@ def of_messages(first: Message | None, second: Message | None,
     if finding:
         told.update(one.label for one in finding.differences)
         told.update(one.label for one in finding.arguments)
-        yield from signed_values(finding)
+        yield from changed_values(finding)
     lines = [line for line in field_lines(first, second)
              if not (line.differs and line.label in told)]
     own = first_lines([line.text for line in lines if not line.is_of_head])
