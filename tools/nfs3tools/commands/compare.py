@@ -110,16 +110,12 @@ SIGN, SIGN_COLOURS = re.compile(r'  ([-+]) '), {'-': Colour.RED, '+': Colour.GRE
 AROUND = Around(3, pages.FINDINGS_ON_PAGE)  # on a page
 
 
-def classes_told() -> str:
-    """The classes of values, those masked by default with a star."""
-    rows = [f'  {one.name + ("*" if one.is_default else ""):<13} {one.way.value:<7} {one.meaning}'
-            for one in CLASSES]
-    return '\n'.join(['classes of values:', *rows])
-
-
 def command_line_of_compare(words: list[str]) -> argparse.Namespace:
     parser = parser_of(__doc__, 'compare')
-    parser.epilog = classes_told()
+    # (those masked by default have a star)
+    parser.epilog = '\n'.join(['classes of values:', *(
+        f'  {one.name + "*" * one.is_default:<13} {one.way.value:<7} {one.meaning}'
+        for one in CLASSES)])
     parser.add_argument('--mask', type=mask_word, metavar='CLASS,..',
                         help='the classes of values to mask')
     parser.add_argument('--order', choices=('strict', 'any'),
@@ -157,12 +153,6 @@ def command_line_of_compare(words: list[str]) -> argparse.Namespace:
     return chosen
 
 
-def print_missing(name: str, taken: Taken) -> None:
-    """Prints what is missing from a recording, and what is left out of it."""
-    for line in recording_lines(taken, has_taken=False):
-        print(f'{escaped(name)}: {line}', file=sys.stderr)
-
-
 class Whole(NamedTuple):
     """Both runs as they were taken, checked and written as captures."""
     names: list[str]
@@ -180,9 +170,6 @@ class Whole(NamedTuple):
 
     def is_good(self, allowed: Allowed) -> bool:
         return all(cover.is_good(allowed) for cover in self.covers)
-
-    def lines_of_counts(self) -> Iterator[str]:
-        return lines_of_counts(self.covers, RUNS)
 
 
 def outputs_of(words: argparse.Namespace) -> list[str | None]:
@@ -218,8 +205,9 @@ def compared_runs(words: argparse.Namespace, stack: ExitStack) -> int:
     with held():
         folder = Path(stack.enter_context(tempfile.TemporaryDirectory(prefix='nfs3canon')))
     runs = [stack.enter_context(taken_of(name, options_of(words))) for name in names]
-    for taken, name in zip(runs, names):
-        print_missing(name, taken)
+    for name, line in ((name, line) for name, taken in zip(names, runs)
+                       for line in recording_lines(taken, has_taken=False)):
+        print(f'{escaped(name)}: {line}', file=sys.stderr)
     whole = whole_of(program, folder, names, [*inputs, *accepted_by(words)], runs)
     masks = in_any_order(words.mask, any(cover.has_raw for cover in whole.covers))
     print(f'masked: {mask_text(masks[0])}', flush=True)
@@ -264,7 +252,7 @@ def compared_whole(words: argparse.Namespace, whole: Whole, choices: Choices, lo
     is_good = said.is_same and whole.is_good(allowed_of(words))
     report = said.report(choices, whole.names, whole.sizes, whole.covers)
     print(screen_of(words.color).painted(line, colour_of_word(report.word(), is_good)),
-          *whole.lines_of_counts(), sep='\n', flush=True)
+          *lines_of_counts(whole.covers, RUNS), sep='\n', flush=True)
     if words.accept_new:
         compared = said.found.whole or Compared()
         recordings = files_in(whole.names)
@@ -351,7 +339,8 @@ def compared_by_parts(words: argparse.Namespace, whole: Whole, choices: Choices,
             print_comparison(words, whole, part.report, part.compared, part.left_out)
     if losses:
         print(f'compared in part: {losses}')
-    print(*whole.lines_of_counts(), summary.of_parts([part.word() for part in parts]), sep='\n')
+    print(*lines_of_counts(whole.covers, RUNS),
+          summary.of_parts([part.word() for part in parts]), sep='\n')
     return is_good and all(part.is_good for part in parts)
 
 

@@ -92,18 +92,13 @@ def wanted_at(taken: Taken, places: Iterable[Place]) -> dict[int, WantedRecords]
     """Returns what is wanted for the records at some places, by connections. Raises `NoPlace`."""
     wanted = defaultdict[int, WantedRecords](lambda: WantedRecords(set(), set()))
     for place in places:
-        head = head_at(taken, place)
+        stream, extent = taken.record_at(place)
+        head = body_of(Window(stream), extent, HEAD_TO_MTYPE)
         if len(head) < HEAD_TO_MTYPE:
             wanted[place.connection].without.add((place.side, place.record))
         else:
             wanted[place.connection].xids.add(int.from_bytes(head[:4], 'big'))
     return wanted
-
-
-def head_at(taken: Taken, place: Place) -> bytes:
-    """Returns the first bytes of a record. Raises `NoPlace` if there is no such record."""
-    stream, extent = taken.record_at(place)
-    return body_of(Window(stream), extent, HEAD_TO_MTYPE)
 
 
 def cut_of(connection: TakenConnection, wanted: WantedRecords) -> Cut:
