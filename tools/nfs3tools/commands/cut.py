@@ -139,14 +139,6 @@ def turn_of(outlines: Outlines, place: Place) -> int:
     return outlines.exchanges_of_replies(at)[place.record]
 
 
-def record_lines(taken: Taken, cuts: list[Cut]) -> Iterator[str]:
-    """Iterates over a line for each record of the cut, which says where it was."""
-    pairs = ((Place(number, side, record), Place(cut.connection.number, side, old))
-             for number, cut in enumerate(cuts, 1)
-             for side in SIDES for record, old in enumerate(cut.records[side], 1))
-    return (record_line(taken, place, old) for place, old in pairs)
-
-
 def cuts_at(program: str, taken: Taken, place: Place | FramePlace, has_origins: bool,
             name: str) -> list[Cut]:
     """Returns what is cut out for a place. Raises `NoPlace` if there is none, and what `origins_of`
@@ -204,7 +196,11 @@ def write_cuts(program: str, taken: Taken, cuts: list[Cut], _: str, out: str,
     pairs = [cut.streams() for cut in cuts]
     answer = run_program(program, ['check', '/dev/stdin'], CHECKED, capture_of(pairs))
     write_file(out, capture_of(pairs), inputs, (CAPTURE,))
-    return [*record_lines(taken, cuts), (answer.out or answer.error).strip()], 0
+    places = ((Place(number, side, record), Place(cut.connection.number, side, old))
+              for number, cut in enumerate(cuts, 1)
+              for side in SIDES for record, old in enumerate(cut.records[side], 1))
+    return [*(record_line(taken, *both) for both in places),
+            (answer.out or answer.error).strip()], 0
 
 
 # --- As a recording ---

@@ -91,19 +91,16 @@ def facts(content: ComparedContent) -> Iterator[str]:
     """Both runs, how their calls are matched, what is masked, and what else does not count."""
     yield ''.join(f'<p>{code(line)}</p>' for line in content.line.splitlines())
     yield f'<p>{escape(summary.compared_in_words(content.compared))}.</p>'
+    # (what neither of them has is not there)
+    rows = ((first[0], first[1], second[1])
+            for first, second in zip(*(facts_of(content, at) for at in BOTH))
+            if first[1] != first[2] or second[1] != second[2])
     yield from markup.table(('', '- first run', '+ second run'), (
-        f'<tr><th>{what}</th>{"".join(f"<td>{escape(value)}</td>" for value in values)}</tr>'
-        for what, values in rows_of_runs(content)), 'runs')
+        f'<tr><th>{what}</th><td>{escape(one)}</td><td>{escape(other)}</td></tr>'
+        for what, one, other in rows), 'runs')
     yield '<dl>'
     yield from (f'<dt>{what}</dt><dd>{words}</dd>' for what, words in words_of_masks(content))
     yield '</dl>'
-
-
-def rows_of_runs(content: ComparedContent) -> Iterator[tuple[str, Sequence[str]]]:
-    """What both runs are, each with a name. What neither of them has is not there."""
-    for both in zip(*(facts_of(content, at) for at in BOTH)):
-        if any(value != nothing for _, value, nothing in both):
-            yield both[0][0], [value for _, value, _ in both]
 
 
 def facts_of(content: ComparedContent, at: int) -> Iterator[tuple[str, str, str]]:

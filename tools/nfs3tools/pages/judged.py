@@ -86,7 +86,7 @@ def judged_page(seen: Sequence[Seen], allowed: Allowed, tables: Sequence[ShownTa
     more = f' and {len(names) - 1:,} more' if len(names) > 1 else ''
     look, words = title_of(counts)
     status = of_status(counts, status_of(verdicts_in(seen), allowed), allowed)
-    several = (f'<section>{"".join(of_table(table, "h2"))}</section>' for table in tables)
+    several = (f'<section>{of_table(table, "h2")}</section>' for table in tables)
     recordings = (of_recording(one, own, len(names) > 1)
                   for one, own in zip(seen, of_each or [()] * len(names)))
     notes = [line for verdict in verdicts_in(seen) for line in verdict_notes(verdict)]
@@ -145,17 +145,14 @@ def of_status(counts: Counts, status: int, allowed: Allowed) -> Iterator[str]:
 
 # --- Tables ---
 
-def of_table(table: ShownTable, level: str) -> Iterator[str]:
-    yield f'<{level}>{escape(table.title)}</{level}>'
-    if table.rows or not table.valid:
-        yield from rows_of_table(table, table.rows)
-    if table.valid:
-        yield from markup.folded('valid', count(len(table.valid), 'connection') + ' ok',
-                                 rows_of_table(table, table.valid), '' if table.rows else ' open')
-
-
-def rows_of_table(table: ShownTable, rows: Sequence[str]) -> Iterator[str]:
-    return chain([f'<div class={table.look}>'], markup.table(table.heads, rows), ['</div>'])
+def of_table(table: ShownTable, level: str) -> str:
+    def of_rows(rows: Sequence[str]) -> Iterator[str]:
+        return chain([f'<div class={table.look}>'], markup.table(table.heads, rows), ['</div>'])
+    title = [f'<{level}>{escape(table.title)}</{level}>']
+    shown = of_rows(table.rows) if table.rows or not table.valid else ()
+    folded = markup.folded('valid', count(len(table.valid), 'connection') + ' ok',
+                           of_rows(table.valid), '' if table.rows else ' open')
+    return ''.join(chain(title, shown, folded if table.valid else ()))
 
 
 def as_printed(title: str, rows: Sequence[Styled], numbers: Container[int]) -> ShownTable:
@@ -277,7 +274,7 @@ def of_fault(number: int, fault: ExplainedFault, seen: Seen) -> Iterator[str]:
 def of_recording(seen: Seen, tables: Sequence[ShownTable], has_counts: bool) -> Iterator[str]:
     """The time line of a recording, its own counts if that is asked for, and its tables: that of
     all its connections, and those of each folded."""
-    shown = [''.join(of_table(table, 'h3')) for table in tables]
+    shown = [of_table(table, 'h3') for table in tables]
     words = f'{count(len(shown) - 1, "table")} of single connections'
     pieces = chain(of_counts(counts_after(seen.verdicts)) if has_counts else (),
                    of_time_line(seen.line) if seen.line else (), shown[:1],
