@@ -133,8 +133,9 @@ def messages_text(findings: Sequence[Finding]) -> str:
 
 
 def only_in(finding: Finding) -> str:
-    """What is said before what one run alone has."""
-    return '' if finding.first and finding.second else f'only in the {finding.run} run: '
+    """What is said before what one run alone has. The order of replies is of both."""
+    is_of_both = finding.kind == 'order' or finding.first and finding.second
+    return '' if is_of_both else f'only in the {finding.run} run: '
 
 
 def group_heading(findings: Sequence[Finding], framings: Sequence[Framing]) -> str:
