@@ -99,27 +99,22 @@ class ListedRecording(typing.NamedTuple):
 
 def wanted_by(chosen: argparse.Namespace) -> list[Condition]:
     """The conditions of the options, each of which has to hold."""
-    conditions = list[Condition]()
-    if chosen.errors:
-        conditions.append(lambda one: one.is_error)
-    if chosen.no_reply:
-        conditions.append(lambda one: one.is_unanswered)
-    if chosen.slow is not None:
-        conditions.append(lambda one: bool((one.latency or one.waited or 0) >= chosen.slow))
-    if chosen.procedure:
-        conditions.append(lambda one: bool(last_name(one.procedure) in chosen.procedure))
-    if chosen.user is not None:
-        conditions.append(lambda one: bool(one.asked.user == chosen.user))
-    if chosen.client:
-        conditions.append(lambda one: bool(host_of(one.part.client) == chosen.client))
-    if chosen.path is not None:
-        # (a word alone is a last name)
-        pattern = chosen.path if set(chosen.path) & set('*?[/') else f'*/{chosen.path}'
-        fits = re.compile(fnmatch.translate(pattern)).match
-        conditions.append(lambda one: any(
+    # (a word alone is a last name)
+    path = chosen.path or ''
+    pattern = path if set(path) & set('*?[/') else f'*/{path}'
+    fits = re.compile(fnmatch.translate(pattern)).match
+    conditions: list[tuple[bool, Condition]] = [
+        (chosen.errors, lambda one: one.is_error),
+        (chosen.no_reply, lambda one: one.is_unanswered),
+        (chosen.slow is not None,
+         lambda one: bool((one.latency or one.waited or 0) >= chosen.slow)),
+        (bool(chosen.procedure), lambda one: last_name(one.procedure) in chosen.procedure),
+        (chosen.user is not None, lambda one: bool(one.asked.user == chosen.user)),
+        (bool(chosen.client), lambda one: bool(host_of(one.part.client) == chosen.client)),
+        (chosen.path is not None, lambda one: any(
             path is not None and fits(as_named(path))
-            for path in (one.path, one.other_path, *one.other_names)))
-    return conditions
+            for path in (one.path, one.other_path, *one.other_names)))]
+    return [holds for is_given, holds in conditions if is_given]
 
 
 def last_name(procedure: str) -> str:
@@ -149,25 +144,19 @@ def listed(judge: Judge, recording: str, chosen: argparse.Namespace,
     if window != ALL:
         order = [at for at in order if window.has(kept.times[at])]
     if conditions:
-        order = [at for at in order if holds_all(conditions, kept.exchange(at))]
+        order = [at for at, one in zip(order, map(kept.exchange, order))
+                 if all(holds(one) for holds in conditions)]
     return ListedRecording(recording, None if chosen.utc else sum(begun), kept, order)
-
-
-def holds_all(conditions: list[Condition], one: KeptExchange) -> bool:
-    return all(holds(one) for holds in conditions)
 
 
 # --- What is printed ---
 
 def call_time(time: int, begun: int | None) -> str:
-    """A time as seconds from the first frame, or as that of the day (UTC)."""
-    if time and begun is not None:
+    """A time as seconds from the first frame, or as that of the day (UTC), `10:03:07.250000`."""
+    if not time:
+        return '-'
+    if begun is not None:
         return f'{(time - begun) / 1_000_000_000:.6f}'
-    return time_text(time) if time else '-'
-
-
-def time_text(time: int) -> str:
-    """The time of the day (UTC), as `10:03:07.250000`."""
     seconds, rest = divmod(time % DAY, 1_000_000_000)
     return f'{seconds // 3_600:02}:{seconds // 60 % 60:02}:{seconds % 60:02}.{rest // 1_000:06}'
 
@@ -175,8 +164,7 @@ def time_text(time: int) -> str:
 def cells_of(one: KeptExchange, begun: int | None) -> tuple[str, ...]:
     """The cells of a line."""
     answer = one.answer if one.kept.firsts[one.at] else answer_of(one)
-    return (call_time(one.time, begun),
-            milliseconds(one.latency), str(one.frame or '-'),
+    return (call_time(one.time, begun), milliseconds(one.latency), str(one.frame or '-'),
             f'{one.part.number}:{one.record}', call_text(one), answer)
 
 
@@ -243,14 +231,6 @@ class AlignedLines:
                           *(' ' * indent + GAP + one for one in answers)])
 
 
-def print_lines(found: ListedRecording, screen: Screen) -> None:
-    """Prints the lines of a recording."""
-    lines = AlignedLines(screen)
-    for one in found.exchanges():
-        lines.add(cells_of(one, found.begun), one.is_error)
-    lines.print()
-
-
 def tell_verdicts(verdicts: list[Verdict]) -> None:
     """Prints on standard error which connections are not judged whole, with all notes."""
     tell_notes(verdicts)
@@ -263,17 +243,16 @@ def tell_of_times(found: ListedRecording, chosen: argparse.Namespace) -> None:
     """Prints on standard error what is to know of latencies and addresses, if an option asks for
     what is not there."""
     kept, number = found.kept, found.kept.backward
-    lines = list[str]()
-    if number:
-        are = plural(number, 'latency is', 'latencies are')
-        lines.append(f'the clock went back: {number:,} {are} negative')
-    if chosen.slow is not None and len(kept) and not kept.has_latencies:
-        lines.append('no latency is known, so --slow lists nothing')
-    if (chosen.begin or chosen.end) and len(kept) and not any(kept.times):
-        lines.append('no time is known, so --from and --to list nothing')
-    if chosen.client and any(not part.client for part in kept.parts):
-        lines.append('a capture has no addresses, so --client lists nothing')
-    for line in lines:
+    are = plural(number, 'latency is', 'latencies are')
+    lines = [
+        (number, f'the clock went back: {number:,} {are} negative'),
+        (chosen.slow is not None and len(kept) and not kept.has_latencies,
+         'no latency is known, so --slow lists nothing'),
+        ((chosen.begin or chosen.end) and len(kept) and not any(kept.times),
+         'no time is known, so --from and --to list nothing'),
+        (chosen.client and any(not part.client for part in kept.parts),
+         'a capture has no addresses, so --client lists nothing')]
+    for line in (line for is_so, line in lines if is_so):
         print(printable(f'{escaped(found.recording)}: {line}'), file=sys.stderr)
 
 
@@ -299,9 +278,12 @@ class Text:
         self.is_one, self.screen, self.number, self.all = is_one, screen, 0, 0
 
     def add(self, found: ListedRecording) -> None:
+        lines = AlignedLines(self.screen)
         if not self.is_one:
             print(f'{escaped(found.recording)}:')
-        print_lines(found, self.screen)
+        for one in found.exchanges():
+            lines.add(cells_of(one, found.begun), one.is_error)
+        lines.print()
         self.number, self.all = self.number + len(found.wanted), self.all + len(found.kept)
 
     def end(self) -> None:

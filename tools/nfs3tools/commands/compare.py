@@ -62,7 +62,6 @@ compare, 3 if a file, a program or memory failed.
 from __future__ import annotations
 
 import argparse
-import os
 import re
 import sys
 import tempfile
@@ -87,9 +86,9 @@ from ..comparison.verdict.ignored import ignored_of, without_ignored
 from ..comparison.verdict.orders import Choices, NothingToCompare
 from ..comparison.verdict.trial import Trial
 from ..pages import compared as pages
-from ..pages.compared import ComparedContent, RunFiles
+from ..pages.compared import ComparedContent
 from ..recordings.coverage import Allowed
-from ..recordings.parts import files_in, files_of
+from ..recordings.parts import files_in
 from ..recordings.selection import Options
 from ..recordings.taken import NotTaken, Taken, take
 from ..reporting import telling
@@ -109,16 +108,12 @@ SIGN, SIGN_COLOURS = re.compile(r'  ([-+]) '), {'-': Colour.RED, '+': Colour.GRE
 AROUND = Around(3, pages.FINDINGS_ON_PAGE)  # on a page
 
 
-def classes_told() -> str:
-    """The classes of values, those masked by default with a star."""
-    rows = [f'  {one.name + ("*" if one.is_default else ""):<13} {one.way.value:<7} {one.meaning}'
-            for one in CLASSES]
-    return '\n'.join(['classes of values:', *rows])
-
-
 def command_line_of_compare(words: list[str]) -> argparse.Namespace:
     parser = parser_of(__doc__, 'compare')
-    parser.epilog = classes_told()
+    # (those masked by default have a star)
+    parser.epilog = '\n'.join(['classes of values:', *(
+        f'  {one.name + "*" * one.is_default:<13} {one.way.value:<7} {one.meaning}'
+        for one in CLASSES)])
     parser.add_argument('--mask', type=mask_word, metavar='CLASS,..',
                         help='the classes of values to mask')
     parser.add_argument('--order', choices=('strict', 'any'),
@@ -156,19 +151,6 @@ def command_line_of_compare(words: list[str]) -> argparse.Namespace:
     return chosen
 
 
-def print_missing(name: str, taken: Taken) -> None:
-    """Prints what is missing from a recording, and what is left out of it."""
-    for line in recording_lines(taken, has_taken=False):
-        print(f'{escaped(name)}: {line}', file=sys.stderr)
-
-
-def recorded_of(taken: Taken, name: str) -> RunFiles:
-    files = files_of(name)
-    is_known = all(os.path.isfile(file) for file in files)
-    return RunFiles(sum(map(os.path.getsize, files)) if is_known else None, taken.ends(),
-                    taken.parts)
-
-
 class Whole(NamedTuple):
     """Both runs as they were taken, checked and written as captures."""
     names: list[str]
@@ -181,18 +163,11 @@ class Whole(NamedTuple):
         return [run.frames for run in self.runs]
 
     @property
-    def taken(self) -> list[Taken]:
-        return [cover.taken for cover in self.covers]
-
-    @property
     def sizes(self) -> list[Size]:
         return [cover.size for cover in self.covers]
 
     def is_good(self, allowed: Allowed) -> bool:
         return all(cover.is_good(allowed) for cover in self.covers)
-
-    def lines_of_counts(self) -> Iterator[str]:
-        return lines_of_counts(self.covers, RUNS)
 
 
 def outputs_of(words: argparse.Namespace) -> list[str | None]:
@@ -228,8 +203,9 @@ def compared_runs(words: argparse.Namespace, stack: ExitStack) -> int:
     with held():
         folder = Path(stack.enter_context(tempfile.TemporaryDirectory(prefix='nfs3canon')))
     runs = [stack.enter_context(taken_of(name, options_of(words))) for name in names]
-    for taken, name in zip(runs, names):
-        print_missing(name, taken)
+    for name, line in ((name, line) for name, taken in zip(names, runs)
+                       for line in recording_lines(taken, has_taken=False)):
+        print(f'{escaped(name)}: {line}', file=sys.stderr)
     whole = whole_of(program, folder, names, [*inputs, *accepted_by(words)], runs)
     masks = in_any_order(words.mask, any(cover.has_raw for cover in whole.covers))
     print(f'masked: {mask_text(masks[0])}', flush=True)
@@ -273,7 +249,7 @@ def compared_whole(words: argparse.Namespace, whole: Whole, choices: Choices, lo
                              whole.covers)
     line, is_good = report.line(losses), report.is_same and whole.is_good(allowed_of(words))
     print(screen_of(words.color).painted(line, colour_of_word(report.word(), is_good)),
-          *whole.lines_of_counts(), sep='\n', flush=True)
+          *lines_of_counts(whole.covers, RUNS), sep='\n', flush=True)
     if words.accept_new:
         compared = report.found.whole or Compared()
         recordings = files_in(whole.names)
@@ -291,9 +267,7 @@ def explain(words: argparse.Namespace, whole: Whole, line: str, report: Report,
         suite = junit_of_comparison(line, report, told_of, whole.framings(), is_good)
         write_file(words.junit, [suite], whole.inputs)
     if words.html:
-        recorded = [recorded_of(*one) for one in zip(whole.taken, whole.names)]
-        content = ComparedContent(line, report, compared, words.ignore, left_out, whole.runs,
-                                  recorded)
+        content = ComparedContent(line, report, compared, words.ignore, left_out, whole.runs)
         write_file(words.html, pages.compared_page(content), whole.inputs)
     if words.json:
         write_file(words.json, json_of_comparison(report, compared, left_out, whole.framings()),
@@ -315,8 +289,7 @@ def print_comparison(words: argparse.Namespace, whole: Whole, report: Report, co
         return
     screen = screen_of(words.color)
     if is_told(words, report):
-        first, second = whole.framings()
-        for text in telling.of_compared(compared, first, second,
+        for text in telling.of_compared(compared, whole.framings(),
                                         None if words.all else FINDINGS_AT_MOST, left_out,
                                         words.brief):
             print(coloured(text, screen))
@@ -363,7 +336,8 @@ def compared_by_parts(words: argparse.Namespace, whole: Whole, choices: Choices,
             print_comparison(words, whole, part.report, part.compared, part.left_out)
     if losses:
         print(f'compared in part: {losses}')
-    print(*whole.lines_of_counts(), summary.of_parts([part.word() for part in parts]), sep='\n')
+    print(*lines_of_counts(whole.covers, RUNS),
+          summary.of_parts([part.word() for part in parts]), sep='\n')
     return is_good and all(part.is_good for part in parts)
 
 

@@ -92,18 +92,13 @@ def wanted_at(taken: Taken, places: Iterable[Place]) -> dict[int, WantedRecords]
     """Returns what is wanted for the records at some places, by connections. Raises `NoPlace`."""
     wanted = defaultdict[int, WantedRecords](lambda: WantedRecords(set(), set()))
     for place in places:
-        head = head_at(taken, place)
+        stream, extent = taken.record_at(place)
+        head = body_of(Window(stream), extent, HEAD_TO_MTYPE)
         if len(head) < HEAD_TO_MTYPE:
             wanted[place.connection].without.add((place.side, place.record))
         else:
             wanted[place.connection].xids.add(int.from_bytes(head[:4], 'big'))
     return wanted
-
-
-def head_at(taken: Taken, place: Place) -> bytes:
-    """Returns the first bytes of a record. Raises `NoPlace` if there is no such record."""
-    stream, extent = taken.record_at(place)
-    return body_of(Window(stream), extent, HEAD_TO_MTYPE)
 
 
 def cut_of(connection: TakenConnection, wanted: WantedRecords) -> Cut:
@@ -140,14 +135,6 @@ def turn_of(outlines: Outlines, place: Place) -> int:
     """Returns the exchange at a place, by its number in the listing."""
     return outlines.by_record(outlines.place_of(place.connection),
                               place.side == 'client')[place.record]
-
-
-def record_lines(taken: Taken, cuts: list[Cut]) -> Iterator[str]:
-    """Iterates over a line for each record of the cut, which says where it was."""
-    pairs = ((Place(number, side, record), Place(cut.connection.number, side, old))
-             for number, cut in enumerate(cuts, 1)
-             for side in SIDES for record, old in enumerate(cut.records[side], 1))
-    return (record_line(taken, place, old) for place, old in pairs)
 
 
 def cuts_at(program: str, taken: Taken, place: Place | FramePlace, has_origins: bool,
@@ -207,7 +194,11 @@ def write_cuts(program: str, taken: Taken, cuts: list[Cut], _: str, out: str,
     pairs = [cut.streams() for cut in cuts]
     answer = run_program(program, ['check', '/dev/stdin'], CHECKED, capture_of(pairs))
     write_file(out, capture_of(pairs), inputs, (CAPTURE,))
-    return [*record_lines(taken, cuts), (answer.out or answer.error).strip()], 0
+    places = ((Place(number, side, record), Place(cut.connection.number, side, old))
+              for number, cut in enumerate(cuts, 1)
+              for side in SIDES for record, old in enumerate(cut.records[side], 1))
+    return [*(record_line(taken, *both) for both in places),
+            (answer.out or answer.error).strip()], 0
 
 
 # --- As a recording ---

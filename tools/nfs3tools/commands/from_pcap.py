@@ -44,7 +44,7 @@ from functools import partial
 
 from ..recordings.parts import files_of
 from ..recordings.taken import NotTaken, take
-from ..reporting.messages import add_options, ended, options_of, parser_of, print_recording, run
+from ..reporting.messages import add_options, ended, options_of, parser_of, recording_lines, run
 from ..shared.outputs import CAPTURE, try_outputs
 from ..shared.printed import escaped
 
@@ -63,7 +63,8 @@ def main(words: list[str]) -> int:
     with take(chosen.recording, options_of(chosen), frames=False) as taken:
         if not taken.is_recording:
             raise NotTaken(f'{escaped(chosen.recording)} is a capture already')
-        print_recording(taken)
+        for line in recording_lines(taken):
+            print(line, file=sys.stderr)
         if not taken.connections:
             return ended('from_pcap', 'no connection to pack', NOTHING_TAKEN)
         taken.write_capture(chosen.out, [chosen.recording])

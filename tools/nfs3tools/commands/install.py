@@ -142,12 +142,6 @@ def links() -> Iterator[tuple[str, str]]:
         yield f'share/fish/vendor_completions.d/{installed_name(tool)}.fish', 'nfs3canon.fish'
 
 
-def installed_content(source: Path, place: str) -> bytes:
-    """Returns what a file has that is installed."""
-    return (installed_page(source.read_text()).encode() if place.startswith('share/man/')
-            else source.read_bytes())
-
-
 def installed_page(text: str) -> str:
     """Returns a manual page with the names under which the tools are installed: in its head, where
     it is about the tool itself, where it names other pages, and in the commands of examples."""
@@ -176,8 +170,9 @@ def install(prefix: Path, program: Path) -> None:
     refuse_links(prefix)
     for source, place in list(files(program)):
         is_run = source.stat().st_mode & EXECUTABLE
-        put(prefix / place, installed_content(source, place),
-            FOR_ALL_TO_RUN if is_run else FOR_ALL_TO_READ)
+        content = (installed_page(source.read_text()).encode() if place.startswith('share/man/')
+                   else source.read_bytes())
+        put(prefix / place, content, FOR_ALL_TO_RUN if is_run else FOR_ALL_TO_READ)
     for name in PROGRAMS:
         put(prefix / 'bin' / name, launcher().encode(), FOR_ALL_TO_RUN)
     for place, target in links():

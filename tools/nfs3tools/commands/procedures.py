@@ -78,16 +78,11 @@ PROCEDURE_NUMBERS = range(1, len(PROCEDURE_HEADS) - 1)  # the columns that are s
 LONGEST_COLUMN = 'longest'  # is before the errors in tables of one recording
 IN_ALL = 'in all'
 ON_PAGE = Screen(sys.maxsize)  # on which numbers are as on a terminal
-# The columns by which rows are sorted, but for the first with the largest number first.
+# The columns by which rows are sorted: by the first alone not with the largest number first.
 BY_PROCEDURE = 'procedure'
-SORT_COLUMNS: dict[str, typing.Callable[[Tally], int | None]] = {
-    'calls': lambda tally: tally.calls, 'again': lambda tally: tally.again,
-    'replies': lambda tally: tally.replies, 'no-reply': lambda tally: tally.unanswered,
-    'call-bytes': lambda tally: tally.call_bytes, 'reply-bytes': lambda tally: tally.reply_bytes,
-    'median': lambda tally: tally.ranked(QUANTILES)[0],
-    'p99': lambda tally: tally.ranked(QUANTILES)[1],
-    'most': lambda tally: tally.ranked(QUANTILES)[2], 'mean': lambda tally: tally.mean,
-    'sum': lambda tally: tally.total, 'errors': lambda tally: sum(tally.errors.values())}
+SORT_COLUMNS = ('calls', 'again', 'replies', 'no-reply', 'call-bytes', 'reply-bytes', 'median',
+                'p99', 'most', 'mean', 'sum', 'errors')
+SIZES_FROM = 4  # the first column whose change is printed in per cent
 
 
 class TallyTable(typing.NamedTuple):
@@ -109,8 +104,10 @@ def sorted_by(column: str, names: list[str], *several: Tallies) -> list[str]:
     several tables that is; without a number last."""
     if column == BY_PROCEDURE:
         return names
+    at = SORT_COLUMNS.index(column)
     def rank(name: str) -> tuple[bool, int]:
-        found = (SORT_COLUMNS[column](tallies[name]) for tallies in several if name in tallies)
+        found = ([*numbers_of(one[name]), sum(one[name].errors.values())][at]
+                 for one in several if name in one)
         numbers = [number for number in found if number is not None]
         return not numbers, -max(numbers, default=0)
     return sorted(names, key=rank)
@@ -130,6 +127,12 @@ def total_of(tallies: Tallies) -> Tally:
     for tally in tallies.values():
         total.add(tally)
     return total
+
+
+def numbers_of(tally: Tally) -> list[int | None]:
+    """Returns the numbers of a row: the counts, and the latencies."""
+    return [*(getattr(tally, count) for count in TALLY_COUNTS), *tally.ranked(QUANTILES),
+            tally.mean, tally.total]
 
 
 def counted(judge: Judge, recording: str, chosen: argparse.Namespace) -> CountedRecording:
@@ -158,16 +161,16 @@ def counted(judge: Judge, recording: str, chosen: argparse.Namespace) -> Counted
 
 def tally_row(name: str, tally: Tally, is_named: bool, screen: Screen) -> Styled:
     """A row. The longest latency is named by its recording, or not."""
-    counts = (screen.number(getattr(tally, count)) for count in TALLY_COUNTS)
-    latencies = (milliseconds(rank, screen) for rank in latencies_of(tally))
-    cells = [name, *counts, *latencies, longest_of(tally, is_named),
+    cells = [name, *number_texts(tally, screen), longest_of(tally, is_named),
              errors_of(tally.errors, screen)]
     return Styled(cells, Colour.RED if tally.errors else None)
 
 
-def latencies_of(tally: Tally) -> list[int | None]:
-    """The latencies of a row."""
-    return [*tally.ranked(QUANTILES), tally.mean, tally.total]
+def number_texts(tally: Tally, screen: Screen) -> list[str]:
+    numbers = numbers_of(tally)
+    counts, latencies = numbers[:len(TALLY_COUNTS)], numbers[len(TALLY_COUNTS):]
+    return [*(screen.number(number or 0) for number in counts),
+            *(milliseconds(rank, screen) for rank in latencies)]
 
 
 def longest_of(tally: Tally, is_named: bool) -> str:
@@ -276,7 +279,7 @@ def rows_beside(first: CountedRecording, second: CountedRecording, column: str,
 def print_rows_beside(rows: Sequence[Styled], screen: Screen) -> None:
     """Prints a table of two recordings, or if it is too wide a block for each procedure."""
     if screen.width is None or is_as_wide(rows, screen.width):
-        lines = table_lines(rows, screen, range(1, len(PROCEDURE_HEADS) - 1))
+        lines = table_lines(rows, screen, PROCEDURE_NUMBERS)
     else:
         lines = itertools.chain.from_iterable(block_of(row, screen) for row in rows[1:])
     print(*lines, sep='\n')
@@ -292,17 +295,13 @@ def block_of(row: Styled, screen: Screen) -> Iterator[str]:
 
 def cells_beside(name: str, first: Tally, second: Tally, screen: Screen) -> list[str]:
     """The cells of a row about two recordings."""
-    number_of, both = screen.number, (first, second)
-    counts = [(*(getattr(tally, count) for tally in both), count.endswith('bytes'))
-              for count in TALLY_COUNTS]
-    errors = (f'{error} ' + both_cells(*(number_of(tally.errors[error]) for tally in both))
+    numbers = zip(*(number_texts(tally, screen) for tally in (first, second)),
+                  numbers_of(first), numbers_of(second))
+    errors = (f'{error} ' + both_cells(*(screen.number(tally.errors[error])
+                                         for tally in (first, second)))
               for error, _ in most_first(first.errors + second.errors))
-    latencies = zip(*map(latencies_of, both))
-    return [name, *(both_cells(number_of(number), number_of(other),
-                               percent_change(number, other) if is_size else '')
-                    for number, other, is_size in counts),
-            *(both_cells(milliseconds(rank, screen), milliseconds(other, screen),
-                         percent_change(rank, other)) for rank, other in latencies),
+    return [name, *(both_cells(here, there, percent_change(number, other) * (at >= SIZES_FROM))
+                    for at, (here, there, number, other) in enumerate(numbers)),
             ', '.join(errors) or '-']
 
 
@@ -322,18 +321,18 @@ def percent_change(first: int | None, second: int | None) -> str:
 def procedures_page(found: Sequence[CountedRecording],
                     chosen: argparse.Namespace) -> Iterator[bytes]:
     """The page: the tables that are printed, and a time line for each recording."""
-    whole, of_each = list[ShownTable](), list[list[ShownTable]]()
+    column, whole, of_each = chosen.sort, list[ShownTable](), list[list[ShownTable]]()
     if chosen.beside:
-        whole = [shown_of('A: {} | B: {}'.format(*(escaped(one.seen.recording) for one in found)),
-                          rows_beside(found[0], found[1], chosen.sort, ON_PAGE))]
-    elif len(found) > 1:
-        whole = [shown_table('all recordings', in_all_of(found), chosen.sort)]
-    if not chosen.beside:
-        of_each = [[shown_table('in all', one.in_all, chosen.sort),
+        names = [escaped(one.seen.recording) for one in found]
+        whole = [shown_of(f'A: {names[0]} | B: {names[1]}',
+                          rows_beside(found[0], found[1], column, ON_PAGE))]
+    else:
+        whole = [shown_table('all recordings', in_all_of(found), column)] * (len(found) > 1)
+        of_each = [[shown_table('in all', one.in_all, column),
                     *(shown_table(table_title(
                         table.verdict._replace(message=said_of(table.verdict)), Screen()),
-                                  table, chosen.sort)
-                      for table in ([] if chosen.total else one.tables) if table.verdict)]
+                                  table, column)
+                      for table in one.tables if table.verdict and not chosen.total)]
                    for one in found]
     return judged_page([one.seen for one in found], allowed_of(chosen), whole, of_each)
 
@@ -354,23 +353,19 @@ def shown_of(title: str, styled: Sequence[Styled]) -> ShownTable:
 # --- What is written ---
 
 def tally_object(name: str, tally: Tally) -> dict[str, typing.Any]:
-    counts = {count: getattr(tally, count) for count in TALLY_COUNTS}
-    ranks = dict(zip(RANKS, latencies_of(tally)))
-    longest = tally.longest
+    numbers, longest = numbers_of(tally), tally.longest
     position = longest and str(Place(longest.connection, 'client', longest.record))
-    where = {'most_position': position, 'most_frame': longest and longest.frame,
-             'negative': tally.backward}
-    return {'procedure': name, **counts, 'errors': dict(most_first(tally.errors)),
-            'latencies': len(tally.latencies), **ranks, **where}
+    return {'procedure': name, **dict(zip(TALLY_COUNTS, numbers)),
+            'errors': dict(most_first(tally.errors)), 'latencies': len(tally.latencies),
+            **dict(zip(RANKS, numbers[len(TALLY_COUNTS):])), 'most_position': position,
+            'most_frame': longest and longest.frame, 'negative': tally.backward}
 
 
 def whose(table: TallyTable) -> dict[str, typing.Any]:
     """The recording and the connection of a table."""
-    verdict = table.verdict
-    name = None if table.recording is None else escaped(table.recording)
-    return {'recording': name, 'connection': verdict and verdict.connection,
-            'client': verdict.client if verdict else '',
-            'server': verdict.server if verdict else ''}
+    verdict = table.verdict or Verdict('')
+    return {'recording': None if table.recording is None else escaped(table.recording),
+            'connection': verdict.connection, 'client': verdict.client, 'server': verdict.server}
 
 
 def json_of_tables(found: Sequence[CountedRecording], column: str) -> bytes:

@@ -52,7 +52,6 @@ from __future__ import annotations
 import argparse
 import concurrent.futures
 import contextlib
-import functools
 import itertools
 import json
 import os
@@ -76,7 +75,7 @@ from ..recordings.selection import Options
 from ..recordings.taken import NotTaken, Taken, TakenConnection, take
 from ..reporting.junit import Suite
 from ..reporting.messages import (
-    add_recordings, advice_on, allowed_of, error_text, options_of, parser_of, run)
+    add_recordings, allowed_of, failure_text, options_of, parser_of, run)
 from ..shared.outputs import STANDARD_OUTPUT, writing
 from ..shared.places import Place, parse_fault
 from ..shared.printed import escaped, printable
@@ -105,35 +104,25 @@ class Judge(typing.NamedTuple):
                 if look:
                     look(taken, verdicts)
                 return verdicts
-        except NotTaken as refused:
-            return [error_verdict(recording, advice_on(refused, 'verdicts'))]
-        except (FilterRefused, Missing) as refused:
-            return [error_verdict(recording, str(refused))]
-        except OSError as failed:
-            return [error_verdict(recording, error_text(failed))]
+        except (NotTaken, FilterRefused, Missing, OSError, MemoryError) as failed:
+            return [error_verdict(recording, failure_text(failed, 'verdicts'))]
         except Died as died:
             raise Died(f'{escaped(recording)}: {died}') from died
-        except MemoryError:
-            return [error_verdict(recording, 'out of memory')]
 
-    def seen(self, recording: str) -> Seen:
-        """The verdicts on a recording or capture, with what a page shows besides."""
+    def seen(self, is_shown: bool, recording: str) -> Seen:
+        """The verdicts on a recording or capture, with what a page shows besides if it is."""
         found = list[Seen]()
 
         def look(taken: Taken, verdicts: list[Verdict]) -> None:
             with contextlib.closing(kept_in(self.program, taken, verdicts)) as kept:
                 found.append(seen_in(kept, taken, recording, verdicts))
-        verdicts = self.verdicts(recording, look)
+        verdicts = self.verdicts(recording, look if is_shown else None)
         # (an error may come after the look, and then counts alone)
         return found[0] if found and found[0].verdicts is verdicts else Seen(recording, verdicts)
 
-    def unseen(self, recording: str) -> Seen:
-        """The verdicts alone."""
-        return Seen(recording, self.verdicts(recording))
-
     def of_taken(self, recording: str, taken: Taken) -> list[Verdict]:
         with concurrent.futures.ThreadPoolExecutor(self.at_once) as threads:
-            verdicts = list(threads.map(functools.partial(self.of_connection, recording, taken),
+            verdicts = list(threads.map(partial(self.of_connection, recording, taken),
                                         taken.connections))
         if self.counts_unanswered:
             verdicts = with_unanswered(verdicts, taken)
@@ -227,7 +216,7 @@ def judged_all(chosen: argparse.Namespace) -> int:
         judge = Judge(program_path(chosen.program), options_of(chosen), at_once,
                       len(chosen.recordings) == 1)
         try:
-            seen = list(judged_recordings(judge.seen if chosen.html else judge.unseen,
+            seen = list(judged_recordings(partial(judge.seen, bool(chosen.html)),
                                           chosen.recordings, recordings_at_once))
         except concurrent.futures.BrokenExecutor as broken:
             raise OSError('a process that judged a recording was killed, as when memory runs '
@@ -294,7 +283,10 @@ def junit_of_verdicts(verdicts: list[Verdict], allowed: Allowed) -> bytes:
     counts = counts_after(verdicts)
     suite = Suite('nfs3canon', [*counts.numbers().items(), ('raw', named_calls(counts.raw))])
     for verdict in (verdict for verdict in verdicts if verdict.state != 'note'):
-        is_word, tag = verdict.state in COVERED, tag_of(verdict, allowed)
+        is_word, tag = verdict.state in COVERED, 'skipped'
+        if verdict.shows_calls:
+            tag = ('' if verdict.is_good(allowed)
+                   else 'error' if verdict.state == 'error' else 'failure')
         case = suite.add(escaped(verdict.recording), name_of_case(verdict), tag,
                          printable(verdict.message),
                          attributes={'type': verdict.state} if is_word and tag == 'failure' else {},
@@ -307,13 +299,6 @@ def junit_of_verdicts(verdicts: list[Verdict], allowed: Allowed) -> bytes:
     if notes:
         SubElement(suite.suite, 'system-out').text = '\n'.join(notes)
     return suite.written(time=f'{sum(verdict.seconds for verdict in verdicts):.3f}')
-
-
-def tag_of(verdict: Verdict, allowed: Allowed) -> str | None:
-    """The element of JUnit of a verdict, if it has one."""
-    if not verdict.shows_calls:
-        return 'skipped'
-    return None if verdict.is_good(allowed) else 'error' if verdict.state == 'error' else 'failure'
 
 
 def name_of_case(verdict: Verdict) -> str:

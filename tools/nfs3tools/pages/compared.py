@@ -6,13 +6,14 @@ verdict is folded. It is made in pieces, and all that comes from a recording is 
 """
 from __future__ import annotations
 
+import os
 from collections import Counter, defaultdict
 from collections.abc import Iterator, Sequence
 from dataclasses import dataclass
 from functools import cached_property
 from html import escape
 from itertools import chain, starmap, zip_longest
-from typing import NamedTuple, Optional
+from typing import Optional
 
 from ..comparison.values.classes import mask_text
 from ..comparison.verdict import summary
@@ -24,9 +25,8 @@ from ..comparison.verdict.ignored import Ignored
 from ..exchanges.in_words import short
 from ..exchanges.listing import Message
 from ..recordings.coverage import named_calls
-from ..recordings.parts import Part
+from ..recordings.parts import files_of
 from ..recordings.selection import count, plural
-from ..recordings.taken import FrameRef
 from ..reporting import telling
 from ..reporting.frames import frame_time
 from . import fields, markup
@@ -45,22 +45,8 @@ NOTHING_BUT = ('the order', 'what is masked')  # differs
 BothPlaces = tuple[Optional[str], Optional[str]]
 
 
-class RunFiles(NamedTuple):
-    """What is known of a run's files: how many bytes they have (None of a pipe), the first and the
-    last frame that carries a message (None of a capture), and the parts of a recording that has
-    several."""
-    size: int | None
-    ends: tuple[FrameRef, FrameRef] | None
-    parts: Sequence[Part]
-
-
 def both_places(first: Message | None, second: Message | None) -> BothPlaces:
     return first.place if first else None, second.place if second else None
-
-
-def message_of_both(both: Sequence[Message | None]) -> Message:
-    """Returns the message of the first run, or else that of the second."""
-    return next(filter(None, both))
 
 
 def message_pairs(row: ExcerptRow) -> Iterator[tuple[Message | None, Message | None]]:
@@ -86,66 +72,56 @@ def compared_page(content: ComparedContent) -> Iterator[bytes]:
 
 
 def head(content: ComparedContent, is_same: bool) -> Iterator[str]:
-    """The verdict in words, or what differs, and what is not compared."""
-    covers, said = content.report.covers, ''
+    """The verdict in words, or what differs in a few phrases, and what is not compared."""
+    # (how the order differs is said below)
+    said = content.line.partition(';')[0] if is_same else ''
+    found = [] if is_same else phrases(content.compared)
+    more = len(found) - PHRASES_AT_MOST
+    shown = [*found[:PHRASES_AT_MOST], *(
+        [f'<a href=#findings>{count(more, "more difference")}</a>'] if more > 0 else [])]
     if is_same:
-        # (how the order differs is said below)
-        said = content.line.partition(';')[0]
         yield f'<p>{code(said)}</p>'
-    else:
-        yield from glance(content)
-    losses = losses_of(covers, RUNS) if covers else ''
+    if shown:
+        yield f'<p class=glance>{" · ".join(shown)}</p>'
+    losses = losses_of(content.covers, RUNS)
     if losses not in said:
         yield f'<p class=part>Compared in part: {escape(losses)}.</p>'
-
-
-def glance(content: ComparedContent) -> Iterator[str]:
-    """What differs, in a few phrases with paths."""
-    found = phrases(content.compared)
-    said = [f'{escape(before)}{code(path) if path else ""}{escape(after)}'
-            for before, path, after in found[:PHRASES_AT_MOST]]
-    more = len(found) - PHRASES_AT_MOST
-    if more > 0:
-        said.append(f'<a href=#findings>{count(more, "more difference")}</a>')
-    if said:
-        yield f'<p class=glance>{" · ".join(said)}</p>'
 
 
 def facts(content: ComparedContent) -> Iterator[str]:
     """Both runs, how their calls are matched, what is masked, and what else does not count."""
     yield ''.join(f'<p>{code(line)}</p>' for line in content.line.splitlines())
     yield f'<p>{escape(summary.compared_in_words(content.compared))}.</p>'
+    # (what neither of them has is not there)
+    rows = ((first[0], first[1], second[1])
+            for first, second in zip(*(facts_of(content, at) for at in BOTH))
+            if first[1] != first[2] or second[1] != second[2])
     yield from markup.table(('', '- first run', '+ second run'), (
-        f'<tr><th>{what}</th>{"".join(f"<td>{escape(value)}</td>" for value in values)}</tr>'
-        for what, values in rows_of_runs(content)), 'runs')
+        f'<tr><th>{what}</th><td>{escape(one)}</td><td>{escape(other)}</td></tr>'
+        for what, one, other in rows), 'runs')
     yield '<dl>'
     yield from (f'<dt>{what}</dt><dd>{words}</dd>' for what, words in words_of_masks(content))
     yield '</dl>'
 
 
-def rows_of_runs(content: ComparedContent) -> Iterator[tuple[str, Sequence[str]]]:
-    """What both runs are, each with a name. What neither of them has is not there."""
-    for both in zip(*(facts_of(content, at) for at in BOTH)):
-        if any(value != nothing for _, value, nothing in both):
-            yield both[0][0], [value for _, value, _ in both]
-
-
 def facts_of(content: ComparedContent, at: int) -> Iterator[tuple[str, str, str]]:
     """Iterates over what a run is: a name, what it has, and what that is if it has nothing."""
-    compared, one, size = content.compared, content.recorded[at], content.report.sizes[at]
+    compared, report, cover = content.compared, content.report, content.covers[at]
+    counts, files = cover.counts(), files_of(report.names[at])
     yield 'name', content.runs[at].name, ''
-    yield 'file', 'size not known' if one.size is None else count(one.size, 'byte'), ''
-    yield from ((what, f'{frame_time(frame)}, frame {frame.number}' if frame else 'no frames',
-                 'no frames') for what, frame in zip(('first frame', 'last frame'),
-                                                     one.ends or (None, None)))
-    yield from ((what, f'{number:,}', '') for what, number in (
-        ('calls', size.calls), ('connections', size.connections)))
-    if content.report.covers:
-        cover, counts = content.report.covers[at], content.report.covers[at].counts()
-        yield 'missing', count(cover.missing, 'byte'), count(0, 'byte')
-        yield from ((what, f'{number:,}', '') for what, number in counts.numbers().items())
-        yield 'raw', named_calls(counts.raw) or NO_VALUE, NO_VALUE
-        yield 'not judged as a whole', more_of([*map(not_judged_text, cover.rows())]), NO_VALUE
+    yield 'file', (count(sum(map(os.path.getsize, files)), 'byte')
+                   if all(map(os.path.isfile, files)) else 'size not known'), ''
+    for what, frame in zip(('first frame', 'last frame'), cover.taken.ends() or (None, None)):
+        yield what, (f'{frame_time(frame)}, frame {frame.number}' if frame
+                     else 'no frames'), 'no frames'
+    yield from ((what, f'{number:,}', '') for what, number in report.sizes[at]._asdict().items())
+    yield 'missing', count(cover.missing, 'byte'), count(0, 'byte')
+    yield from ((what, f'{number:,}', '') for what, number in counts.numbers().items())
+    yield 'raw', named_calls(counts.raw) or NO_VALUE, NO_VALUE
+    not_judged = [*map(not_judged_text, cover.rows())]
+    more = len(not_judged) - NOT_JUDGED_AT_MOST
+    yield ('not judged as a whole', ('; '.join(not_judged[:NOT_JUDGED_AT_MOST]) or NO_VALUE)
+           + (f'; .. and {more:,} more' if more > 0 else ''), NO_VALUE)
     yield 'only in this run', count(compared.lonely[at], 'call'), count(0, 'call')
     left_out = (f'{number:,} {short(name)}'
                 for name, number in sorted(compared.left_out[at].items()))
@@ -155,12 +131,6 @@ def facts_of(content: ComparedContent, at: int) -> Iterator[tuple[str, str, str]
 def not_judged_text(row: NotJudged) -> str:
     number = f'connection {row.connection}: ' if row.connection is not None else ''
     return f'{number}{row.ends}{": " if row.ends else ""}{row.word}: {row.reason}'
-
-
-def more_of(some: Sequence[str]) -> str:
-    more = (f'; .. and {len(some) - NOT_JUDGED_AT_MOST:,} more'
-            if len(some) > NOT_JUDGED_AT_MOST else '')
-    return '; '.join(some[:NOT_JUDGED_AT_MOST]) + more if some else NO_VALUE
 
 
 def words_of_masks(content: ComparedContent) -> Iterator[tuple[str, str]]:
@@ -178,10 +148,6 @@ def words_of_masks(content: ComparedContent) -> Iterator[tuple[str, str]]:
 
 # --- Findings ---
 
-def is_told_of_connections(finding: Finding) -> bool:
-    return finding.kind in ('connection', 'order')
-
-
 def is_of_fields(finding: Finding) -> bool:
     return bool(finding.differences) or finding.kind == 'only'
 
@@ -193,7 +159,7 @@ def keys_of(finding: Finding) -> list[tuple[str, str]]:
     said = {'only': only, 'connection': only, 'moved': finding.remark,
             'replies': 'another number of replies', 'order': 'replies in another order'}
     return [(name, one.field) for one in finding.differences] or [
-        ('connections' if is_told_of_connections(finding) else name,
+        ('connections' if finding.kind in telling.OF_CONNECTIONS else name,
          said.get(finding.kind, finding.kind))]
 
 
@@ -208,10 +174,10 @@ class ComparedContent:
     ignored: Sequence[Ignored]
     left_out: Counter[tuple[str, str]]
     runs: Sequence[Run]
-    recorded: Sequence[RunFiles]
 
     def __post_init__(self) -> None:
-        self.framings, self.beside = [run.frames for run in self.runs], self.compared.beside
+        self.covers, self.beside = self.report.covers, self.compared.beside
+        self.framings = [run.frames for run in self.runs]
         self.groups = telling.groups_alike(self.compared.findings)
         self.shown = self.groups[:FINDINGS_ON_PAGE]
         self.others_at_most = min(OTHERS_AT_MOST, OTHERS_OF_ALL // max(1, len(self.shown)))
@@ -240,6 +206,12 @@ class ComparedContent:
 
     # --- Fields ---
 
+    def fields(self) -> Iterator[str]:
+        """The fields by their procedures, with their paths and counts."""
+        names = ['procedure', 'field', 'path', 'how often']
+        if self.groups:
+            yield from markup.section('What differs', markup.table(names, self.rows_of_fields()))
+
     def where(self) -> dict[tuple[str, str], list[tuple[int, str | None]]]:
         """Returns where each field of a procedure, or what else is reported, is: the numbers of its
         findings, and their paths."""
@@ -248,12 +220,6 @@ class ComparedContent:
             for key in keys_of(finding):
                 out[key].append((number, finding.path))
         return out
-
-    def fields(self) -> Iterator[str]:
-        """The fields by their procedures, with their paths and counts."""
-        names = ['procedure', 'field', 'path', 'how often']
-        return markup.section('What differs', markup.table(names, self.rows_of_fields())
-                              ) if self.groups else iter(())
 
     def rows_of_fields(self) -> Iterator[str]:
         before = ''
@@ -298,15 +264,16 @@ class ComparedContent:
                f'<h3><a href=#f{number}>{number}</a> {self.title(group)}</h3>')
         for at, message in zip(BOTH, (finding.first, finding.second)):
             if message and finding.kind != 'order':
+                framing, parts = self.framings[at], self.covers[at].taken.parts
+                place = (f'{message.place}{telling.frames_text(message, framing)}'
+                         + markup.filters(parts, framing(message)))
                 yield (f'<div class=place><span class="sign {SIGN_CLASSES[at]}">{SIGNS[at]}</span>'
-                       f'<span>{self.place(message, at)}</span></div>')
+                       f'<span>{place}</span></div>')
         if finding.remark:
             yield f'<p>{escape(finding.remark)}</p>'
         if is_of_fields(finding):
-            yield from fields.signed_values(finding)
-        anchor = self.anchors.get(both_places(finding.first, finding.second))
-        if anchor:
-            yield f'<p><a href=#r{anchor}>among the calls around it</a></p>'
+            yield from fields.changed_values(finding)
+        yield self.to_calls(finding, '<p>{}</p>', 'among the calls around it', '')
         if len(group) > 1:
             yield from self.others(group)
         yield '</article>'
@@ -314,25 +281,14 @@ class ComparedContent:
     def title(self, group: Sequence[Finding]) -> str:
         """Which messages they are, and the path of the first, as HTML."""
         finding, paths = group[0], {finding.path for finding in group} - {None}
-        message = finding.message
+        what, only = telling.messages_text(group), telling.only_in(finding)
         if telling.is_summed(group):
-            return (f'{len(group):,} messages have values that are equal in both runs, '
-                    'and that correspond to others elsewhere')
-        only = '' if finding.first and finding.second else f'only in the {finding.run} run: '
-        if is_told_of_connections(finding):
-            return f'{only if finding.kind == "connection" else ""}connection {message.connection}'
-        one, some = ('call', 'calls') if message.is_call else ('reply', 'replies')
-        what = (f'{message.procedure} {one}' if len(group) == 1
-                else f'{len(group):,} {some} of {message.procedure}')
+            return what
+        if finding.kind in telling.OF_CONNECTIONS:
+            return f'{only}connection {finding.message.connection}'
         path = f' {code(finding.path)}' if finding.path else ''
         return f'{only}{what}{path}' + (f', the first of {len(paths):,} paths' if len(paths) > 1
                                         else '')
-
-    def place(self, message: Message, side: int) -> str:
-        """Where a message is, its frames, and a display filter for all of them to copy, as HTML."""
-        framing, parts = self.framings[side], self.recorded[side].parts
-        return (f'{message.place}{telling.frames_text(message, framing)}'
-                + markup.filters(parts, framing(message)))
 
     def others(self, group: Sequence[Finding]) -> Iterator[str]:
         """The places of the findings that say the same as the first."""
@@ -342,17 +298,23 @@ class ComparedContent:
             ['<ol start=2>'], map(self.other, group[1:1 + self.others_at_most]), [f'</ol>{more}']))
 
     def other(self, finding: Finding) -> str:
-        places = telling.places_text(finding.first, finding.second, *self.framings)
+        places = telling.places_text(finding, self.framings)
         path = f'{code(finding.path)}: ' if finding.path else ''
+        return f'<li>{path}{self.to_calls(finding, "{}", places, places)}</li>'
+
+    def to_calls(self, finding: Finding, form: str, words: str, otherwise: str) -> str:
+        """Returns a link to the calls around a finding, in a form, or other words if they are not
+        shown."""
         anchor = self.anchors.get(both_places(finding.first, finding.second))
-        return f'<li>{path}{f"<a href=#r{anchor}>{places}</a>" if anchor else places}</li>'
+        return form.format(f'<a href=#r{anchor}>{words}</a>') if anchor else otherwise
 
     # --- What is left out ---
 
     def silent(self) -> Iterator[str]:
         """The calls that are left out, by procedures and paths."""
         lines = list(telling.of_silent(self.compared, self.framings, OTHERS_AT_MOST))
-        return markup.section('Left out', markup.paragraphs(lines)) if lines else iter(())
+        if lines:
+            yield from markup.section('Left out', markup.paragraphs(lines))
 
     def accepted_ones(self) -> Iterator[str]:
         """How many findings were accepted, and these folded."""
@@ -399,7 +361,7 @@ class ComparedContent:
             for call, number, framing in zip(calls, own, self.framings) if call)
         yield (f'<details class="row{" told" if mark != "=" else ""}" '
                f'id=r{self.anchors[both_places(*calls)]}>'
-               f'<summary><b class=mark>{mark}</b> {message_of_both(calls).procedure}'
+               f'<summary><b class=mark>{mark}</b> {next(filter(None, calls)).procedure}'
                f'{f" {code(row.path)}" if row.path else ""} '
                f'<span class=quiet>{places}</span>{said}</summary>')
         yield from chain.from_iterable(starmap(self.message, messages))
@@ -423,7 +385,7 @@ class ComparedContent:
         # (the frames of the call are in the line of its row)
         places = ' | '.join(one.place + ('' if one.is_call else telling.frames_text(one, framing))
                             for one, framing in zip((first, second), self.framings) if one)
-        what = 'call' if message_of_both((first, second)).is_call else 'reply'
+        what = 'call' if next(filter(None, (first, second))).is_call else 'reply'
         yield f'<h4>{what}: {places}</h4>'
         found = self.found.get(both_places(first, second), ())
         yield from fields.of_messages(first, second, next(

@@ -5,8 +5,7 @@ from __future__ import annotations
 
 from collections.abc import Callable, Iterator, Sequence
 from html import escape
-from itertools import groupby, zip_longest
-from typing import NamedTuple
+from itertools import chain, groupby, zip_longest
 
 from ..comparison.values import long_values
 from ..comparison.values.long_values import bytes_of, is_long, spelled_bytes
@@ -31,61 +30,58 @@ LAST_OF_REPLY = 'accept_stat'  # RFC 5531, section 9
 
 # --- What differs ---
 
-def signed_values(finding: Finding) -> Iterator[str]:
+def changed_values(finding: Finding) -> Iterator[str]:
     """The values of both runs, each with its sign, or the arguments of a call that one run alone
     has."""
-    if finding.kind == 'only' and not any(telling.of_arguments(finding)):
+    arguments, more = telling.of_arguments(finding), len(finding.differences) - DIFFERENCES_AT_MOST
+    if finding.kind == 'only' and not arguments:
         yield '<p class=quiet>It has no arguments but its path.</p>'
         return
     yield '<div class=change>'
-    for difference in finding.differences[:DIFFERENCES_AT_MOST]:
-        yield from marked_difference(difference)
-    yield from map(signed_line, telling.of_arguments(finding))
-    if len(finding.differences) > DIFFERENCES_AT_MOST:
-        yield f'<div>.. and {len(finding.differences) - DIFFERENCES_AT_MOST:,} more fields</div>'
+    yield from chain.from_iterable(map(marked_difference,
+                                       finding.differences[:DIFFERENCES_AT_MOST]))
+    yield from (signed_line(line[0], escape(line[2:])) for line in arguments)
+    if more > 0:
+        yield f'<div>.. and {more:,} more fields</div>'
     yield '</div>'
 
 
 def marked_difference(difference: Difference) -> Iterator[str]:
     """The lines of a difference, with the bytes marked that differ."""
-    lines = [line.strip() for line in telling.difference_lines(difference)]
-    values, remark = marked_values(difference), telling.remark_on(difference)
-    if not values or len(lines) != len(values):
-        yield from map(signed_line, lines)
-        return
-    for sign, side, value in zip(SIGNS, SIGN_CLASSES, values):
-        more = f' <span class=quiet># {escape(remark)}</span>' if remark and sign == '+' else ''
-        yield f'<div class={side}>{sign}{GLUE}{escape(difference.label)}={value}{more}</div>'
+    rows, values = telling.signed_rows(difference), marked_values(difference)
+    if len(rows) != len(values):
+        return (signed_line(sign, escape(value + (f'    # {remark}' if remark else '')))
+                for sign, value, remark in rows)
+    return (signed_line(sign, f'{escape(difference.label)}={value}' + (
+        f' <span class=quiet># {escape(remark)}</span>' if remark else ''))
+            for (sign, _, remark), value in zip(rows, values))
 
 
-def signed_line(line: str) -> str:
-    """A line that has a sign before it."""
-    look = markup.class_of(SIGN_CLASSES[SIGNS.index(line[0])] if line[0] in SIGNS else '')
-    return f'<div{look}>{line[0]}{GLUE}{escape(line[2:])}</div>'
+def signed_line(sign: str, words: str) -> str:
+    """A line of HTML after its sign."""
+    look = markup.class_of(SIGN_CLASSES[SIGNS.index(sign)] if sign in SIGNS else '')
+    return f'<div{look}>{sign}{GLUE}{words}</div>'
 
 
 # --- Bytes that differ ---
 
 def marked_values(difference: Difference) -> list[str]:
-    """Returns both values as HTML, or nothing if they are numbers."""
+    """Returns both values as HTML, as they are printed, or nothing if they are numbers."""
     values = difference.apart.shown if difference.apart else (str(difference.first or ''),
                                                               str(difference.second or ''))
     if difference.is_equal or not has_bytes(difference):
         return []
-    pieces = [shown_bytes(value) for value in values]
-    is_text = values[0].strip('.').startswith('"')
+    # (some bytes may be left out at the ends)
+    inner = [value.removeprefix(ELLIPSIS).removesuffix(ELLIPSIS) for value in values]
+    pieces, is_text = [*map(bytes_of, inner)], values[0].strip('.').startswith('"')
     has_text = not is_text and all(map(is_readable, pieces))
-    return [of_value(value, own, other, is_text) + (
-        f' <span class=text>{marked(own, other, letters)}</span>' if has_text else '')
-            for value, own, other in zip(values, pieces, reversed(pieces))]
-
-
-def of_value(value: str, own: bytes, other: bytes, is_text: bool) -> str:
-    """Returns a value as it is printed."""
-    before, after = (ELLIPSIS * is_cut for is_cut in (value.startswith(ELLIPSIS),
-                                                      value.endswith(ELLIPSIS)))
-    inner = f'"{marked(own, other, spelled_bytes)}"' if is_text else marked(own, other, bytes.hex)
-    return before + inner + after
+    both = zip(values, pieces, reversed(pieces))
+    return [ELLIPSIS * value.startswith(ELLIPSIS)
+            + (f'"{marked(own, other, spelled_bytes)}"' if is_text
+               else marked(own, other, bytes.hex))
+            + ELLIPSIS * value.endswith(ELLIPSIS)
+            + (f' <span class=text>{marked(own, other, letters)}</span>' if has_text else '')
+            for value, own, other in both]
 
 
 def has_bytes(difference: Difference) -> bool:
@@ -97,11 +93,6 @@ def has_bytes(difference: Difference) -> bool:
         value is not None and str(value).startswith('"') and not is_long(value) for value in both)
 
 
-def shown_bytes(value: str) -> bytes:
-    """The bytes of a value as it is printed, of which some may be left out at its ends."""
-    return bytes_of(value.removeprefix(ELLIPSIS).removesuffix(ELLIPSIS))
-
-
 def is_readable(content: bytes) -> bool:
     """Whether most bytes are those of a text."""
     readable = sum(0x20 <= byte < 0x7f or byte in b'\t\n\r' for byte in content)
@@ -109,17 +100,11 @@ def is_readable(content: bytes) -> bool:
 
 
 def marked(own: bytes, other: bytes, spell: Callable[[bytes], str]) -> str:
-    """Returns bytes as they are spelled, with those marked that are not in the other value."""
-    return ''.join(f'<mark>{escape(spell(piece))}</mark>' if differs else escape(spell(piece))
-                   for differs, piece in differing_pieces(own, other))
-
-
-def differing_pieces(own: bytes, other: bytes) -> Iterator[tuple[bool, bytes]]:
-    """Returns the bytes that follow one another and are all in the other value, at their places, or
-    all not."""
-    pairs = (pair for pair in zip_longest(own, other) if pair[0] is not None)
-    for differs, some in groupby(pairs, lambda pair: pair[0] != pair[1]):
-        yield differs, bytes(byte for byte, _ in some)
+    """Returns bytes as they are spelled, with those marked that are not in the other value, at
+    their places."""
+    pairs = groupby(zip_longest(own, other[:len(own)]), lambda pair: pair[0] != pair[1])
+    pieces = ((differs, escape(spell(bytes(byte for byte, _ in some)))) for differs, some in pairs)
+    return ''.join(f'<mark>{piece}</mark>' if differs else piece for differs, piece in pieces)
 
 
 def letters(content: bytes) -> str:
@@ -128,15 +113,6 @@ def letters(content: bytes) -> str:
 
 # --- All fields ---
 
-class FieldLine(NamedTuple):
-    """A line of a field: whether it is of the head of RPC, whether it is not the same in both runs,
-    its label, and all of it."""
-    is_of_head: bool
-    differs: bool
-    label: str
-    text: str
-
-
 def of_messages(first: Message | None, second: Message | None,
                 finding: Finding | None) -> Iterator[str]:
     """All fields of a message of both runs, with what differs first."""
@@ -144,34 +120,33 @@ def of_messages(first: Message | None, second: Message | None,
     if finding:
         told.update(one.label for one in finding.differences)
         told.update(one.label for one in finding.arguments)
-        yield from signed_values(finding)
-    lines = [line for line in field_lines(first, second)
-             if not (line.differs and line.label in told)]
-    own = first_lines([line.text for line in lines if not line.is_of_head])
-    yield markup.block('div', own, 'fields')
-    head = [line.text for line in lines if line.is_of_head]
+        yield from changed_values(finding)
+    own, head = list[str](), list[str]()
+    for is_of_head, differs, label, line in field_lines(first, second):
+        if not (differs and label in told):
+            (head if is_of_head else own).append(line)
+    yield markup.block('div', first_lines(own), 'fields')
     if head:
         yield from markup.folded('head', 'head of RPC', [markup.block('div', head, 'fields')])
 
 
-def field_lines(first: Message | None, second: Message | None) -> Iterator[FieldLine]:
-    """The fields of a message of both runs. If they have not the same fields, those of the second
-    come after those of the first."""
-    if first and second and names_of(first) == names_of(second):
+def field_lines(first: Message | None,
+                second: Message | None) -> Iterator[tuple[bool, bool, str, str]]:
+    """Iterates over the fields of a message of both runs: whether one is of the head of RPC,
+    whether it is not the same in both runs, its label, and its line. If they have not the same
+    fields, those of the second come after those of the first."""
+    names = [[item.name for item in message.items] for message in (first, second) if message]
+    if first and second and names[0] == names[1]:
         both = zip(labelled_values(first), labelled_values(second), first.items, second.items)
-        for (is_head, label, one), (_, _, other), *items in both:
-            here, there = (item.value for item in items)
-            value = one if here == there else parting_of(here, there) or f'{one} | {other}'
-            yield FieldLine(is_head, here != there, label, f'{label}={value}')
+        for (is_head, label, one), (_, _, other), here, there in both:
+            differs = here.value != there.value
+            value = (parting_of(here.value, there.value) or f'{one} | {other}') if differs else one
+            yield is_head, differs, label, f'{label}={value}'
         return
     for sign, message in zip(SIGNS, (first, second)):
         if message:
-            yield from (FieldLine(is_head, True, label, f'{sign}{GLUE}{label}={value}')
+            yield from ((is_head, True, label, f'{sign}{GLUE}{label}={value}')
                         for is_head, label, value in labelled_values(message))
-
-
-def names_of(message: Message) -> list[str]:
-    return [item.name for item in message.items]
 
 
 def labelled_values(message: Message) -> Iterator[tuple[bool, str, str]]:

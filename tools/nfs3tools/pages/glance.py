@@ -1,52 +1,43 @@
 """What differs between two runs, in a few phrases with paths: of which file how many bytes, which
 calls one run has more, and which fields.
 
-    for before, path, after in phrases(compared):
-        print(before + path + after)        # 1 byte of /w/d3/f2 (1 WRITE, 2 READs)
+    for phrase in phrases(compared):
+        print(phrase)        # 1 byte of <code>/w/d3/f2</code> (1 WRITE, 2 READs)
 """
 from __future__ import annotations
 
 from collections import Counter, defaultdict
-from collections.abc import Callable, Sequence
+from collections.abc import Sequence
 from dataclasses import replace
+from html import escape
 from itertools import chain
-from typing import Any, NamedTuple
+from typing import Any
 
 from ..comparison.verdict.findings import Compared, Finding
 from ..exchanges.in_words import short
 from ..recordings.selection import count, plural
-from ..reporting.telling import is_of_equal_values
+from ..reporting.telling import is_of_equal_values, up_to
+from .markup import code
 
 FIELDS_IN_PHRASE = 3  # of a phrase, and arguments
 LONGEST_SHOWN = 40  # characters of a value
 ELSEWHERE = ' on another connection'
 DATA, ONLY, CONNECTION, FIELDS, REPLIES, ORDER, EQUAL = range(7)  # the order of phrases
+# What is only counted, by the kind of its findings: its order, what it is, and the words after it.
+COUNTED = {'connection': (CONNECTION, 'connection', ' only in the {} run'),
+           'order': (ORDER, 'connection', ' with replies in another order'),
+           'sent again': (ORDER, 'call', ' sent again'), 'moved': (ORDER, 'call', ' reordered')}
 Group = Sequence[Finding]  # of one phrase
+Common = tuple[int, tuple[Any, ...]]  # the order of a phrase, and what its findings have in common
 
 
-class Kind(NamedTuple):
-    """Which phrase, what makes it, and what else its findings have in common: of some that are only
-    counted the words before, what is counted, and the words after."""
-    order: int
-    maker: Callable[[Group, 'Kind'], 'Phrase']
-    common: tuple[Any, ...]
-
-
-class Phrase(NamedTuple):
-    """A phrase: what differs, the path of what, if there is one, and more of it."""
-    before: str
-    path: str = ''
-    after: str = ''
-
-
-def phrases(compared: Compared) -> list[Phrase]:
-    """Returns what differs, data first."""
-    groups = defaultdict[Kind, list[Finding]](list)
+def phrases(compared: Compared) -> list[str]:
+    """Returns what differs, data first, as HTML."""
+    groups = defaultdict[Common, list[Finding]](list)
     for finding in chain.from_iterable(map(data_and_rest, compared.findings)):
-        groups[phrase_kind(finding)].append(finding)
-    # (those of one kind stay in the order of the first run)
-    order = sorted(groups.items(), key=lambda one: one[0].order)
-    return [kind.maker(some, kind) for kind, some in order]
+        groups[common_of(finding)].append(finding)
+    # (those of one order stay in that of the first run)
+    return [phrase_of(*one) for one in sorted(groups.items(), key=lambda one: one[0][0])]
 
 
 def data_and_rest(finding: Finding) -> list[Finding]:
@@ -56,35 +47,40 @@ def data_and_rest(finding: Finding) -> list[Finding]:
     return [replace(finding, differences=part) for part in parts] if all(parts) else [finding]
 
 
-def phrase_kind(finding: Finding) -> Kind:
+def common_of(finding: Finding) -> Common:
     """Returns what findings of one phrase have in common."""
-    run, name = finding.run, finding.message.procedure
     if any(one.name == 'data' for one in finding.differences):
-        return Kind(DATA, data_phrase, (finding.path,))
+        return DATA, (finding.path,)
     if finding.kind == 'only':
-        return Kind(ONLY, of_only, (run, name))
-    if finding.kind == 'connection':
-        return Kind(CONNECTION, counted_phrase, ('', 'connection', f' only in the {run} run'))
+        return ONLY, (finding.run, finding.message.procedure)
     if is_of_equal_values(finding):
-        return Kind(EQUAL, counted_phrase,
-                    ('values of ', 'message', ' that correspond to others elsewhere'))
-    if finding.kind == 'order':
-        return Kind(ORDER, counted_phrase, ('', 'connection', ' with replies in another order'))
-    if finding.kind in ('moved', 'sent again'):
-        words = (' sent again' if finding.kind == 'sent again'
-                 else ELSEWHERE if ELSEWHERE in finding.remark else ' reordered')
-        return Kind(ORDER, counted_phrase, ('', 'call', words))
-    fields = tuple(dict.fromkeys(one.field for one in finding.differences))
-    return Kind(REPLIES if finding.kind == 'replies' else FIELDS, of_fields,
-                (fields, finding.message.is_call))
+        return EQUAL, ('message', ' that correspond to others elsewhere')
+    if finding.kind in COUNTED:
+        order, what, words = COUNTED[finding.kind]
+        return order, (what, ELSEWHERE if ELSEWHERE in finding.remark
+                       else words.format(finding.run))
+    return (REPLIES if finding.kind == 'replies' else FIELDS,
+            (fields_of_finding(finding), finding.message.is_call))
 
 
-def counted_phrase(some: Group, kind: Kind) -> Phrase:
-    before, what, after = kind.common
-    return Phrase(f'{before}{count(len(some), what)}{after}')
+def fields_of_finding(finding: Finding) -> tuple[str, ...]:
+    return tuple(dict.fromkeys(one.field for one in finding.differences))
 
 
-def data_phrase(some: Group, _: Kind) -> Phrase:
+def phrase_of(common: Common, some: Group) -> str:
+    order, words = common
+    if order in (DATA, ONLY):
+        return data_phrase(some) if order == DATA else of_only(some)
+    if order in (FIELDS, REPLIES):
+        return of_fields(some, order == REPLIES)
+    return f'{"values of " * (order == EQUAL)}{count(len(some), words[0])}{words[1]}'
+
+
+def phrase(before: str, path: str | None = None, after: str = '') -> str:
+    return f'{escape(before)}{code(path) if path else ""}{escape(after)}'
+
+
+def data_phrase(some: Group) -> str:
     """How many bytes of a file differ. They are counted if all messages show the same bytes."""
     # (of two values of one size, whose offset in the file is known)
     bytes_of_each = {(one.apart.offset, one.apart.differing) if one.apart
@@ -94,58 +90,56 @@ def data_phrase(some: Group, _: Kind) -> Phrase:
     calls = Counter(short(finding.message.procedure) for finding in some)
     # (what is written comes before what is read)
     told = ', '.join(count(number, name) for name, number in sorted(calls.items(), reverse=True))
-    return Phrase(f'{count(number, "byte") if number else "bytes"} of ',
+    return phrase(f'{count(number, "byte") if number else "bytes"} of ',
                   some[0].path or 'files without a known path', f' ({told})')
 
 
-def of_only(some: Group, _: Kind) -> Phrase:
+def of_only(some: Group) -> str:
     """Which calls one run has more, and of one their arguments."""
     run, paths = some[0].run, paths_of(some)
     words = f'{count(len(some), short(some[0].message.procedure))} only in the {run} run'
     if len(paths) != 1:
-        return Phrase(f'{words}: {len(paths):,} paths' if paths else words)
+        return phrase(f'{words}: {len(paths):,} paths' if paths else words)
     if len(some) > 1:
-        return Phrase(f'{words}: ', paths[0], and_others(some))
-    asked = [f' {one.name} {one.meaning or one.value}'
+        return phrase(f'{words}: ', paths[0], and_others(some))
+    asked = [f'{one.name} {one.meaning or one.value}'
              for one in some[0].arguments
              if not one.is_of_path and len(str(one.value)) <= LONGEST_SHOWN]
-    more = ' ..' if len(asked) > FIELDS_IN_PHRASE else ''
-    return Phrase(f'{words}: ', paths[0], ''.join(asked[:FIELDS_IN_PHRASE]) + more)
+    return phrase(f'{words}: ', paths[0],
+                  f' {up_to(FIELDS_IN_PHRASE, asked, " ")}' if asked else '')
 
 
-def of_fields(some: Group, kind: Kind) -> Phrase:
+def of_fields(some: Group, is_of_replies: bool) -> str:
     """Which fields differ, and of one field that always differs alike its values."""
-    paths, (fields, is_call) = paths_of(some), kind.common
-    what = ', '.join(fields[:FIELDS_IN_PHRASE]) + ', ..' * (len(fields) > FIELDS_IN_PHRASE)
-    if kind.order == REPLIES:
-        what = 'another number of replies'
+    paths, fields = paths_of(some), fields_of_finding(some[0])
+    what = 'another number of replies' if is_of_replies else up_to(FIELDS_IN_PHRASE, fields)
     values = both_values(some)
-    after = f'{f": {values}" if values else ""} ({counted_messages(some, is_call)})'
+    after = f'{f": {values}" if values else ""} ({counted_messages(some)})'
     if not paths:
-        return Phrase(what, '', after)
+        return phrase(what + after)
     if len(paths) > 1:
-        return Phrase(f'{what} of {len(paths):,} paths, the first ', paths[0], after)
-    return Phrase(f'{what} of ', paths[0], and_others(some) + after)
+        return phrase(f'{what} of {len(paths):,} paths, the first ', paths[0], after)
+    return phrase(f'{what} of ', paths[0], and_others(some) + after)
 
 
-def counted_messages(some: Group, is_call: bool) -> str:
+def counted_messages(some: Group) -> str:
     """How many messages they are, and of which procedures."""
-    procedures = list(dict.fromkeys(short(one.message.procedure) for one in some))
-    number, names = len(some), ', '.join(procedures)
-    if len(procedures) > 1:
-        return f'{number:,} {"calls of" if is_call else "replies to"} {names}'
-    return (count(number, names) if is_call
-            else f'{number:,} {names} {plural(number, "reply", "replies")}')
+    names, is_call = {short(one.message.procedure): 0 for one in some}, some[0].message.is_call
+    if len(names) > 1:
+        return f'{len(some):,} {"calls of" if is_call else "replies to"} {", ".join(names)}'
+    name = next(iter(names))
+    return (count(len(some), name) if is_call
+            else f'{len(some):,} {name} {plural(len(some), "reply", "replies")}')
 
 
 def both_values(some: Group) -> str:
     """Returns both values of a field, if it is the only one and they are the same in all
     findings."""
-    all_of_it = {(one.first, one.second) for finding in some for one in finding.differences}
     one = next(iter(some[0].differences), None)
-    if one is None or len(all_of_it) != 1 or len(some[0].differences) != 1:
-        return ''
-    if one.apart or one.remark or not (one.first and one.second):
+    if (one is None or len(some[0].differences) != 1 or one.apart or one.remark
+            or not (one.first and one.second)
+            or any((other.first, other.second) != (one.first, one.second)
+                   for finding in some for other in finding.differences)):
         return ''
     first, second = (meaning or str(value)
                      for value, meaning in zip((one.first, one.second), one.meanings))

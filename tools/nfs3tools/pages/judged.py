@@ -89,14 +89,11 @@ def judged_page(seen: Sequence[Seen], allowed: Allowed, tables: Sequence[ShownTa
     several = (f'<section>{of_table(table, "h2")}</section>' for table in tables)
     recordings = (of_recording(one, own, len(names) > 1)
                   for one, own in zip(seen, of_each or [()] * len(names)))
+    notes = [line for verdict in verdicts_in(seen) for line in verdict_notes(verdict)]
     return markup.whole_page(f'{words}: {names[0]}{more}', look, words, chain(
         [FORMS], of_counts(counts), status, [markup.bar('fault', 'row')], several, of_faults(seen),
-        chain.from_iterable(recordings), of_notes(seen)))
-
-
-def of_notes(seen: Sequence[Seen]) -> Iterator[str]:
-    notes = [line for verdict in verdicts_in(seen) for line in verdict_notes(verdict)]
-    return markup.section('Notes', markup.paragraphs(notes)) if notes else iter(())
+        chain.from_iterable(recordings),
+        markup.section('Notes', markup.paragraphs(notes)) if notes else ()))
 
 
 # --- The counts ---
@@ -118,15 +115,16 @@ def title_of(counts: Counts) -> tuple[str, str]:
 
 
 def of_counts(counts: Counts) -> Iterator[str]:
-    """The counts, each with its word."""
+    """The counts, each with its word. One of nothing has no colour."""
     look = BAD if counts.refused else GOOD if counts.ok else ''
-    detail = f' ({counts.ok:,} valid, {counts.refused:,} refused)'
-    yield f'<ul class=counts>{count_element(counts.judged, "judged" + detail, look)}'
-    for word, one in LOOKS_OF_COUNTS:
-        yield count_element(counts.numbers()[word], word, one)
+    shown = [(counts.judged, f'judged ({counts.ok:,} valid, {counts.refused:,} refused)', look),
+             *((counts.numbers()[word], word, one) for word, one in LOOKS_OF_COUNTS)]
     if counts.unanswered:
         calls = plural(counts.unanswered, 'call', 'calls')
-        yield count_element(counts.unanswered, f'{calls} without a reply', PARTIAL)
+        shown.append((counts.unanswered, f'{calls} without a reply', PARTIAL))
+    yield '<ul class=counts>'
+    yield from (f'<li{class_of(one) if number else ""}><b>{number:,}</b> {words}</li>'
+                for number, words, one in shown)
     yield '</ul>'
 
 
@@ -145,21 +143,16 @@ def of_status(counts: Counts, status: int, allowed: Allowed) -> Iterator[str]:
     yield '</p>'
 
 
-def count_element(number: int, words: str, look: str) -> str:
-    """A count. One of nothing has no colour."""
-    return f'<li{class_of(look) if number else ""}><b>{number:,}</b> {escape(words)}</li>'
-
-
 # --- Tables ---
 
 def of_table(table: ShownTable, level: str) -> str:
-    shown, valid = (f'<div class={table.look}>{"".join(markup.table(table.heads, rows))}</div>'
-                    for rows in (table.rows, table.valid))
-    folded = markup.folded('valid', count(len(table.valid), 'connection') + ' ok', [valid],
-                           '' if table.rows else ' open')
-    return ''.join([f'<{level}>{escape(table.title)}</{level}>',
-                    shown if table.rows or not table.valid else '',
-                    *(folded if table.valid else ())])
+    def of_rows(rows: Sequence[str]) -> Iterator[str]:
+        return chain([f'<div class={table.look}>'], markup.table(table.heads, rows), ['</div>'])
+    title = [f'<{level}>{escape(table.title)}</{level}>']
+    shown = of_rows(table.rows) if table.rows or not table.valid else ()
+    folded = markup.folded('valid', count(len(table.valid), 'connection') + ' ok',
+                           of_rows(table.valid), '' if table.rows else ' open')
+    return ''.join(chain(title, shown, folded if table.valid else ()))
 
 
 def as_printed(title: str, rows: Sequence[Styled], numbers: Container[int]) -> ShownTable:
@@ -184,22 +177,20 @@ def row_of_cells(cells: Sequence[str], numbers: Container[int], heads: Sequence[
 def table_of(seen: Sequence[Seen]) -> ShownTable:
     """The table of `tools/verdicts`, whose faults lead to what is said of them. What is refused or
     could not be read comes first, and what is ok is folded."""
-    numbers, verdicts = range(4, 6), [*filter(is_row, verdicts_in(seen))]
+    verdicts = [*filter(is_row, verdicts_in(seen))]
     links = {id(fault.verdict): f'#f{number}' for number, fault, _ in numbered_faults(seen)}
 
     def rows(some: Iterable[Verdict]) -> list[str]:
-        return [row_of_cells(verdict_row(verdict._replace(message=said_of(verdict))), numbers,
-                             VERDICT_HEADS, look_of(verdict), links.get(id(verdict), ''))
+        # (a verdict is green only if calls were checked)
+        return [row_of_cells(verdict_row(verdict._replace(message=said_of(verdict))), range(4, 6),
+                             VERDICT_HEADS,
+                             '' if verdict.state == 'ok' and is_raw(verdict)
+                             else LOOKS[verdict.state], links.get(id(verdict), ''))
                 for verdict in some]
     wrong = sorted((verdict for verdict in verdicts if verdict.state != 'ok'),
                    key=lambda verdict: LOOKS[verdict.state] != BAD)
     valid = rows(verdict for verdict in verdicts if verdict.state == 'ok')
     return ShownTable('Connections', VERDICT_HEADS, rows(wrong), 'cards', valid)
-
-
-def look_of(verdict: Verdict) -> str:
-    """Returns how a verdict looks. It is green only if calls were checked."""
-    return '' if verdict.state == 'ok' and is_raw(verdict) else LOOKS[verdict.state]
 
 
 def is_raw(verdict: Verdict) -> bool:

@@ -9,7 +9,6 @@ STYLE = '''
   --line: #8885; --soft: #8881; --quiet: #57606a; --link: #0550ae; --here: #0969da;
   --minus: #a1260d; --minus-back: #d1242f1f; --plus: #0b5e3b; --plus-back: #1a7f371f;
   --part: #7d4e00; --dot: #0969da; --mark: #f5c51899;
-  --mono: ui-monospace, SFMono-Regular, Menlo, Consolas, "DejaVu Sans Mono", monospace;
 }
 @media (prefers-color-scheme: dark) {
   :root {
@@ -29,19 +28,19 @@ h1 { font-size: 26px; line-height: 1.2; margin: 24px 0 8px }
 h2 { font-size: 19px; margin: 32px 0 8px }
 h3 { font-size: 15px; margin: 0 }
 p { margin: 6px 0 }
-code, pre, .change, .fields { font-family: var(--mono); font-size: 13px }
-.quiet, .gap, dt { color: var(--quiet) }
+code, pre, .change, .fields, .sign {
+  font-family: ui-monospace, SFMono-Regular, Menlo, Consolas, "DejaVu Sans Mono", monospace
+}
+code, pre, .change, .fields, .row h4, .head > summary { font-size: 13px }
+.quiet, .gap, dt, .counts, .head > summary { color: var(--quiet) }
 .minus, .differ { color: var(--minus) }
 .plus, .same { color: var(--plus) }
 .part { color: var(--part) }
 .glance code { font-size: 15px }
 .glance { font-size: 17px; margin: 10px 0 }
-.about { margin: 14px 0 }
 mark { color: inherit; background: var(--mark); border-radius: 2px; font-weight: 700 }
-.text {
-  color: CanvasText; border: 1px solid var(--line); border-radius: 4px; padding: 0 5px;
-  white-space: pre-wrap; display: inline-block
-}
+.text, .filter { border: 1px solid var(--line); border-radius: 4px; padding: 0 5px }
+.text { color: CanvasText; white-space: pre-wrap; display: inline-block }
 summary { cursor: pointer }
 button { font: inherit; font-size: 13px; padding: 3px 10px; cursor: pointer }
 
@@ -52,8 +51,9 @@ td, th {
 }
 thead th { background: var(--soft); font-weight: 600; overflow-wrap: normal }
 td.count { text-align: right }
-.runs { table-layout: fixed; width: 100%; margin: 14px 0 }
+.runs { table-layout: fixed; width: 100% }
 .runs th:first-child { width: 9.5em }
+.about, .runs, .counts, .connection { margin: 14px 0 }
 dl { display: grid; grid-template-columns: 8.5em 1fr; gap: 4px 10px; margin: 14px 0 }
 dd { margin: 0 }
 
@@ -69,12 +69,13 @@ dd { margin: 0 }
 .js .bar { display: flex }
 .js .copy { display: inline-block }
 
-article { border: 1px solid var(--line); border-radius: 6px; margin: 10px 0; padding: 8px 12px }
+article, .counts li { border: 1px solid var(--line); border-radius: 6px; padding: 4px 12px }
+article { margin: 10px 0; padding: 8px 12px }
 article, .row { scroll-margin-top: 100px }
 article.here, article:target, .row:target { outline: 2px solid var(--here); outline-offset: -1px }
 .place { display: grid; grid-template-columns: 1.3em 1fr; align-items: baseline }
-.sign { font-family: var(--mono); font-weight: 700 }
-.filter { user-select: all; border: 1px solid var(--line); border-radius: 4px; padding: 0 5px }
+.sign { font-weight: 700 }
+.filter { user-select: all }
 .js .filter {
   position: absolute; width: 1px; height: 1px; padding: 0; border: 0; overflow: hidden;
   clip-path: inset(50%); white-space: nowrap
@@ -83,11 +84,7 @@ article.here, article:target, .row:target { outline: 2px solid var(--here); outl
 .change div { padding: 0 6px }
 .change .minus { background: var(--minus-back) }
 .change .plus { background: var(--plus-back) }
-.counts {
-  list-style: none; display: flex; flex-wrap: wrap; gap: 6px 10px; padding: 0; margin: 14px 0;
-  color: var(--quiet)
-}
-.counts li { border: 1px solid var(--line); border-radius: 6px; padding: 4px 12px }
+.counts { list-style: none; display: flex; flex-wrap: wrap; gap: 6px 10px; padding: 0 }
 .counts b { font-size: 19px }
 .wide { overflow-x: auto; margin: 8px 0 }
 .wide td, .wide th { overflow-wrap: normal; white-space: nowrap; padding: 3px 6px; font-size: 13px }
@@ -102,7 +99,7 @@ td.minus a { color: var(--minus) }
 .wide th[aria-sort]::after { content: " \\2193" }
 .wide th[aria-sort=ascending]::after { content: " \\2191" }
 .valid { margin: 8px 0 }
-pre { overflow-x: auto; font-size: 13px; margin: 6px 0; line-height: 1.4; white-space: pre-wrap }
+pre { overflow-x: auto; margin: 6px 0; line-height: 1.4; white-space: pre-wrap }
 .line {
   display: block; width: calc(100% - 84px); margin: 10px 20px 0 64px; overflow: visible;
   font-size: 12px
@@ -119,17 +116,15 @@ pre { overflow-x: auto; font-size: 13px; margin: 6px 0; line-height: 1.4; white-
 
 details ol { margin: 6px 0; padding-left: 3.5em }
 
-.connection { margin: 14px 0 }
 .connection h3 { background: var(--soft); padding: 3px 10px; border-radius: 4px }
 .row { border-bottom: 1px solid var(--line); padding: 2px 4px }
 .many .row { content-visibility: auto; contain-intrinsic-size: auto 30px }
 .row.told { background: var(--soft) }
-.row h4 { margin: 6px 0 0 1.5em; font-size: 13px; font-weight: 600 }
+.row h4 { margin: 6px 0 0 1.5em; font-weight: 600 }
 .mark { display: inline-block; width: 1.3em }
 .gap { text-align: center; padding: 3px }
 .fields { white-space: pre-wrap; columns: 3 22em; column-gap: 24px; margin: 4px 0 10px 1.5em }
 .row .change, .row .head { margin: 4px 0 4px 1.5em }
-.head > summary { font-size: 13px; color: var(--quiet) }
 .head .fields { margin-left: 0 }
 @media (max-width: 600px) {
   body { padding: 0 10px 40px }
@@ -157,16 +152,14 @@ details ol { margin: 6px 0; padding-left: 3.5em }
 SCRIPT = '''
 'use strict';
 document.documentElement.className = 'js';
-const every = selector => [...document.querySelectorAll(selector)], \
-  findings = every('article'), rows = every('.row'), texts = new Map();
-const [find, found, heading] = ['#find', '#found', '#findings h2'].map( \
-  selector => document.querySelector(selector)), whole = heading && heading.textContent;
-const visible = some => some.filter(one => !one.hidden);
+const every = selector => [...document.querySelectorAll(selector)],
+  visible = some => some.filter(one => !one.hidden),
+  plain = text => text.replaceAll('\\u00a0', ' ').trim().toLowerCase(),
+  counted = (number, word) => `${number.toLocaleString('en')} ${word}${number === 1 ? '' : 's'}`,
+  findings = every('article'), rows = every('.row'), texts = new Map(),
+  [find] = every('#find'), [found] = every('#found'), [heading] = every('#findings h2'),
+  whole = heading?.textContent, words = find?.parentElement.dataset;
 let here = null;
-
-function plain(text) {
-  return text.replaceAll('\\u00a0', ' ').trim().toLowerCase();
-}
 
 function has(element, text) {
   if (!texts.has(element)) texts.set(element, plain(element.textContent));
@@ -187,35 +180,31 @@ function search() {
     one.hidden = !isAll && !isFound(one, text);
     if (one.matches('.valid')) one.open ||= !isAll && !one.hidden;
   }
-  const seen = visible(findings), \
-    differing = counted(seen.length, find.parentElement.dataset.found), \
-    messages = seen.reduce((sum, one) => sum + Number(one.dataset.messages), 0);
-  if (heading) \
-    heading.textContent = isAll ? whole : `${differing} in ${counted(messages, 'message')}`;
+  if (heading && isAll) heading.textContent = whole;
+  else if (heading) {
+    const seen = visible(findings),
+      messages = seen.reduce((sum, one) => sum + Number(one.dataset.messages), 0);
+    heading.textContent = `${counted(seen.length, words.found)} in ${counted(messages, 'message')}`;
+  }
   tell();
 }
 
-function counted(number, word) {
-  return `${number.toLocaleString('en')} ${word}${number === 1 ? '' : 's'}`;
-}
-
 function tell() {
-  const seen = visible(findings), at = seen.indexOf(here), words = find.parentElement.dataset, \
-    others = counted(visible(rows).length, words.rows);
-  const all = findings.length ? `${counted(seen.length, words.found)}, ${others}` : others;
+  const seen = visible(findings), at = seen.indexOf(here),
+    several = findings.length ? [counted(seen.length, words.found)] : [],
+    all = [...several, counted(visible(rows).length, words.rows)].join(', ');
   found.textContent = `${at < 0 ? '' : `${at + 1} of `}${all}`;
 }
 
 function stay(element) {
-  if (here) here.classList.remove('here');
+  here?.classList.remove('here');
   here = element;
   here.classList.add('here');
   tell();
 }
 
 function show(element) {
-  for (let one = element.parentElement.closest('details'); one; \
-    one = one.parentElement.closest('details')) one.open = true;
+  for (const one of every('details')) one.open ||= one !== element && one.contains(element);
   element.scrollIntoView({block: 'start'});
 }
 
@@ -239,12 +228,12 @@ function worth(row, at) {
 
 // The largest first, or after another click the smallest. The row of sums stays the last.
 function sort(head) {
-  const at = head.cellIndex, body = head.closest('table').tBodies[0], \
-    isUp = head.getAttribute('aria-sort') === 'descending', \
+  const at = head.cellIndex, body = head.closest('table').tBodies[0],
+    isUp = head.getAttribute('aria-sort') === 'descending',
     isSum = row => row.cells[0].textContent === 'in all';
-  const compared = (one, other) => typeof one === typeof other \
+  const compared = (one, other) => typeof one === typeof other
     ? (one < other) - (one > other) : (typeof one === 'number') - (typeof other === 'number');
-  const ordered = [...body.rows].sort((one, other) => isSum(one) - isSum(other) \
+  const ordered = [...body.rows].sort((one, other) => isSum(one) - isSum(other)
     || compared(worth(one, at), worth(other, at)) * (isUp ? -1 : 1));
   for (const one of head.parentElement.cells) one.removeAttribute('aria-sort');
   head.setAttribute('aria-sort', isUp ? 'ascending' : 'descending');
@@ -268,10 +257,12 @@ for (const head of every('.wide th')) {
   head.addEventListener('keydown', event => event.key === 'Enter' && sort(head));
 }
 if (find) {
-  for (const one of every('#next, #previous')) one.hidden = !findings.length;
+  for (const [name, step] of [['#next', 1], ['#previous', -1]]) {
+    const [button] = every(name);
+    button.hidden = !findings.length;
+    button.addEventListener('click', () => go(step));
+  }
   find.addEventListener('input', search);
-  document.getElementById('next').addEventListener('click', () => go(1));
-  document.getElementById('previous').addEventListener('click', () => go(-1));
   document.addEventListener('click', event => event.target.matches('.copy') && copy(event.target));
   document.addEventListener('keydown', event => {
     if (event.target === find || event.ctrlKey || event.altKey || event.metaKey) return;

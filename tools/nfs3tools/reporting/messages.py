@@ -58,18 +58,12 @@ def status_of_tool(name: str, main: typing.Callable[[list[str]], int]) -> int:
         status = exit_status(main)
         flush_all()
         return status
-    except NotTaken as refused:
-        return ended(name, advice_on(refused, name), REFUSED)
-    except (NoPlace, Missing, FilterRefused, Refused) as refused:
-        return ended(name, str(refused), REFUSED)
+    except (NotTaken, NoPlace, Missing, FilterRefused, Refused) as refused:
+        return ended(name, failure_text(refused, name), REFUSED)
     except BrokenPipeError:
         return FAILED
-    except OSError as failed:
-        return ended(name, error_text(failed), FAILED)
-    except Died as died:
-        return ended(name, str(died), FAILED)
-    except MemoryError:
-        return ended(name, 'out of memory', FAILED)
+    except (OSError, Died, MemoryError) as failed:
+        return ended(name, failure_text(failed, name), FAILED)
 
 
 def exit_status(main: typing.Callable[[list[str]], int]) -> int:
@@ -144,6 +138,15 @@ def ignore_signals() -> None:
 
 
 # --- Messages ---
+
+def failure_text(failed: Exception, name: str) -> str:
+    """Returns what is said of a failure by a tool of this name."""
+    if isinstance(failed, NotTaken):
+        return advice_on(failed, name)
+    if isinstance(failed, OSError):
+        return error_text(failed)
+    return 'out of memory' if isinstance(failed, MemoryError) else str(failed)
+
 
 def error_text(failed: OSError) -> str:
     """What failed, with the name of the file if there is one."""
@@ -301,9 +304,3 @@ def recording_lines(taken: Taken, has_taken: bool = True) -> list[str]:
         lines += [f'connection {connection.number} {note}' for note in connection.notes]
     return (lines + [f'left out: {line}' for line in taken.left_out]
             + [f'{remark.word}: {remark.reason}' for remark in taken.remarks])
-
-
-def print_recording(taken: Taken) -> None:
-    """Prints that on standard error."""
-    for line in recording_lines(taken):
-        print(line, file=sys.stderr)

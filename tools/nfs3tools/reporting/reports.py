@@ -47,14 +47,23 @@ def json_of_comparison(report: Report, compared: Compared, left_out: Counter[tup
                   'on_another_connection': compared.elsewhere},
         'fields': field_counts(compared.fields()), 'ignored': field_counts(left_out),
         'left_out': [{'procedure': one.message.procedure, 'path': one.path,
-                      'first': of_message(one.first, framings[0]),
-                      'second': of_message(one.second, framings[1]),
-                      'kind': one.kind, 'why': one.remark or None} for one in compared.silent],
-        'accepted': report.accepted and accepted_object(report.accepted, framings)}
-    yield json.dumps(head, indent=1).removesuffix('\n}').encode() + b',\n "findings": ['
-    for number, finding in enumerate(compared.findings):
-        yield b',\n  ' if number else b'\n  '
-        yield json.dumps(of_finding(finding, *framings)).encode()
+                      **both_positions(one, framings), 'kind': one.kind, 'why': one.remark or None}
+                      for one in compared.silent],
+        'accepted': report.accepted and {
+            'count': len(report.accepted.findings),
+            'findings': [of_finding(one, framings) for one in report.accepted.findings],
+            'no_longer_found': report.accepted.no_longer_found}}
+    yield from json_with_list(head, 'findings', (
+        [b'  ', json.dumps(of_finding(one, framings)).encode()] for one in compared.findings))
+
+
+def json_with_list(head: dict[str, Any], name: str,
+                   items: Iterable[Iterable[bytes]]) -> Iterator[bytes]:
+    """An object whose last member is a list, of which each item is given in pieces."""
+    yield json.dumps(head, indent=1).removesuffix('\n}').encode() + f',\n "{name}": ['.encode()
+    for number, item in enumerate(items):
+        yield b',\n' if number else b'\n'
+        yield from item
     yield b'\n ]\n}\n'
 
 
@@ -69,18 +78,18 @@ def json_of_parts(marks: str, covers: Sequence[Cover], parts: Sequence[PartRepor
                   framings: Sequence[Framing]) -> Iterator[bytes]:
     """The comparison of parts, in pieces: an object with a list of the parts. What is said of a
     part is an object as of whole runs."""
-    yield json.dumps({'version': REPORT_VERSION, 'marks': escaped(marks),
-                      'runs': [*map(cover_members, covers)]},
-                     indent=1).removesuffix('\n}').encode() + b',\n "parts": ['
-    for turn, part in enumerate(parts):
-        head = {'name': part.name.plain, 'number': part.name.number, 'verdict': part.word(),
-                'only': part.only}
-        yield ((b',\n' if turn else b'\n') + json.dumps(head).removesuffix('}').encode()
-               + b', "comparison": ')
-        yield from json_of_comparison(part.report, part.compared, part.left_out,
-                                      framings) if part.report else [b'null\n']
-        yield b'}'
-    yield b'\n ]\n}\n'
+    head = {'version': REPORT_VERSION, 'marks': escaped(marks),
+            'runs': [*map(cover_members, covers)]}
+    return json_with_list(head, 'parts', (json_of_part(part, framings) for part in parts))
+
+
+def json_of_part(part: PartReport, framings: Sequence[Framing]) -> Iterator[bytes]:
+    head = {'name': part.name.plain, 'number': part.name.number, 'verdict': part.word(),
+            'only': part.only}
+    yield json.dumps(head).removesuffix('}').encode() + b', "comparison": '
+    yield from json_of_comparison(part.report, part.compared, part.left_out,
+                                  framings) if part.report else [b'null\n']
+    yield b'}'
 
 
 def ways_by_class(mask: Mask) -> dict[str, str]:
@@ -92,49 +101,37 @@ def field_counts(fields: Counter[tuple[str, str]]) -> list[dict[str, Any]]:
             for (procedure, field), number in fields.most_common()]
 
 
-def of_finding(finding: Finding, first: Framing, second: Framing) -> dict[str, Any]:
+def of_finding(finding: Finding, framings: Sequence[Framing]) -> dict[str, Any]:
     message = finding.message
     return {'kind': finding.kind, 'procedure': message.procedure, 'is_call': message.is_call,
-            'path': finding.path,
-            'first': of_message(finding.first, first),
-            'second': of_message(finding.second, second), 'remark': finding.remark,
+            'path': finding.path, **both_positions(finding, framings), 'remark': finding.remark,
             'differences': [difference_object(one) for one in finding.differences],
             'arguments': [{'label': one.label, 'value': short_value(one.value),
                            'name': one.meaning or None} for one in finding.arguments]}
 
 
-def accepted_object(accepted: Split, framings: Sequence[Framing]) -> dict[str, Any]:
-    return {'count': len(accepted.findings),
-            'findings': [of_finding(one, *framings) for one in accepted.findings],
-            'no_longer_found': accepted.no_longer_found}
-
-
-def of_message(message: Message | None, framing: Framing) -> dict[str, Any] | None:
-    return None if message is None else {'position': message.place,
-                                         'frames': list(framing(message))}
+def both_positions(one: Finding, framings: Sequence[Framing]) -> dict[str, Any]:
+    """Returns where the messages of both runs are."""
+    return {run: message and {'position': message.place, 'frames': list(framing(message))}
+            for run, message, framing in zip(RUNS, (one.first, one.second), framings)}
 
 
 def difference_object(difference: Difference) -> dict[str, Any]:
     """The values are as the listing spells them. Long ones are cut, and have a digest of their
     bytes."""
-    parting = difference.apart and {
-        'at': difference.apart.at, 'offset': difference.apart.offset,
-        'differing': difference.apart.differing,
-        'sizes': difference.apart.sizes, 'shown': difference.apart.shown,
-        'sha256': [*map(digest_of, (difference.first, difference.second))]}
+    both, apart = (difference.first, difference.second), difference.apart
+    parting = apart and {
+        'at': apart.at, 'offset': apart.offset, 'differing': apart.differing,
+        'sizes': apart.sizes, 'shown': apart.shown,
+        'sha256': [value.digest if isinstance(value, Long) else None for value in both]}
     return {'field': difference.field, 'label': difference.label,
-            'first': short_value(difference.first), 'second': short_value(difference.second),
+            **dict(zip(RUNS, map(short_value, both))),
             'remark': difference.remark, 'names': [name or None for name in difference.meanings],
             'apart': parting}
 
 
 def short_value(value: Value | None) -> str | None:
     return shortened(value) if isinstance(value, Long) else value
-
-
-def digest_of(value: Value | None) -> str | None:
-    """Returns the digest of a value of which the JSON has no more than the beginning."""
-    return value.digest if isinstance(value, Long) else None
 
 
 # --- JUnit XML ---
@@ -182,41 +179,40 @@ def junit_of_comparison(line: str, report: Report, compared: Compared, framings:
     refused has a case with an error."""
     groups = [] if is_good else groups_alike(compared.findings)
     cases = Cases(report.names, report.covers, report.accepted)
+    more = more_than_cases(groups, ' have no case')
     silent = [*telling.of_accepted(report.accepted, framings, True),
               *of_silent(compared, framings, CASES_AT_MOST)]
-    more = ([f'{len(groups) - CASES_AT_MOST:,} more findings have no case']
-            if len(groups) > CASES_AT_MOST else [])
     if is_good:
         cases.add('the runs are the same', text=[line, *silent])
     else:
         cases.add('the runs are the same', 'failure', line, [*more, *silent], type=report.word())
     for group in groups[:CASES_AT_MOST]:
-        cases.add(case_name(group), 'failure', brief_of(group, *framings),
-                  of_group(group, *framings), type=group[0].kind)
+        cases.add(case_name(group), 'failure', brief_of(group, framings),
+                  of_group(group, framings), type=group[0].kind)
     return cases.written()
+
+
+def more_than_cases(groups: Sequence[object], words: str = '') -> list[str]:
+    """Returns how many groups of findings are left out, if some are."""
+    more = len(groups) - CASES_AT_MOST
+    return [f'{more:,} more findings{words}'] if more > 0 else []
 
 
 def case_name(group: Sequence[Finding]) -> str:
     """Returns the name of a case. It is the same in the next run if that differs in the same way:
     it has no numbers of records and frames, no ports, and does not say how many there are."""
-    finding, paths, is_one_run = (
-        group[0], {one.path for one in group},
-        (group[0].first is None) != (group[0].second is None))
-    message = finding.message
-    if finding.kind == 'order':
-        return 'the order of replies'
-    only = f'only in the {finding.run} run: ' if is_one_run else ''
-    if finding.kind == 'connection':
-        return f'{only}a connection'
+    finding, paths = group[0], {one.path for one in group}
+    only = telling.only_in(finding)
+    if finding.kind in telling.OF_CONNECTIONS:
+        return f'{only}a connection' if only else 'the order of replies'
     if is_summed(group):
         return 'values that correspond to others elsewhere'
-    words = [short(message.procedure) + ('' if message.is_call else ' reply'),
-             *({finding.path} - {None} if len(paths) == 1 else ())]
-    fields = list(dict.fromkeys(difference.field for difference in finding.differences))
-    words += [', '.join(fields[:FIELDS_IN_CASE_NAME]) + (', ..' if len(fields) > FIELDS_IN_CASE_NAME
-                                                         else '')] if fields else []
-    return only + ' '.join(filter(None, words)) + (f': {KIND_WORDS[finding.kind]}'
-                                                   if finding.kind in KIND_WORDS else '')
+    name = short(finding.message.procedure) + ('' if finding.message.is_call else ' reply')
+    path = finding.path if len(paths) == 1 else None
+    fields = list(dict.fromkeys(one.field for one in finding.differences))
+    words = ' '.join(filter(None, [name, path, telling.up_to(FIELDS_IN_CASE_NAME, fields)]))
+    kind = KIND_WORDS.get(finding.kind)
+    return f'{only}{words}' + (f': {kind}' if kind else '')
 
 
 def junit_of_parts(names: Sequence[str], covers: Sequence[Cover], losses: str,
@@ -233,11 +229,9 @@ def junit_of_parts(names: Sequence[str], covers: Sequence[Cover], losses: str,
             cases.add(str(part.name), text=[part.line(), *silent])
         else:
             groups = groups_alike(part.compared.findings)
-            texts = [line for group in groups[:CASES_AT_MOST]
-                     for line in of_group(group, *framings)] + silent
-            more = ([f'{len(groups) - CASES_AT_MOST:,} more findings']
-                    if len(groups) > CASES_AT_MOST else [])
-            cases.add(str(part.name), 'failure', part.line(), [*texts, *more], type=part.word())
+            texts = [line for group in groups[:CASES_AT_MOST] for line in of_group(group, framings)]
+            cases.add(str(part.name), 'failure', part.line(),
+                      [*texts, *silent, *more_than_cases(groups)], type=part.word())
     return cases.written()
 
 

@@ -3,6 +3,7 @@ from __future__ import annotations
 
 from collections import Counter, defaultdict
 from collections.abc import Iterable, Iterator, Sequence
+from itertools import chain
 
 from ..comparison.values import long_values
 from ..comparison.verdict.accepted import Split, entry_text
@@ -11,6 +12,7 @@ from ..comparison.verdict.findings import Compared, Finding, Framing
 from ..exchanges.listing import Message
 from ..exchanges.stored import Long, Value
 
+OF_CONNECTIONS = ('order', 'connection')  # kinds of findings
 # Why calls of both runs are left out.
 WHY_LEFT_OUT = {'explained': 'explained by order', 'sent again': 'sent again'}
 LONGEST_VALUE, LONGEST_NAME = 128, 1024  # characters, as the listing spells them
@@ -39,23 +41,23 @@ def frames_text(message: Message | None, framing: Framing) -> str:
     return f' (frame {some}{" .." if len(numbers) > LONGEST_LIST else ""})'
 
 
+def signed_rows(difference: Difference) -> list[tuple[str, str, str]]:
+    """The values of both runs: of each its sign, as `diff` has it, the value after its label, and a
+    remark, which only the last one has. A value that is equal in both runs is one."""
+    signs = [('=', 0)] if difference.is_equal else [
+        (sign, run) for run, sign in enumerate('-+')
+        if (difference.first, difference.second)[run] is not None]
+    apart = [long_values.parting_in_words(difference.apart)] if difference.apart else []
+    remark = '; '.join(filter(None, [*apart, difference.remark]))
+    return [(sign, f'{difference.label}={value_of(difference, run)}',
+             remark if (sign, run) == signs[-1] else '') for sign, run in signs]
+
+
 def difference_lines(difference: Difference) -> Iterator[str]:
     """Two lines, as `diff` has them, and a remark after the second. A value that is equal in both
     runs is one line."""
-    remark = f'    # {remark_on(difference)}' if remark_on(difference) else ''
-    if difference.is_equal:
-        yield f'  = {difference.label}={value_of(difference, 0)}{remark}'
-        return
-    if difference.first is not None:
-        yield (f'  - {difference.label}={value_of(difference, 0)}'
-               + (remark if difference.second is None else ''))
-    if difference.second is not None:
-        yield f'  + {difference.label}={value_of(difference, 1)}{remark}'
-
-
-def remark_on(difference: Difference) -> str:
-    parts = [long_values.parting_in_words(difference.apart)] if difference.apart else []
-    return '; '.join([*parts, *filter(None, [difference.remark])])
+    return (f'  {sign} {value}' + (f'    # {remark}' if remark else '')
+            for sign, value, remark in signed_rows(difference))
 
 
 def value_of(difference: Difference, number: int) -> str:
@@ -75,13 +77,11 @@ def value_with_meaning(name: str, value: Value, meaning: str) -> str:
     return shortened(value) + (f' ({meaning})' if meaning else '')
 
 
-def of_arguments(finding: Finding) -> Iterator[str]:
+def of_arguments(finding: Finding) -> list[str]:
     """Returns the arguments of a call that one run alone has, but for those that its path names."""
     sign = '+' if finding.first is None else '-'
-    for argument in finding.arguments:
-        if not argument.is_of_path or finding.path is None:
-            yield (f'{sign} {argument.label}='
-                   f'{value_with_meaning(argument.name, argument.value, argument.meaning)}')
+    return [f'{sign} {one.label}={value_with_meaning(one.name, one.value, one.meaning)}'
+            for one in finding.arguments if not one.is_of_path or finding.path is None]
 
 
 def groups_alike(findings: Iterable[Finding]) -> list[list[Finding]]:
@@ -104,7 +104,7 @@ def said_by(finding: Finding) -> object:
     they have in common. Calls of one run alone say which file they ask for, and what of it. Returns
     None for what is said of a connection."""
     message = finding.message
-    if finding.kind in ('order', 'connection'):
+    if finding.kind in OF_CONNECTIONS:
         return None
     if is_of_equal_values(finding):
         return 'equal values'
@@ -121,130 +121,121 @@ def is_summed(findings: Sequence[Finding]) -> bool:
     return len(findings) > 1 and is_of_equal_values(findings[0])
 
 
-def what_of(findings: Sequence[Finding]) -> str:
-    """Which messages they are, and the path of the first."""
+def messages_text(findings: Sequence[Finding]) -> str:
+    """Which messages they are, several by their number."""
+    message, number = findings[0].message, len(findings)
+    if is_summed(findings):
+        return (f'{number:,} messages have values that are equal in both runs, '
+                'and that correspond to others elsewhere')
+    if number == 1:
+        return f'{message.procedure} {"call" if message.is_call else "reply"}'
+    return f'{number:,} {"calls" if message.is_call else "replies"} of {message.procedure}'
+
+
+def only_in(finding: Finding) -> str:
+    """What is said before what one run alone has. The order of replies is of both."""
+    is_of_both = finding.kind == 'order' or finding.first and finding.second
+    return '' if is_of_both else f'only in the {finding.run} run: '
+
+
+def group_heading(findings: Sequence[Finding], framings: Sequence[Framing]) -> str:
+    """Which messages they are, and the places of the first in both runs."""
     finding, paths = findings[0], {finding.path for finding in findings}
-    message = finding.message
+    if finding.kind in OF_CONNECTIONS:
+        return f'{only_in(finding)}connection {finding.message.connection}'
+    what, known = messages_text(findings).removesuffix(' call'), len(paths - {None})
     path = f' {finding.path}' if finding.path else ''
     if is_summed(findings):
-        return (f'{len(findings):,} messages have values that are equal in both runs, '
-                'and that correspond to others elsewhere, first')
-    if len(findings) == 1:
-        return f'{message.procedure}{"" if message.is_call else " reply"}{path}'
-    what = f'{len(findings):,} {"calls" if message.is_call else "replies"} of {message.procedure}'
-    known = f' on {len(paths - {None}):,} paths' if len(paths - {None}) > 1 else ''
-    return f'{what}{path}, first' if len(paths) == 1 else f'{what}{known}, first{path}'
+        what += ', first'
+    elif len(paths) == 1:
+        what += path + ', first' * (len(findings) > 1)
+    else:
+        what += f' on {known:,} paths' * (known > 1) + f', first{path}'
+    return f'{only_in(finding)}{what}: {places_text(finding, framings)}'
 
 
-def group_heading(findings: Sequence[Finding], first: Framing, second: Framing) -> str:
-    """Which messages they are, and the places of the first in both runs."""
-    finding = findings[0]
-    one, other, message, run = finding.first, finding.second, finding.message, finding.run
-    if finding.kind == 'order':
-        return f'connection {message.connection}'
-    if one and other:
-        return f'{what_of(findings)}: {places_text(one, other, first, second)}'
-    if finding.kind == 'connection':
-        return f'only in the {run} run: connection {message.connection}'
-    return (f'only in the {run} run: {what_of(findings)}: '
-            f'{message.place}{frames_text(message, first if one else second)}')
-
-
-def of_group(findings: Sequence[Finding], first: Framing, second: Framing) -> Iterator[str]:
+def of_group(findings: Sequence[Finding], framings: Sequence[Framing]) -> Iterator[str]:
     if is_summed(findings):
-        yield brief_of(findings, first, second)
+        yield brief_of(findings, framings)
         return
-    yield group_heading(findings, first, second)
+    yield group_heading(findings, framings)
     if findings[0].remark:
         yield f'  {findings[0].remark}'
-    for difference in findings[0].differences:
-        yield from difference_lines(difference)
+    yield from chain.from_iterable(map(difference_lines, findings[0].differences))
     yield from (f'  {line}' for line in of_arguments(findings[0]))
 
 
-def brief_of(findings: Sequence[Finding], first: Framing, second: Framing) -> str:
+def brief_of(findings: Sequence[Finding], framings: Sequence[Framing]) -> str:
     """One line for findings that say the same."""
     finding = findings[0]
     if is_summed(findings):
-        fields = Counter((one.message.procedure, difference.field) for one in findings
-                         for difference in one.differences)
-        return (f'{group_heading(findings, first, second)}: '
-                f'{fields_text(fields.most_common(FIELDS_AT_MOST))}')
-    said = [*([finding.remark] if finding.remark else []),
-            *map(brief_difference, finding.differences),
-            *(line.replace(' ', '', 1) for line in of_arguments(finding))]
-    return ': '.join([group_heading(findings, first, second), *(['; '.join(said)] if said else [])])
+        fields = Compared([*findings]).fields()
+        said = [fields_text(fields.most_common(FIELDS_AT_MOST))]
+    else:
+        said = [*filter(None, [finding.remark]), *map(brief_difference, finding.differences),
+                *(line.replace(' ', '', 1) for line in of_arguments(finding))]
+    return ': '.join(filter(None, [group_heading(findings, framings), '; '.join(said)]))
 
 
 def brief_difference(difference: Difference) -> str:
-    """A difference in a part of a line. If one run alone has the item, it is as in
-    `difference_lines`."""
-    if difference.second is None:
-        return f'-{difference.label}={value_of(difference, 0)}'
-    if difference.first is None:
-        return f'+{difference.label}={value_of(difference, 1)}'
-    remark = f' ({remark_on(difference)})' if remark_on(difference) else ''
-    if difference.is_equal:
-        return f'{difference.label}={value_of(difference, 0)} in both runs{remark}'
-    return f'{difference.label}={value_of(difference, 0)} -> {value_of(difference, 1)}{remark}'
+    """A difference in a part of a line. An item of one run alone has its sign, and no remark."""
+    *before, (sign, value, remark) = signed_rows(difference)
+    if sign == '=':
+        words = f'{value} in both runs'
+    elif before:
+        words = f'{before[0][1]} -> {value_of(difference, 1)}'
+    else:
+        return sign + value
+    return f'{words} ({remark})' if remark else words
 
 
 def of_silent(compared: Compared, framings: Sequence[Framing], most: int | None) -> Iterator[str]:
     """The calls that are left out, those together of one procedure and path, up to `most` of such
     groups, or each by itself."""
-    groups, (first, second) = defaultdict[object, list[Finding]](list), framings
+    groups = defaultdict[object, list[Finding]](list)
     for number, call in enumerate(compared.silent):
         key = call.kind, call.first is None, call.message.procedure, call.path
         groups[number if most is None else key].append(call)
     for some in list(groups.values())[:most]:
-        yield (f'left out{of_whom(some[0])}: {silent_of(some)}: '
-               f'{places_text(some[0].first, some[0].second, first, second)}{why_of(some[0])}')
+        yield silent_line(some, framings)
     if most is not None and len(groups) > most:
         yield f'.. and {len(groups) - most:,} more left out (--all prints them)'
 
 
-def of_whom(call: Finding) -> str:
-    """Returns which run has a call that is left out."""
-    return ('' if call.first and call.second
-            else f' of the {"first" if call.first else "second"} run')
-
-
-def silent_of(some: Sequence[Finding]) -> str:
-    """Returns which calls are left out, of one procedure and path."""
+def silent_line(some: Sequence[Finding], framings: Sequence[Framing]) -> str:
+    """Which calls are left out, of one procedure and path, and why: the change that explains an
+    answer, or how often a call was sent."""
     call, path = some[0], f' {some[0].path}' if some[0].path else ''
-    kind = '' if call.kind == 'only' else f', {WHY_LEFT_OUT[call.kind]}'
-    return f'{len(some):,} {call.message.procedure}{path}{kind}{", first" if len(some) > 1 else ""}'
+    whom = ('' if call.first and call.second
+            else f' of the {"first" if call.first else "second"} run')
+    kind = f', {WHY_LEFT_OUT[call.kind]}' if call.kind in WHY_LEFT_OUT else ''
+    why = f', {"by " * (call.kind == "explained")}{call.remark}' if call.remark else ''
+    return (f'left out{whom}: {len(some):,} {call.message.procedure}{path}{kind}'
+            f'{", first" * (len(some) > 1)}: {places_text(call, framings)}{why}')
 
 
-def why_of(call: Finding) -> str:
-    """Returns the change that explains an answer, or how often a call was sent."""
-    by = 'by ' if call.kind == 'explained' else ''
-    return f', {by}{call.remark}' if call.remark else ''
-
-
-def places_text(one: Message | None, other: Message | None, first: Framing, second: Framing) -> str:
+def places_text(one: Finding, framings: Sequence[Framing]) -> str:
     """Returns the places of messages in both runs, with their frames."""
     return ' | '.join(f'{message.place}{frames_text(message, framing)}'
-                      for message, framing in ((one, first), (other, second)) if message)
+                      for message, framing in zip((one.first, one.second), framings) if message)
 
 
-def of_compared(compared: Compared, first: Framing, second: Framing, most: int | None,
-                left_out: Counter[tuple[str, str]],
-                is_brief: bool = False) -> Iterator[str]:
+def of_compared(compared: Compared, framings: Sequence[Framing], most: int | None,
+                left_out: Counter[tuple[str, str]], is_brief: bool = False) -> Iterator[str]:
     """The findings, those together that say the same, up to `most` of such groups, or each by
     itself, and each in a line if that is asked for. Then which fields differ how often, and which
     were left out."""
     groups = [[finding]
               for finding in compared.findings] if most is None else groups_alike(compared.findings)
     for group in groups[:most]:
-        yield from [brief_of(group, first, second)] if is_brief else of_group(group, first, second)
+        yield from [brief_of(group, framings)] if is_brief else of_group(group, framings)
     if most is not None and len(groups) > most:
         yield f'.. and {len(groups) - most:,} more (--all prints them)'
     fields = compared.fields()
     if fields:
-        some = fields_text(fields.most_common(FIELDS_AT_MOST))
         more = ', ..' if len(fields) > FIELDS_AT_MOST else ''
-        yield f'fields that differ, and how often: {some}{more}'
+        yield ('fields that differ, and how often: '
+               f'{fields_text(fields.most_common(FIELDS_AT_MOST))}{more}')
     if left_out:
         yield f'left out by --ignore, and how often: {fields_text(left_out.most_common())}'
     elif not compared.findings:
@@ -259,11 +250,15 @@ def of_accepted(accepted: Split | None, framings: Sequence[Framing],
     if accepted is None:
         return
     if is_all:
-        first, second = framings
-        yield from (f'accepted: {brief_of([one], first, second)}' for one in accepted.findings)
+        yield from (f'accepted: {brief_of([one], framings)}' for one in accepted.findings)
     yield f'{len(accepted.findings):,} accepted'
     yield from (f'no longer found: {entry_text(entry)}' for entry in accepted.no_longer_found)
 
 
 def fields_text(fields: Iterable[tuple[tuple[str, str], int]]) -> str:
     return ', '.join(f'{name} of {procedure} {count:,}' for (procedure, name), count in fields)
+
+
+def up_to(most: int, some: Sequence[str], comma: str = ', ') -> str:
+    """Returns some words, or the first of them if they are more."""
+    return comma.join([*some[:most], *(['..'] if len(some) > most else [])])
