@@ -4,42 +4,10 @@
     tools/calls --slow 100ms --procedure WRITE,COMMIT --path '/d*' RECORDING ..
     tools/calls --no-reply --utc --from 10:03 --to 10:05:30 RECORDING ..
 
-A line is printed for each exchange, in the order of time. An exchange is a call, with its
-retransmissions and its replies. The columns are
+The manual page, tools/man/calls.1, has the rest.
 
-    time    the seconds from the first frame of the recording, as Wireshark prints them, or with
-            --utc the time of day
-    ms      the latency in milliseconds: from the call to its first reply, as in tools/procedures
-    frame   the frame that completed the call
-    conn    CONNECTION:RECORD, which the other tools take as a position
-    call    the procedure, its path and its other arguments, as OFFSET+COUNT of a READ
-    answer  what the reply says
-
-A path is that at the time of the call: under which an object was made, or else first reached, and
-after a RENAME the new one. --path fits any of them. A folder whose path is not known is `?`. Of
-calls of other programs than NFS and MOUNT version 3 only the name is known. Their answer is
-`accepted`, or the error of RPC.
-
-A call without a reply has one of three answers:
-
-    no reply           the end of the connection is recorded, and no byte is missing
-    no reply recorded  one may have been sent: bytes are missing, or the recording ends first
-    not judged         the connection is refused, and its listing ends before a reply to this call
-
-For how long it waited comes after it: up to the end of the recording, or to the answer to the same
-call on a later connection, whose position is printed.
-
-An exchange is listed if all conditions hold that are given. An error of --errors is a reply that is
-no success, or `no reply`. --no-reply lists the calls that tools/verdicts counts.
-
-The last line has the counts of tools/verdicts, and the line before it how many exchanges are
-listed. Connections that are not judged whole are named on standard error, with the reasons. --json
-and --csv print the same for programs.
-
-The recordings are taken as by tools/from_pcap (--port, --filter,
-patterns in quotes for the parts of one recording); `-` is standard input. The status is 0 if that
-of tools/verdicts is, whatever is listed. It is 1 to 3 as there; --allow-losses and
---allow-not-checked are the same.
+The status is 0 if that of tools/verdicts is, whatever is listed. It is 1 to 3 as there;
+--allow-losses and --allow-not-checked are the same.
 """
 from __future__ import annotations
 

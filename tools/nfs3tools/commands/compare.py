@@ -5,55 +5,8 @@ differs.
                   [--accept FILE] [--accept-new FILE] [--marks PATTERN] [--all] [--brief]
                   [--html FILE] [--json FILE] [--junit FILE] A B
 
-A and B are recordings (pcap, pcapng; a pattern in quotes names the parts of one) or captures.
-Values that each run has its own of are masked first: of the classes below, those marked with a star
-by default. What is masked is always printed. Then `nfs3canon same` compares the masked captures, up
-to a renaming of xids, file handles and write verifiers: `same` is its word, and how many calls were
-compared follows it. Then come the four counts of both runs: how many connections are judged, in
-part, left out and not checked. If something of a run is not compared, equal runs are
-`same in part`. A connection that is refused is not compared, and the others are. A run without a
-call that can be compared is an error.
+The manual page, tools/man/compare.1, has the rest.
 
-If the runs differ, exchanges are brought together over all connections and in any order: calls,
-with their retransmissions and replies. If nothing else than the order differs, they are
-`same in another order`: that is the word of `nfs3canon same` on both runs in the order of the
-first. Answers may differ as changes that came before them in one run alone explain; calls that only
-ask (GETATTR, LOOKUP ..) may be in one run alone if they are few, and say what other answers say;
-and ids follow their objects. The manual page has the rules. All that is left out is listed, with
-the change that explains it. Otherwise each difference is printed as `diff` would: which call, which
-field and whose (`dir after.size`), both values, and the frames. Of values of over 60 characters it
-is the bytes round the first that differs; a call of one run alone has its arguments. Messages of
-one procedure that differ in the same way are printed once, with their number. --brief prints a line
-for each.
-
---order strict tries no other order. With --order any the status is 0 if the runs are the same if
-the order does not count. --extra none leaves nothing out.
-
---mask times,ids masks these classes alone, --mask +owners one more, --mask=-times one less,
---mask none nothing; NAME=zero and NAME=number say how. --ignore NFSPROC3_GETATTR.obj.nlink,*.eof
-leaves fields out of what is printed and written of the differences, by their labels, or by the name
-of items, as `nlink`, whose ever they are; the verdict is that of the mask all the same.
-
---accept reads a file of findings that somebody accepted, and --accept-new writes one from all
-findings of this comparison. An entry accepts one finding, or as many as it says. Accepted findings
-are counted apart, and the others decide. If there
-are no others, both runs are compared without the calls of the accepted ones, by the program.
-Entries of the file that fit nothing any more are printed. What of a run is not compared is never
-accepted by this.
-
---marks compares the parts of a test run one by one, each as a run of its own. A part begins with a
-call of LOOKUP, CREATE or MKDIR whose name fits PATTERN (of the shell, as 'test_*'), and has that
-name. It has the calls that were sent up to the next mark, over all connections, and their replies.
-What is before the first mark is a part, too. It is an error if no call of both runs is a mark. A
-line for each part has its verdict. Then come the findings of those that differ, and last how many
-parts have which verdict. The status is 1 if a part differs, or is in one run alone.
-
---junit writes a test case for the verdict, which fails if the status is 1, and then one that fails
-for each difference. Runs that cannot be compared are a case with an error.
-
-FILE is written beside its name, and gets it once it is whole. It is refused if it is an input or
-another output, or begins as a recording or a capture; whether it can be written is tried before the
-work. If FILE is `-` it is standard output, and all else is printed on standard error.
 The status is 0 if the runs are the same under the mask, 1 if they differ, are the same in another
 order, or in part (which the options --allow-losses and --allow-not-checked change), 2 if a
 recording, a connection, a capture, FILE or the command line is refused, or if there is nothing to

@@ -3,34 +3,11 @@
     tools/cut [--origins] RECORDING|CAPTURE 'connection 1 server record 7 byte 24' OUT
     tools/cut [--origins] RECORDING 'frame 12' OUT.pcap
 
-OUT has all calls and replies of the connection that have the xid of the message at POSITION, as
-they were recorded. POSITION is a line of `check` or `same`, or of `show`, as tools/explain takes
-it. It names a record, of which any byte may be named.
+The manual page, tools/man/cut.1, has the rest.
 
-A frame of a recording, as `frame 12`, means the records whose bytes it carries, and all their
-exchanges are taken.
-
---origins takes the exchanges too that gave the file handles of these calls, up to the MNT call that
-gave the first: of each handle the one that made its object, or else the first that reached it. They
-are on the connections on which they were recorded. RECORDING has to be one that `nfs3canon check`
-accepts.
-
-If OUT ends in `.pcap`, it is a recording for Wireshark and the tools: the frames that brought the
-bytes of these records, and those of the SYN of both ends. Their payload is trimmed to the records,
-and all else of them is as recorded but sequence numbers, lengths and checksums. The bytes between
-the records are left out, so a connection of OUT is mostly `ok in part`.
-
-Printed are a line for each record of OUT, which says where it was, with its frames, and what
-`nfs3canon check` says of OUT. That is `ok`, or the reason for which the message was refused before.
-If OUT is a recording, tools/verdicts judges it.
-
-A recording is taken as by tools/from_pcap (--port, --filter, a pattern in
-quotes for the parts of one recording). OUT is written beside its name, and gets it once it is
-whole. It is refused if it is an input or begins as a recording; an older capture is replaced. If
-OUT is `-` it is standard output, and the lines are printed on standard error. The status is 0 if
-OUT was written, 1 if there is no such position, or if a record cannot be read in OUT.pcap or a
-frame not be trimmed, 2 if POSITION, RECORDING, FILTER or OUT is refused or a program is missing, 3
-if a file, a program or memory failed.
+The status is 0 if OUT was written, 1 if there is no such position, or if a record cannot be read in
+OUT.pcap or a frame not be trimmed, 2 if POSITION, RECORDING, FILTER or OUT is refused or a program
+is missing, 3 if a file, a program or memory failed.
 """
 from __future__ import annotations
 

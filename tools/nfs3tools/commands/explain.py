@@ -4,23 +4,7 @@
     tools/explain FILE 'frame 12'
     nfs3canon check FILE 2>&1 | tools/explain FILE
 
-FILE is a capture, or a recording, also one of several parts by a pattern in quotes. The options
-decide on the numbers of connections and records of a recording, as those of `tools/from_pcap` do.
-If FILE is `-`, POSITION has to be an argument.
-
-POSITION is a line of `check` or `same` (also with `first: `, `second: ` or `differ at ` before it)
-or of `show`, whose first three words name a record. If it is no argument it is read from standard
-input. A frame of a recording, as `frame 12`, means the records whose bytes it carries; all of
-them are shown.
-
-Printed are the message and its procedure, the item at the byte with its name, its value and what
-may stand there, and the bytes of the record, with those of the item in brackets. If no byte is
-named, all items are printed, each with its byte, its name and its value; names of values are those
-of the RFCs, and a long value is cut. Of a recording the frames of the position come first, as
-`tools/where` prints them.
-
-This is a reader's aid and no part of what is proved: what a capture is worth `nfs3canon` says, and
-this script reads it with tables of its own.
+The manual page, tools/man/explain.1, has the rest.
 
 The status is 0, 1 if there is no such position or the frame carries no record, 2 if POSITION, FILE
 or FILTER is refused, 3 if a file or memory failed.

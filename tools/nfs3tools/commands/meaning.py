@@ -4,14 +4,11 @@
                   [--accept FILE] RECORDING|CAPTURE ..
     tools/meaning --explain RULE
 
-Printed is a row for each rule that is broken and each server, with the first finding. --all lists
-each. A note is permitted. The work of clients that are not recorded is no finding.
+The manual page, tools/man/meaning.1, has the rest.
 
-The line before the last says how much was looked at, the last has the counts of tools/verdicts: a
-finding makes no message invalid. The recordings are taken as there. The status is 0 if that of
-tools/verdicts is and nothing was found but notes and what is accepted, 1 if not, 2 and 3 as there.
---json and --csv print all findings for programs, --junit writes a case for each rule and server,
-and --html a page for a browser.
+The status is 0 if that of tools/verdicts is and nothing was found but notes and what is accepted, 1
+if not, 2 and 3 as there. --json and --csv print all findings for programs, --junit writes a case
+for each rule and server, and --html a page for a browser.
 """
 from __future__ import annotations
 

@@ -4,34 +4,9 @@
                      [--html FILE] RECORDING|CAPTURE ..
     tools/procedures --beside A B
 
-Printed is a table for each connection, one for each recording in all, and one for all recordings if
-they are several. A row has the calls of a procedure as `nfs3canon check` counts them; how many of
-them were sent again (an earlier call of the connection, or of an earlier connection of both ends,
-has the same xid and the same items); the replies; the calls without a reply (a call and its
-retransmissions are one); the bytes of the records of calls and of replies, with their marks; the
-latencies in milliseconds; the call with the longest; and how many replies have which error.
+The manual page, tools/man/procedures.1, has the rest.
 
-A latency is the time from a call to its first reply. The time of a message is that of the frame
-that completed its record: of the frames that first brought its bytes the one with the largest
-number. That of a call which was sent again is the time of the first. The columns are the median and
-the 99th percentile, each the smallest latency that 50 or 99 % of all do not exceed, the longest,
-the mean and the sum. The longest is at CONNECTION:RECORD, the record of its call, with the frame
-that completed it. A capture has no times, and so no latencies. If the clock went back, latencies
-are negative; their number is printed.
-
-Each connection is judged as by tools/verdicts, whose verdict is above its table: one of which bytes
-are missing is `ok in part`, and one that is refused is counted up to its fault. The counts of
-tools/verdicts stand above the table of a recording. --total leaves out the tables of the
-connections, --from and --to the calls outside a window. --sort has the largest of a column first.
---beside has two recordings in one table: a number that differs is `A -> B`, with the change in per
-cent for bytes and latencies. --json and --csv write all tables. --html writes a page for a browser,
-with the tables that are printed and a time line of the latencies of each recording: a dot for each
-call, with its path and its frame.
-
-The recordings are taken as by tools/from_pcap (--port, --filter,
-patterns in quotes for the parts of one recording); `-` is standard input. FILE is written beside
-its name, and gets it once it is whole. It is refused if it is an input, or begins as a recording or
-a capture. The status is 0 if that of tools/verdicts is, and 1 to 3 as there; --allow-losses and
+The status is 0 if that of tools/verdicts is, and 1 to 3 as there; --allow-losses and
 --allow-not-checked are the same.
 """
 from __future__ import annotations

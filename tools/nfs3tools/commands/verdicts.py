@@ -4,48 +4,11 @@
                    RECORDING|CAPTURE ..
     tcpdump -i any -U -w - port 2049 | tools/verdicts [-q] --follow -
 
-Each connection is a capture of its own, which `nfs3canon check` judges, so a fault in one hides
-nothing of another. A row is printed for each: the recording, the connection's number and ends, its
-calls and replies, and the verdict: `ok`, or the position and reason of its first fault with the
-frame that carries it. A recording that cannot be read has a row, too, and the others are judged
-still. -q prints no row of what is `ok`, and no heads.
-
-The last line counts all of them. Each comes under one word:
-
-    judged       the verdict is `ok`, or it is refused
-    in part      bytes of it are missing or were left out: `ok in part`, with the calls that were
-                 judged and the reason
-    left out     nothing of it is judged, with the reason; some show no call at all
-    not checked  calls are NFS or MOUNT of another version, or it is a connection to a port of NFS
-                 without one call of version 3
-    errors       it could not be read
-
-What is of no connection has a row as well: UDP at a port of NFS is left out, and a recording
-that ends inside a frame is in part; frames that may carry NFS and are not read are not checked. At
-the end of the line are the calls without a reply, and those of other programs by name. What is
-missing is printed on standard error, and so are connections that show no call: those without
-payload, and those without RPC at another port than those of NFS.
+The manual page, tools/man/verdicts.1, has the rest.
 
 The status is 0 only if every call of NFS and MOUNT version 3 that is recorded was judged, and is
 valid. --allow-losses also allows what is in part and what is left out, --allow-not-checked what is
 not checked. A connection that shows no call changes no status.
-
-The recordings are taken as by `tools/from_pcap` (--port, --filter,
-patterns in quotes for the parts of one recording); `-` is standard input. --junit writes the
-verdicts as JUnit XML, as Jenkins and GitLab take it, and --json as an object with the counts and an
-object for each row and for each note on a recording. --html writes a page for a browser: the
-counts, the table, each fault with its fields, and a time line of the latencies of each recording. N
-recordings are judged at once, as many as there are processors if it is not said.
-
---follow judges one recording while it is made: `-`, a fifo or a file that grows. The line of a
-connection is printed once it is closed, or once a fault of it is seen; at the end, or at SIGINT or
-SIGTERM, the others are judged. The manual page says when a fault is seen. With --json - each line
-is an object of JSON: a row, or at the end the counts and the status.
-
-FILE is written beside its name, and gets it once it is whole. It is refused if it is an input, or
-begins as a recording or a capture. The other statuses are 1 if a verdict is not good, 2 if the
-command line or FILE is refused or the program is missing, 3 if FILE cannot be written or a program
-died.
 """
 from __future__ import annotations
 

@@ -4,23 +4,7 @@
     tools/where RECORDING 'frame 12'
     nfs3canon check CAPTURE 2>&1 | tools/where RECORDING
 
-RECORDING is what `tools/from_pcap` made the capture of; its options have to be the same here
-(--port, --filter), since they decide on the numbers of connections and
-records. If RECORDING is `-`, POSITION has to be an argument.
-
-POSITION is a line of `check` or `same` (`connection 1 server record 7 byte 24: BadEnum`,
-`differ at connection 2 client record 3`, also with `first: ` or `second: ` before it) or of `show`,
-whose first three words name a record; a byte of the capture, as `file 12`, is taken too. If no byte
-is named, the frames of the whole record are printed. The frame of a byte is the first that brought
-it, not a retransmission; of a datagram that came in fragments it is the frame with the last of
-them.
-
-A frame, as `frame 12`, means the records whose bytes it carries; all of them are printed.
-
-Printed are the position with the number of the connection as Wireshark counts it, the frames with
-their times, and a display filter to paste. If RECORDING is a pattern in quotes for the parts of one
-recording, frames are counted through all parts, and there is a filter for each part that has such
-frames, with its own numbers.
+The manual page, tools/man/where.1, has the rest.
 
 The status is 0, 1 if the capture has no such position or the frame carries no record, 2 if
 POSITION, RECORDING or FILTER is refused, 3 if a file or memory failed.
