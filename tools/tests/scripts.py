@@ -193,7 +193,7 @@ class Tools(Runs):
 
     def told(self, what: str, recording: bytes, wanted: list[Streams], lines: list[str],
              **options: typing.Any) -> None:
-        """The recording gives just these connections, and this is reported, with a line for each."""
+        """The recording gives just these connections; this is reported, with a line for each."""
         told = self.taken(what, recording, wanted, **options)
         self.want('told: ' + what, [line for line in told if ': client ' not in line], lines)
 

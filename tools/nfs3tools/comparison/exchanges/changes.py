@@ -203,7 +203,7 @@ class Changes:
         if told.attributes is None or told.name:
             return ''
         own = told.attributes
-        others = [fact for fact in self.facts.told[told.handle] if fact.at != at]
+        others = [fact for fact in self.facts.statements[told.handle] if fact.at != at]
         beside = [fact.attributes for fact in others if fact.ctime == told.ctime]
         if beside:
             return '' if own in beside else 'other attributes at the same ctime'

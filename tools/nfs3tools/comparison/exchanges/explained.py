@@ -92,7 +92,7 @@ class Reply:
     def check_alone(self, identity: int) -> None:
         """Raises `Unexplained` if it disagrees with its run on an object that it alone shows."""
         why = {self.changes.disagrees(self.at, one)
-               for one in self.facts.said_in(self.at, self.message).told
+               for one in self.facts.said_in(self.at, self.message).statements
                if one.handle and self.changes.identity(one.handle) == identity}
         if why - {'', NOTHING_ELSE}:
             raise Unexplained

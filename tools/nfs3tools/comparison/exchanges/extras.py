@@ -73,7 +73,8 @@ class Extras:
     def wrong_attributes(self, at: int, reply: Message) -> str:
         if at in self.facts.odd:
             return 'it has another file id than its run elsewhere'
-        found = (self.changes.disagrees(at, one) for one in self.facts.said_in(at, reply).told)
+        found = (self.changes.disagrees(at, one)
+                 for one in self.facts.said_in(at, reply).statements)
         return next(filter(None, found), '')
 
     def wrong_access(self, at: int) -> str:

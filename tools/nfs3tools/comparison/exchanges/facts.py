@@ -39,7 +39,7 @@ Lead = tuple[int, str, int]  # a folder, a name in it, and to which object it le
 
 class ReplyFacts(NamedTuple):
     """What a reply says."""
-    told: list[Statement]
+    statements: list[Statement]
     leads: list[Lead]
 
 
@@ -102,7 +102,7 @@ Id = tuple[str, str]  # of the file system, empty if it is not known, and of the
 class Facts:
     """What the answers of a run say, and what of it the rules ask.
 
-    told: by handles, all attributes
+    statements: by handles, all attributes
     leads: by folders and names, to what a name leads, with the exchange that says it
     names: those of each call that has some
     sets: what a SETATTR or a call that makes something sets
@@ -117,7 +117,7 @@ class Facts:
         """`wanted` are the exchanges that are taken apart. If `objects` are given, answers about
         other handles are not read."""
         self.outlines, self.wanted, self.objects = outlines, wanted, objects
-        self.told = defaultdict[int, list[Fact]](list)
+        self.statements = defaultdict[int, list[Fact]](list)
         self.leads = defaultdict[tuple[int, str], list[tuple[int, int]]](list)
         self.names, self.sets = dict[int, tuple[str, ...]](), dict[int, frozenset[str]]()
         self.ends, self.changing = dict[int, int](), list[int]()
@@ -156,7 +156,7 @@ class Facts:
                 handle in self.objects for handle in (*handles, self.outlines.found[at])):
             return
         answer = self.said_in(at, line)
-        for one in answer.told:
+        for one in answer.statements:
             self.take_told(at, one)
         for folder, name, handle in answer.leads:
             self.leads[folder, name].append((at, handle))
@@ -179,7 +179,7 @@ class Facts:
         self.votes[own][fsid, one.fileid] += 1
         self.tellers[own, (fsid, one.fileid)].append(at)
         if one.attributes and not one.name:
-            self.told[one.handle].append(Fact(at, one.ctime, one.attributes))
+            self.statements[one.handle].append(Fact(at, one.ctime, one.attributes))
 
     @cached_property
     def ids(self) -> dict[Known, Id]:
@@ -212,7 +212,7 @@ class Facts:
 
     def facts_of(self, identity: int) -> Iterator[Fact]:
         return (fact for handle in self.handles.get(identity, ())
-                for fact in self.told.get(handle, ()))
+                for fact in self.statements.get(handle, ()))
 
 
 def is_silly(name: str) -> bool:

@@ -98,7 +98,7 @@ class Followed:
         values = self.of_cookies(at, line.text) if line.procedure in LISTINGS else {}
         if not self.has_ids:
             return values
-        for one in self.facts[1].said_in(at, line).told:
+        for one in self.facts[1].said_in(at, line).statements:
             own = self.facts[1].ids[one.handle, one.name]
             # (that of the first run)
             other = self.facts[0].ids.get((self.partners.get(one.handle, 0), one.name))

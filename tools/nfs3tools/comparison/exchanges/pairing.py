@@ -90,7 +90,7 @@ class Pairing:
 
     @cached_property
     def is_in_place(self) -> bool:
-        """Whether each message stands in the same place in both runs."""
+        """Whether each message is in the same place in both runs."""
         return self.partners == array('i', range(len(self.there))) and all(
             getattr(self.here, name) == getattr(self.there, name)
             for name in ('connections', 'starts', 'records', 'replies', 'further', 'again',

@@ -132,7 +132,7 @@ class OneOfTwo:
     taken apart.
 
     order: the exchanges that have a partner
-    told, silent: those that have none, and are reported, or left out
+    reported, silent: those that have none, and are reported, or left out
     connections: those of which no exchange has one: the first exchange of each, and how many it has
     left_out: how often a procedure is left out
     """
@@ -144,7 +144,7 @@ class OneOfTwo:
         self.order = pairing.matched(number)
         # Calls of the procedures that are left out which count all the same
         self.counted = explanation.counted[number]
-        self.told, self.silent, self.connections = list[int](), list[int](), dict[int, int]()
+        self.reported, self.silent, self.connections = list[int](), list[int](), dict[int, int]()
         explained = {pair[number] for pair in explanation.pairs}
         only = (at for at in pairing.alone(number) if at not in explained)
         procedure_of = self.outlines.procedure_of
@@ -155,13 +155,13 @@ class OneOfTwo:
             if len(silent) < len(some) == len(self.outlines.exchanges_of(place)):
                 self.connections[some[0]] = len(some)
             else:
-                self.told += sorted({*some} - {*silent})
+                self.reported += sorted({*some} - {*silent})
                 self.silent += silent
         self.left_out = Counter(map(procedure_of, self.silent))
 
     def number_told(self) -> int:
         """Returns how many exchanges are reported that it has alone."""
-        return len(self.told) + sum(self.connections.values())
+        return len(self.reported) + sum(self.connections.values())
 
     def alone(self, kind: str, at: int, remark: str = '', mask: Mask | None = None) -> Finding:
         """Returns what is said of an exchange that it has alone, under a mask with the arguments
@@ -175,14 +175,14 @@ class OneOfTwo:
             finding, first=None, second=one.call, statuses=finding.statuses[::-1])
 
     def of_the_lonely(self, mask: Mask) -> Iterator[Finding]:
-        yield from (self.alone('only', at, self.counted.get(at, ''), mask) for at in self.told)
+        yield from (self.alone('only', at, self.counted.get(at, ''), mask) for at in self.reported)
         for at, number in self.connections.items():
             yield self.alone('connection', at, f'a connection of {count(number, "call")} that the '
                                                'other run does not have')
 
 
 class Explaining:
-    """Tells what differs between two runs whose exchanges are brought together. What is in one run
+    """Finds what differs between two runs whose exchanges are brought together. What is in one run
     alone is reported, unless its procedure is one of those that are left out."""
 
     def __init__(self, runs: Sequence[Run], pairing: Pairing, leaves_out: frozenset[str],
@@ -228,7 +228,7 @@ class Explaining:
 
     def tells_lonely(self) -> bool:
         """Returns whether something is reported that one run alone has."""
-        return any(own.told or own.connections for own in self.runs)
+        return any(own.reported or own.connections for own in self.runs)
 
     def take_apart(self, turns: set[int], moved: Iterable[Pair]) -> set[int]:
         """Takes the exchanges of some turns apart, and all that are reported. Returns the turns,
@@ -236,7 +236,7 @@ class Explaining:
         here, there = self.runs
         pairs = [*((here.order[turn], there.order[turn]) for turn in turns), *moved]
         first, second = both = [own.outlines.with_origins(
-            {*(pair[own.number] for pair in pairs), *own.told, *own.connections})
+            {*(pair[own.number] for pair in pairs), *own.reported, *own.connections})
             for own in self.runs]
         turns = {turn for turn, (at, to) in enumerate(zip(here.order, there.order))
                  if at in first or to in second}
@@ -323,8 +323,8 @@ class Explaining:
         """Returns some pairs that are reported, what one run alone has, and pairs around that. Of a
         connection that one run alone has it is the first exchange."""
         first, second = self.runs
-        told = [*changed, *((at, NOBODY) for at in (*first.told, *first.connections)),
-                *((NOBODY, to) for to in (*second.told, *second.connections))]
+        told = [*changed, *((at, NOBODY) for at in (*first.reported, *first.connections)),
+                *((NOBODY, to) for to in (*second.reported, *second.connections))]
         besides = itertools.chain.from_iterable(range(at, at + number)
                                                 for at, number in first.connections.items())
         shown = Shown(self.pairing, told, besides, around)
