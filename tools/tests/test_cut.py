@@ -130,6 +130,21 @@ def handles_and_where_they_are_from(tools: Tools) -> None:
                                 'out')[1][-1], ONE)
 
 
+def origins_after_a_call_that_was_sent_again(tools: Tools) -> None:
+    """Retransmissions before it move no exchange."""
+    root, folder, file = (name * 8 for name in (b'r', b'd', b'f'))
+    again, attributes = call(10, NFS, 3, 1, fh(root)), ok(fattr(2, 5))
+    calls = [again, again, call(11, NFS, 3, 3, dirop(root, b'd')),
+             call(12, NFS, 3, 3, dirop(folder, b'f')), call(13, NFS, 3, 1, fh(file))]
+    replies = [success(10, attributes), *(
+        success(xid, ok(fh(found), post_op_attr(), post_op_attr()))
+        for xid, found in ((11, folder), (12, file))), success(13, attributes)]
+    tools.write('a', capture((calls, replies)))
+    status, _, error = cut(tools, '--origins', 'a', 'connection 1 client record 5', 'out')
+    tools.want('OUT', (status, error, tools.read('out')),
+               (0, '', packed((stream(calls[2:]), stream(replies[1:])))))
+
+
 def accepted_and_the_same(tools: Tools) -> None:
     """Exchanges of a real recording are accepted, and are listed as they were."""
     name = FIRST
