@@ -193,7 +193,6 @@ class Changes:
                 if handle and self.frames_of(one)[1] < begin]
         return max(told)[1] or ANY_OBJECT if told else ANY_OBJECT
 
-
     # --- Whether an answer agrees with others ---
 
     def disagrees(self, at: int, told: Statement) -> str:
