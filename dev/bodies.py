@@ -19,7 +19,7 @@ class Head(NamedTuple):
 
 def function_at(path: str, text: str, at: int) -> str | None:
     """Returns the path, below the crate, of the function in whose body a position of a file is.
-    None means a position in no body, as in a contract, a type or a constant."""
+    None stands for a position in no body, as in a contract, a type or a constant."""
     lines = text.split('\n')
     line = text.count('\n', 0, at)
     head = head_above(lines, line)

@@ -87,8 +87,8 @@ def changes(edit: Path) -> Iterator[tuple[str, str, str]]:
 
 
 def functions_of(edit: Path, crate: kit.Crate) -> set[str]:
-    """Returns the functions in whose bodies an edit is. None at all means an edit that is tried
-    alone."""
+    """Returns the functions in whose bodies an edit is. None at all stands for an edit that is
+    tried alone."""
     found: set[str] = set()
     texts: dict[str, str] = {}
     for path, old, new in changes(edit):

@@ -324,7 +324,8 @@ def names_of_the_tools(tools: Tools) -> None:
 
 def lines_of_the_tools(tools: Tools) -> None:
     """No line of the tools, of a test, of `dev` or `examples` has more columns than
-    tools/pyproject.toml says, which are 100. No docstring there has a word to avoid."""
+    tools/pyproject.toml says, which are 100. No docstring has a word to avoid,
+    but in `dev`."""
     tools.want('columns', tool_rooms.columns(), 100)
     for size, wrong in ((100, []), (101, ['a.py:2: ' + 'x' * 101])):
         tools.want(f'a line of {size}',
