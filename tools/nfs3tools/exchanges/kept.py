@@ -13,7 +13,6 @@ import re
 from array import array
 from collections import defaultdict
 from collections.abc import Mapping, Sequence
-from functools import cached_property
 from typing import NamedTuple
 
 from ..recordings.selection import BEGUN_BEFORE
@@ -78,6 +77,9 @@ class KeptExchange:
         self.kept, self.at, self.part = kept, at, kept.parts[kept.part_of[at]]
         self.record, self.frame, self.time = kept.records[at], kept.frames[at], kept.times[at]
         self.procedure = kept.names[kept.kinds[at]]
+        # What was asked for; `cached_property` takes more time
+        self.known_asked: Asked | None = None
+        self.known_answers: list[str] | None = None
 
     @property
     def latency(self) -> int | None:
@@ -92,10 +94,12 @@ class KeptExchange:
     def answered(self) -> Sequence[SentRecord]:
         return [self.kept.reply(number) for number in self.kept.replies_of(self.at)]
 
-    @cached_property
+    @property
     def asked(self) -> Asked:
         """What is asked, in words."""
-        return asked_in(self.kept.listed_name(self.at), self.kept.asking[self.at])
+        if self.known_asked is None:
+            self.known_asked = asked_in(self.kept.listed_name(self.at), self.kept.asking[self.at])
+        return self.known_asked
 
     @property
     def path(self) -> str | None:
@@ -126,11 +130,14 @@ class KeptExchange:
         asked = self.asked
         return self.part.path(asked.other, asked.other_entry, self.frame or self.at + 1)
 
-    @cached_property
+    @property
     def answers(self) -> list[str]:
         """What each reply says, in words."""
-        name, texts = self.kept.listed_name(self.at), self.kept.answering
-        return [answer_in(name, texts[number]) for number in self.kept.replies_of(self.at)]
+        if self.known_answers is None:
+            name, texts = self.kept.listed_name(self.at), self.kept.answering
+            self.known_answers = [answer_in(name, texts[number])
+                                  for number in self.kept.replies_of(self.at)]
+        return self.known_answers
 
     @property
     def answer(self) -> str:
