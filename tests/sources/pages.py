@@ -15,8 +15,9 @@ MOST_WORDS_OF_A_BULLET = 60
 MOST_BULLETS = 12  # in a row of bullets under one heading
 MOST_WORDS_OF_A_PAGE = {'README.md': 1200, 'docs/ARCHITECTURE.md': 3000}
 # Words for which the field has others: a function returns, a value is, a text has.
-AVOIDED = re.compile(r'\b(?:tells|told|so is|does so|besides|in another turn|belong together|one '
-                     r'more|stands (?:for|in|at|there))\b', re.I)
+AVOIDED_IN_DOCSTRINGS = re.compile(r'\b(?:tells|told|stands (?:for|in|at|there))\b', re.I)
+AVOIDED = re.compile(AVOIDED_IN_DOCSTRINGS.pattern + r'|\b(?:so is|does so|besides|in another turn|'
+                     r'belong together|one more)\b', re.I)
 # Pages whose words are not looked at: one is made, and one has notes.
 MADE_OR_NOTES = ('docs/API.md', 'dev/measure/NOTES.md')
 # A condition is `if`; `where` is for places.
@@ -39,11 +40,11 @@ def plain(text: str) -> str:
     return re.sub(r'\]\([^)]*\)', ']', text)
 
 
-def avoided(text: str) -> list[str]:
-    """Returns the words of a page that it should avoid, outside code and what is quoted."""
+def avoided(text: str, words: re.Pattern[str] = AVOIDED) -> list[str]:
+    """Returns the words of a text that it should avoid, outside code and what is quoted."""
     text = re.sub(r'^```.*?^```$', '', text, flags=re.M | re.S)
     text = re.sub(r'^ {4}.*$|`[^`]*`|"[^"]*"|\]\([^)]*\)', '', text, flags=re.M)
-    return AVOIDED.findall(text)
+    return words.findall(text)
 
 
 def blocks(text: str) -> list[str]:

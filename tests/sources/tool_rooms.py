@@ -9,13 +9,13 @@ import pathlib
 import re
 from collections.abc import Iterator, Mapping, Set
 
+from . import pages
+
 TOP = pathlib.Path(__file__).resolve().parents[2]
 PACKAGE = TOP / 'tools/nfs3tools'
 HEADING = re.compile(r'^### `([\w.]+)`$(.*?)(?=^#)', re.M | re.S)  # of a room
 ROW = re.compile(r'^\| `(\w+)` \|', re.M)
 COLUMNS = re.compile(r'^line-length = (\d+)$', re.M)
-# Words for which a docstring has others: a function returns or reports, a value means.
-AVOIDED_THERE = re.compile(r'\b(?:tells|told|stands (?:for|in|at|there))\b', re.I)
 # From the lowest to the highest.
 ROOMS = ('shared', 'recordings', 'captures', 'exchanges', 'comparison.values',
          'comparison.exchanges', 'comparison.verdict',
@@ -144,13 +144,11 @@ def is_python(path: pathlib.Path) -> bool:
 
 
 def avoided_words(name: str, text: str) -> list[str]:
-    """Returns the docstrings of a file that have words to avoid, after its name and the words.
-    Those of code in backquotes do not count."""
-    nodes = (node for node in ast.walk(ast.parse(text))
-             if isinstance(node, (ast.Module, ast.ClassDef, ast.FunctionDef)))
-    docstrings = (re.sub('`[^`]*`', '', ast.get_docstring(node) or '') for node in nodes)
-    return [f'{name}: {found[0]}: {docstring}' for docstring in docstrings
-            if (found := AVOIDED_THERE.search(docstring))]
+    """Returns the docstrings of a file that have words to avoid, after its name and the words."""
+    docstrings = (ast.get_docstring(node) or '' for node in ast.walk(ast.parse(text))
+                  if isinstance(node, (ast.Module, ast.ClassDef, ast.FunctionDef)))
+    return [f'{name}: {found}: {docstring}' for docstring in docstrings
+            if (found := pages.avoided(docstring, pages.AVOIDED_IN_DOCSTRINGS))]
 
 
 def files_in_python() -> dict[str, str]:

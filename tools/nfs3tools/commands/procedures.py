@@ -53,7 +53,7 @@ PROCEDURE_NUMBERS = range(1, len(PROCEDURE_HEADS) - 1)  # the columns that are s
 LONGEST_COLUMN = 'longest'  # is before the errors in tables of one recording
 IN_ALL = 'in all'
 ON_PAGE = Screen(sys.maxsize)  # on which numbers are as on a terminal
-# The columns by which rows are sorted: by the first alone not with the largest number first.
+# The columns by which rows are sorted: in the order of the RFC, or with the largest number first
 BY_PROCEDURE = 'procedure'
 SORT_COLUMNS = ('calls', 'again', 'replies', 'no-reply', 'call-bytes', 'reply-bytes', 'median',
                 'p99', 'most', 'mean', 'sum', 'errors')
@@ -136,13 +136,13 @@ def counted(judge: Judge, recording: str, chosen: argparse.Namespace) -> Counted
 
 def tally_row(name: str, tally: Tally, is_named: bool, screen: Screen) -> Styled:
     """A row. The longest latency is named by its recording, or not."""
-    cells = [name, *number_texts(tally, screen), longest_of(tally, is_named),
+    cells = [name, *number_texts(numbers_of(tally), screen), longest_of(tally, is_named),
              errors_of(tally.errors, screen)]
     return Styled(cells, Colour.RED if tally.errors else None)
 
 
-def number_texts(tally: Tally, screen: Screen) -> list[str]:
-    numbers = numbers_of(tally)
+def number_texts(numbers: Sequence[int | None], screen: Screen) -> list[str]:
+    """The numbers of a row as they are printed."""
     counts, latencies = numbers[:len(TALLY_COUNTS)], numbers[len(TALLY_COUNTS):]
     return [*(screen.number(number or 0) for number in counts),
             *(milliseconds(rank, screen) for rank in latencies)]
@@ -270,8 +270,8 @@ def block_of(row: Styled, screen: Screen) -> Iterator[str]:
 
 def cells_beside(name: str, first: Tally, second: Tally, screen: Screen) -> list[str]:
     """The cells of a row about two recordings."""
-    numbers = zip(*(number_texts(tally, screen) for tally in (first, second)),
-                  numbers_of(first), numbers_of(second))
+    both = numbers_of(first), numbers_of(second)
+    numbers = zip(*(number_texts(one, screen) for one in both), *both)
     errors = (f'{error} ' + both_cells(*(screen.number(tally.errors[error])
                                          for tally in (first, second)))
               for error, _ in most_first(first.errors + second.errors))
@@ -302,7 +302,8 @@ def procedures_page(found: Sequence[CountedRecording],
         whole = [shown_of(f'A: {names[0]} | B: {names[1]}',
                           rows_beside(found[0], found[1], column, ON_PAGE))]
     else:
-        whole = [shown_table('all recordings', in_all_of(found), column)] * (len(found) > 1)
+        if len(found) > 1:
+            whole = [shown_table('all recordings', in_all_of(found), column)]
         of_each = [[shown_table('in all', one.in_all, column),
                     *(shown_table(table_title(
                         table.verdict._replace(message=said_of(table.verdict)), Screen()),

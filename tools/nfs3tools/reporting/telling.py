@@ -206,8 +206,7 @@ def silent_line(some: Sequence[Finding], framings: Sequence[Framing]) -> str:
     """Which calls are left out, of one procedure and path, and why: the change that explains an
     answer, or how often a call was sent."""
     call, path = some[0], f' {some[0].path}' if some[0].path else ''
-    whom = ('' if call.first and call.second
-            else f' of the {"first" if call.first else "second"} run')
+    whom = '' if call.first and call.second else f' of the {call.run} run'
     kind = f', {WHY_LEFT_OUT[call.kind]}' if call.kind in WHY_LEFT_OUT else ''
     why = f', {"by " * (call.kind == "explained")}{call.remark}' if call.remark else ''
     return (f'left out{whom}: {len(some):,} {call.message.procedure}{path}{kind}'

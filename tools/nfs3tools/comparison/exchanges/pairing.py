@@ -240,7 +240,7 @@ def matched_connections(here: Outlines, there: Outlines) -> list[int]:
     procedures."""
     begun, votes = defaultdict[Hashable, list[int]](list), Counter[Pair]()
     keys: list[KeysOfRuns] = [(here.asked.__getitem__, there.asked.__getitem__),
-                        (here.procedure_of, there.procedure_of)]
+                              (here.procedure_of, there.procedure_of)]
     for other in range(len(there.starts)):
         for key in set(begin_of(there, other, keys[0][1])):
             begun[key].append(other)
