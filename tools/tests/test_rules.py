@@ -154,6 +154,19 @@ NEW = Step(CREATE, dirop(b'folder', b'z') + word(0) + sattr(),
 BEFORE, AFTER = listed_entries([b'x', b'y']), listed_entries([b'x', b'y', b'z'])
 
 
+def a_handle_of_no_call(place: Comparisons) -> None:
+    """The folder above is known by its entry in a listing alone."""
+    def listed(*names: bytes) -> Step:
+        entries = [*(messages.entryplus(52, name, 2, fattr(1, 52), b'handle ' + name)
+                     for name in names),
+                   messages.entryplus(2, b'..', 1, fattr(2, 2), b'handle above')]
+        results = ok(messages.entries(fattr(2, 3), bytes(8), entries, is_end=True))
+        return Step(READDIRPLUS, fh(b'folder') + bytes(16) + word(512) + word(4096), results)
+    said = any_order(place, [ROOT, FOLDER, F, listed(), NEW], [ROOT, FOLDER, F, NEW, listed(b'z')])
+    place.want('explained', (said.status, [left['kind'] for left in said.json['left_out']]),
+               (0, ['explained']))
+
+
 def entries_that_an_order_explains(place: Comparisons) -> None:
     """A listing may lack a name that is made meanwhile, and no other."""
     first = [ROOT, FOLDER, BEFORE, NEW, F]
