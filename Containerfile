@@ -1,5 +1,5 @@
 # nfs3canon, its tools and tcpdump on Debian, of the release that is in the folder of the build:
-#   tools/release FOLDER
+#   make dist OUT=FOLDER
 #   podman build -t nfs3canon -f Containerfile FOLDER
 ARG BASE=docker.io/library/debian:12-slim
 FROM $BASE

@@ -24,29 +24,10 @@ complete -o filenames -F _nfs3canon nfs3canon
 _nfs3_tool() {
   local tool=${1##*/} word=$2 option=$3 given='' words=''
   case "$tool $option" in
-    'verdicts --color' | 'nfs3-verdicts --color')
-      words='auto always never'
-      ;;
     'calls --sort' | 'nfs3-calls --sort')
       words='time latency'
       ;;
     'calls --color' | 'nfs3-calls --color')
-      words='auto always never'
-      ;;
-    'procedures --sort' | 'nfs3-procedures --sort')
-      words='procedure calls again replies no-reply call-bytes reply-bytes median p99 most mean sum errors'
-      ;;
-    'procedures --color' | 'nfs3-procedures --color')
-      words='auto always never'
-      ;;
-    'nfs3-meaning --rule')
-      words='read-data read-eof read-past-end read-count-data read-count-asked write-size write-committed write-count-asked write-count-data verifier not-committed listing name-gone name-there name-object handle-object same-ctime returns set-attributes made-attributes made-type guard entries-size entries-none entry-cookies entry-names entry-fileid mode-bits nsec write-ctime dir-type access-asked fsinfo'
-      given=${word%"${word##*,}"}
-      ;;
-    'nfs3-meaning --explain')
-      words='read-data read-eof read-past-end read-count-data read-count-asked write-size write-committed write-count-asked write-count-data verifier not-committed listing name-gone name-there name-object handle-object same-ctime returns set-attributes made-attributes made-type guard entries-size entries-none entry-cookies entry-names entry-fileid mode-bits nsec write-ctime dir-type access-asked fsinfo'
-      ;;
-    'nfs3-meaning --color')
       words='auto always never'
       ;;
     'nfs3-compare --mask')
@@ -62,6 +43,25 @@ _nfs3_tool() {
     'nfs3-compare --color')
       words='auto always never'
       ;;
+    'nfs3-meaning --rule')
+      words='read-data read-eof read-past-end read-count-data read-count-asked write-size write-committed write-count-asked write-count-data verifier not-committed listing name-gone name-there name-object handle-object same-ctime returns set-attributes made-attributes made-type guard entries-size entries-none entry-cookies entry-names entry-fileid mode-bits nsec write-ctime dir-type access-asked fsinfo'
+      given=${word%"${word##*,}"}
+      ;;
+    'nfs3-meaning --explain')
+      words='read-data read-eof read-past-end read-count-data read-count-asked write-size write-committed write-count-asked write-count-data verifier not-committed listing name-gone name-there name-object handle-object same-ctime returns set-attributes made-attributes made-type guard entries-size entries-none entry-cookies entry-names entry-fileid mode-bits nsec write-ctime dir-type access-asked fsinfo'
+      ;;
+    'nfs3-meaning --color')
+      words='auto always never'
+      ;;
+    'procedures --sort' | 'nfs3-procedures --sort')
+      words='procedure calls again replies no-reply call-bytes reply-bytes median p99 most mean sum errors'
+      ;;
+    'procedures --color' | 'nfs3-procedures --color')
+      words='auto always never'
+      ;;
+    'verdicts --color' | 'nfs3-verdicts --color')
+      words='auto always never'
+      ;;
     *) [[ $word != -* ]] || words=$(_nfs3_options "$tool") ;;
   esac
   mapfile -t COMPREPLY < <(compgen -P "$given" -W "$words" -- "${word#"$given"}")
@@ -69,15 +69,15 @@ _nfs3_tool() {
 
 _nfs3_options() {
   case $1 in
-    from_pcap | nfs3-from-pcap) echo --help --version --filter --port ;;
-    nfs3-where) echo --help --version --filter --port ;;
-    verdicts | nfs3-verdicts) echo --help --version --quiet --junit --json --html -j --follow --color --program --filter --port --allow-losses --allow-not-checked ;;
-    calls | nfs3-calls) echo --help --version --errors --no-reply --slow --procedure --path --user --client --sort --json --csv --utc --from --to --width --color --program --filter --port --allow-losses --allow-not-checked ;;
-    procedures | nfs3-procedures) echo --help --version --beside --total --sort --json --csv --html --from --to --width --color --program --filter --port --allow-losses --allow-not-checked ;;
-    nfs3-meaning) echo --help --version --all --rule --notes --explain --accept --junit --html --json --csv --color --program --filter --port --allow-losses --allow-not-checked ;;
-    nfs3-compare) echo --help --version --mask --order --extra --ignore --accept --accept-new --marks --all --brief --html --json --junit --color --program --filter --port --allow-losses --allow-not-checked ;;
-    nfs3-explain) echo --help --version --filter --port ;;
-    nfs3-cut) echo --help --version --origins --program --filter --port ;;
+    calls | nfs3-calls) echo --help --version --errors --no-reply --slow --procedure --path --user --client --sort --json --csv --utc --from --to --width --color --program --port --allow-losses --allow-not-checked ;;
+    nfs3-compare) echo --help --version --mask --order --extra --ignore --accept --accept-new --marks --all --brief --html --json --junit --color --program --port --allow-losses --allow-not-checked ;;
+    nfs3-cut) echo --help --version --origins --program --port ;;
+    nfs3-explain) echo --help --version --port ;;
+    from_pcap | nfs3-from-pcap) echo --help --version --port ;;
+    nfs3-meaning) echo --help --version --all --rule --notes --explain --accept --junit --html --json --csv --color --program --port --allow-losses --allow-not-checked ;;
+    procedures | nfs3-procedures) echo --help --version --beside --total --sort --json --csv --html --from --to --width --color --program --port --allow-losses --allow-not-checked ;;
+    verdicts | nfs3-verdicts) echo --help --version --quiet --junit --json --html -j --growing --color --program --port --allow-losses --allow-not-checked ;;
+    nfs3-where) echo --help --version --port ;;
   esac
 }
-complete -o default -F _nfs3_tool from_pcap nfs3-from-pcap nfs3-where verdicts nfs3-verdicts calls nfs3-calls procedures nfs3-procedures nfs3-meaning nfs3-compare nfs3-explain nfs3-cut
+complete -o default -F _nfs3_tool calls nfs3-calls nfs3-compare nfs3-cut nfs3-explain from_pcap nfs3-from-pcap nfs3-meaning procedures nfs3-procedures verdicts nfs3-verdicts nfs3-where

@@ -18,34 +18,6 @@ complete -c nfs3canon -n '__fish_seen_subcommand_from canon same; and test (__nf
 complete -c nfs3canon -n '__fish_seen_subcommand_from pack' -F
 
 # The tools. What follows is made by dev/completions.
-for tool in from_pcap nfs3-from-pcap
-    complete -c $tool -s h -l help -d 'show this help message and exit'
-    complete -c $tool -l version -d 'show programs version number and exit'
-    complete -c $tool -l filter -x -d 'takes the connections for which a display filter of Wireshark is true'
-    complete -c $tool -l port -x -d 'takes the connections that have one of these ports'
-end
-for tool in nfs3-where
-    complete -c $tool -s h -l help -d 'show this help message and exit'
-    complete -c $tool -l version -d 'show programs version number and exit'
-    complete -c $tool -l filter -x -d 'takes the connections for which a display filter of Wireshark is true'
-    complete -c $tool -l port -x -d 'takes the connections that have one of these ports'
-end
-for tool in verdicts nfs3-verdicts
-    complete -c $tool -s h -l help -d 'show this help message and exit'
-    complete -c $tool -l version -d 'show programs version number and exit'
-    complete -c $tool -s q -l quiet -d 'prints no row of what is ok, and no heads'
-    complete -c $tool -l junit -r -d 'writes the verdicts as JUnit XML'
-    complete -c $tool -l json -r -d 'writes the verdicts as JSON'
-    complete -c $tool -l html -r -d 'writes a page for a browser, with faults and latencies'
-    complete -c $tool -s j -x -d 'judges N recordings at once'
-    complete -c $tool -l follow -d 'judges one recording while it is made, and prints each verdict at once'
-    complete -c $tool -l color -x -a 'auto always never' -d 'whether there are colours'
-    complete -c $tool -l program -r -d 'the nfs3canon to run, if it is not the one of this folder'
-    complete -c $tool -l filter -x -d 'takes the connections for which a display filter of Wireshark is true'
-    complete -c $tool -l port -x -d 'takes the connections that have one of these ports'
-    complete -c $tool -l allow-losses -d 'takes in part and left out as the status 0'
-    complete -c $tool -l allow-not-checked -d 'takes not checked as the status 0'
-end
 for tool in calls nfs3-calls
     complete -c $tool -s h -l help -d 'show this help message and exit'
     complete -c $tool -l version -d 'show programs version number and exit'
@@ -65,45 +37,6 @@ for tool in calls nfs3-calls
     complete -c $tool -l width -x -d 'prints no line wider than N columns'
     complete -c $tool -l color -x -a 'auto always never' -d 'whether there are colours'
     complete -c $tool -l program -r -d 'the nfs3canon to run, if it is not the one of this folder'
-    complete -c $tool -l filter -x -d 'takes the connections for which a display filter of Wireshark is true'
-    complete -c $tool -l port -x -d 'takes the connections that have one of these ports'
-    complete -c $tool -l allow-losses -d 'takes in part and left out as the status 0'
-    complete -c $tool -l allow-not-checked -d 'takes not checked as the status 0'
-end
-for tool in procedures nfs3-procedures
-    complete -c $tool -s h -l help -d 'show this help message and exit'
-    complete -c $tool -l version -d 'show programs version number and exit'
-    complete -c $tool -l beside -d 'prints two recordings side by side, with what changed'
-    complete -c $tool -l total -d 'prints no tables of connections'
-    complete -c $tool -l sort -x -a 'procedure calls again replies no-reply call-bytes reply-bytes median p99 most mean sum errors' -d 'has the largest of a column first'
-    complete -c $tool -l json -r -d 'writes the verdicts and the tables as JSON'
-    complete -c $tool -l csv -r -d 'writes the tables as comma-separated values'
-    complete -c $tool -l html -r -d 'writes a page for a browser, with the tables and latencies'
-    complete -c $tool -l from -x -d 'takes calls from a time on'
-    complete -c $tool -l to -x -d 'takes calls up to a time'
-    complete -c $tool -l width -x -d 'prints no line wider than N columns'
-    complete -c $tool -l color -x -a 'auto always never' -d 'whether there are colours'
-    complete -c $tool -l program -r -d 'the nfs3canon to run, if it is not the one of this folder'
-    complete -c $tool -l filter -x -d 'takes the connections for which a display filter of Wireshark is true'
-    complete -c $tool -l port -x -d 'takes the connections that have one of these ports'
-    complete -c $tool -l allow-losses -d 'takes in part and left out as the status 0'
-    complete -c $tool -l allow-not-checked -d 'takes not checked as the status 0'
-end
-for tool in nfs3-meaning
-    complete -c $tool -s h -l help -d 'show this help message and exit'
-    complete -c $tool -l version -d 'show programs version number and exit'
-    complete -c $tool -l all -d 'lists each finding'
-    complete -c $tool -l rule -x -a '(__fish_append , read-data read-eof read-past-end read-count-data read-count-asked write-size write-committed write-count-asked write-count-data verifier not-committed listing name-gone name-there name-object handle-object same-ctime returns set-attributes made-attributes made-type guard entries-size entries-none entry-cookies entry-names entry-fileid mode-bits nsec write-ctime dir-type access-asked fsinfo)' -d 'finds only what breaks these rules'
-    complete -c $tool -l notes -d 'prints notes as well'
-    complete -c $tool -l explain -x -a 'read-data read-eof read-past-end read-count-data read-count-asked write-size write-committed write-count-asked write-count-data verifier not-committed listing name-gone name-there name-object handle-object same-ctime returns set-attributes made-attributes made-type guard entries-size entries-none entry-cookies entry-names entry-fileid mode-bits nsec write-ctime dir-type access-asked fsinfo' -d 'says what a rule is, and what may be the cause'
-    complete -c $tool -l accept -r -d 'takes the findings that a file accepts'
-    complete -c $tool -l junit -r -d 'writes JUnit XML'
-    complete -c $tool -l html -r -d 'writes a page for a browser'
-    complete -c $tool -l json -d 'prints JSON'
-    complete -c $tool -l csv -d 'prints comma-separated values'
-    complete -c $tool -l color -x -a 'auto always never' -d 'whether there are colours'
-    complete -c $tool -l program -r -d 'the nfs3canon to run, if it is not the one of this folder'
-    complete -c $tool -l filter -x -d 'takes the connections for which a display filter of Wireshark is true'
     complete -c $tool -l port -x -d 'takes the connections that have one of these ports'
     complete -c $tool -l allow-losses -d 'takes in part and left out as the status 0'
     complete -c $tool -l allow-not-checked -d 'takes not checked as the status 0'
@@ -125,22 +58,80 @@ for tool in nfs3-compare
     complete -c $tool -l junit -r -d 'writes the verdict and the findings as JUnit XML'
     complete -c $tool -l color -x -a 'auto always never' -d 'whether there are colours'
     complete -c $tool -l program -r -d 'the nfs3canon to run, if it is not the one of this folder'
-    complete -c $tool -l filter -x -d 'takes the connections for which a display filter of Wireshark is true'
     complete -c $tool -l port -x -d 'takes the connections that have one of these ports'
     complete -c $tool -l allow-losses -d 'takes in part and left out as the status 0'
     complete -c $tool -l allow-not-checked -d 'takes not checked as the status 0'
-end
-for tool in nfs3-explain
-    complete -c $tool -s h -l help -d 'show this help message and exit'
-    complete -c $tool -l version -d 'show programs version number and exit'
-    complete -c $tool -l filter -x -d 'takes the connections for which a display filter of Wireshark is true'
-    complete -c $tool -l port -x -d 'takes the connections that have one of these ports'
 end
 for tool in nfs3-cut
     complete -c $tool -s h -l help -d 'show this help message and exit'
     complete -c $tool -l version -d 'show programs version number and exit'
     complete -c $tool -l origins -d 'takes the exchanges too that gave the file handles'
     complete -c $tool -l program -r -d 'the nfs3canon to run, if it is not the one of this folder'
-    complete -c $tool -l filter -x -d 'takes the connections for which a display filter of Wireshark is true'
+    complete -c $tool -l port -x -d 'takes the connections that have one of these ports'
+end
+for tool in nfs3-explain
+    complete -c $tool -s h -l help -d 'show this help message and exit'
+    complete -c $tool -l version -d 'show programs version number and exit'
+    complete -c $tool -l port -x -d 'takes the connections that have one of these ports'
+end
+for tool in from_pcap nfs3-from-pcap
+    complete -c $tool -s h -l help -d 'show this help message and exit'
+    complete -c $tool -l version -d 'show programs version number and exit'
+    complete -c $tool -l port -x -d 'takes the connections that have one of these ports'
+end
+for tool in nfs3-meaning
+    complete -c $tool -s h -l help -d 'show this help message and exit'
+    complete -c $tool -l version -d 'show programs version number and exit'
+    complete -c $tool -l all -d 'lists each finding'
+    complete -c $tool -l rule -x -a '(__fish_append , read-data read-eof read-past-end read-count-data read-count-asked write-size write-committed write-count-asked write-count-data verifier not-committed listing name-gone name-there name-object handle-object same-ctime returns set-attributes made-attributes made-type guard entries-size entries-none entry-cookies entry-names entry-fileid mode-bits nsec write-ctime dir-type access-asked fsinfo)' -d 'finds only what breaks these rules'
+    complete -c $tool -l notes -d 'prints notes as well'
+    complete -c $tool -l explain -x -a 'read-data read-eof read-past-end read-count-data read-count-asked write-size write-committed write-count-asked write-count-data verifier not-committed listing name-gone name-there name-object handle-object same-ctime returns set-attributes made-attributes made-type guard entries-size entries-none entry-cookies entry-names entry-fileid mode-bits nsec write-ctime dir-type access-asked fsinfo' -d 'says what a rule is, and what may be the cause'
+    complete -c $tool -l accept -r -d 'takes the findings that a file accepts'
+    complete -c $tool -l junit -r -d 'writes JUnit XML'
+    complete -c $tool -l html -r -d 'writes a page for a browser'
+    complete -c $tool -l json -d 'prints JSON'
+    complete -c $tool -l csv -d 'prints comma-separated values'
+    complete -c $tool -l color -x -a 'auto always never' -d 'whether there are colours'
+    complete -c $tool -l program -r -d 'the nfs3canon to run, if it is not the one of this folder'
+    complete -c $tool -l port -x -d 'takes the connections that have one of these ports'
+    complete -c $tool -l allow-losses -d 'takes in part and left out as the status 0'
+    complete -c $tool -l allow-not-checked -d 'takes not checked as the status 0'
+end
+for tool in procedures nfs3-procedures
+    complete -c $tool -s h -l help -d 'show this help message and exit'
+    complete -c $tool -l version -d 'show programs version number and exit'
+    complete -c $tool -l beside -d 'prints two recordings side by side, with what changed'
+    complete -c $tool -l total -d 'prints no tables of connections'
+    complete -c $tool -l sort -x -a 'procedure calls again replies no-reply call-bytes reply-bytes median p99 most mean sum errors' -d 'has the largest of a column first'
+    complete -c $tool -l json -r -d 'writes the verdicts and the tables as JSON'
+    complete -c $tool -l csv -r -d 'writes the tables as comma-separated values'
+    complete -c $tool -l html -r -d 'writes a page for a browser, with the tables and latencies'
+    complete -c $tool -l from -x -d 'takes calls from a time on'
+    complete -c $tool -l to -x -d 'takes calls up to a time'
+    complete -c $tool -l width -x -d 'prints no line wider than N columns'
+    complete -c $tool -l color -x -a 'auto always never' -d 'whether there are colours'
+    complete -c $tool -l program -r -d 'the nfs3canon to run, if it is not the one of this folder'
+    complete -c $tool -l port -x -d 'takes the connections that have one of these ports'
+    complete -c $tool -l allow-losses -d 'takes in part and left out as the status 0'
+    complete -c $tool -l allow-not-checked -d 'takes not checked as the status 0'
+end
+for tool in verdicts nfs3-verdicts
+    complete -c $tool -s h -l help -d 'show this help message and exit'
+    complete -c $tool -l version -d 'show programs version number and exit'
+    complete -c $tool -s q -l quiet -d 'prints no row of what is ok, and no heads'
+    complete -c $tool -l junit -r -d 'writes the verdicts as JUnit XML'
+    complete -c $tool -l json -r -d 'writes the verdicts as JSON'
+    complete -c $tool -l html -r -d 'writes a page for a browser, with faults and latencies'
+    complete -c $tool -s j -x -d 'judges N recordings at once'
+    complete -c $tool -l growing -d 'takes a recording that ends inside a frame or a record as one that is still made'
+    complete -c $tool -l color -x -a 'auto always never' -d 'whether there are colours'
+    complete -c $tool -l program -r -d 'the nfs3canon to run, if it is not the one of this folder'
+    complete -c $tool -l port -x -d 'takes the connections that have one of these ports'
+    complete -c $tool -l allow-losses -d 'takes in part and left out as the status 0'
+    complete -c $tool -l allow-not-checked -d 'takes not checked as the status 0'
+end
+for tool in nfs3-where
+    complete -c $tool -s h -l help -d 'show this help message and exit'
+    complete -c $tool -l version -d 'show programs version number and exit'
     complete -c $tool -l port -x -d 'takes the connections that have one of these ports'
 end

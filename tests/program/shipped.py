@@ -247,7 +247,7 @@ def what_was_built_here(clone: Clone) -> None:
 def a_release(clone: Clone) -> None:
     """A release has the bytes of dist/, also from a clone in which nothing is built."""
     os.mkdir(clone.path('release'))
-    clone.want('release', clone.command('tools/release', 'release')[::2], (0, ''))
+    clone.want('release', clone.command('make', 'dist', 'OUT=release'), (0, '', ''))
     for archive in pathlib.Path(clone.path('release')).glob('*.tar.xz'):
         with tarfile.open(archive) as tar:
             for name in PROGRAMS:

@@ -9,7 +9,7 @@ PAGES = ('README.md', 'CONTRIBUTING.md', 'CHANGELOG.md', 'docs/ARCHITECTURE.md',
          'docs/DECISIONS.md', 'docs/FORMATS.md',
          'docs/PERFORMANCE.md', 'docs/PROOFS.md', 'docs/SECURITY.md', 'examples/README.md',
          'tests/README.md',
-         'tools/README.md', 'tools/DESIGN.md', 'tools/CHANGELOG.md', 'tools/tests/README.md')
+         'tools/README.md', 'tools/DESIGN.md', 'tools/tests/README.md')
 MOST_WORDS_OF_A_SENTENCE = 40
 MOST_WORDS_OF_A_BULLET = 60
 MOST_BULLETS = 12  # in a row of bullets under one heading

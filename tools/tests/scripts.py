@@ -1,5 +1,4 @@
 """Runs of the scripts in tools/, and what their tests make recordings of."""
-import contextlib
 import io
 import json
 import os
@@ -18,7 +17,6 @@ from tests.shared.containers import in_one
 from tests.shared.running import Answer, RunOptions, Runs, ended
 
 from ..nfs3tools.commands.verdicts import Judge
-from ..nfs3tools.judgement import following
 from ..nfs3tools.judgement.verdict import Verdict
 from ..nfs3tools.recordings.container import capture_of
 from ..nfs3tools.recordings.frames import Source
@@ -107,7 +105,7 @@ def whole(**options: typing.Any) -> list[bytes]:
 
 def taken_of(recording: bytes, **options: typing.Any) -> Taken:
     """What is taken of a recording, as `tools/from_pcap` does it."""
-    return take_from(Source(io.BytesIO(recording)), None, Options(**options), True, Progress(False))
+    return take_from(Source(io.BytesIO(recording)), Options(**options), True, Progress(False))
 
 
 def in_turn(talks: Sequence[Talk],
@@ -211,29 +209,15 @@ class Tools(Runs):
         return os.path.exists(self.path(name))
 
 
-def plain(program: str, recording: bytes, options: Options) -> list[Verdict]:
-    """The verdicts on a recording, as tools/verdicts has them."""
+def verdicts_on(program: str, recording: bytes, words: Sequence[str] = ()) -> list[Verdict]:
+    """The verdicts on a recording, as tools/verdicts with these words has them."""
+    parser = parser_of('', 'verdicts')
+    add_options(parser)
+    options = options_of(parser.parse_args(words))
     with tempfile.NamedTemporaryFile(prefix='nfs3canon') as file:
         file.write(recording)
         file.flush()
         return Judge(program, options, 1, False).verdicts(file.name)
-
-
-def followed(program: str, recording: bytes, options: Options) -> list[Verdict]:
-    """The same with --follow."""
-    said = list[Verdict]()
-    one = following.Following('-', program, options, said.append)
-    with contextlib.closing(one.connections.spool):
-        following.take_all(one, typing.cast(following.Growing, io.BytesIO(recording)))
-    return said
-
-
-def both_ways(program: str, recording: bytes, words: Sequence[str] = ()) -> list[list[Verdict]]:
-    """The verdicts on a recording, plain and with --follow, with these words."""
-    parser = parser_of('', 'verdicts')
-    add_options(parser)
-    options = options_of(parser.parse_args(words))
-    return [plain(program, recording, options), followed(program, recording, options)]
 
 
 def of_tshark(tools: Tools, recording: str, choice: str, *fields: str) -> list[list[str]]:

@@ -50,7 +50,9 @@ def write_scripts(tools: Tools, scripts: dict[str, str]) -> None:
 
 def released(tools: Tools, folder: str = '.') -> str:
     """Makes a release. Returns the name of its tar file."""
-    tools.want('release', tools.tool('release', folder)[0], 0)
+    done = ended(['make', '-C', str(TOP), 'dist', f'BUILD={tools.path("build")}',
+                  f'OUT={tools.path(folder)}'], tools.folder, limit=None)
+    tools.want('release', (done.status, done.error), (0, b''))
     return next(name for name in os.listdir(tools.path(folder)) if name.endswith('.tar.xz'))
 
 
@@ -203,7 +205,7 @@ def image_on(tools: Tools, podman: Podman, base: str) -> None:
     *_, commands = blocks_of(PAGE, 'sh')
     make, release, build, push = (line.split() for line in commands.splitlines())
     tools.want('the commands', (make, release, push),
-               (['mkdir', 'image'], ['tools/release', 'image'], ['podman', 'push', build[3]]))
+               (['mkdir', 'image'], ['make', 'dist', 'OUT=image'], ['podman', 'push', build[3]]))
     os.mkdir(tools.path('image'))
     released(tools, 'image')
     shutil.copy(TOP / 'Containerfile', tools.folder)

@@ -20,7 +20,7 @@ from .recordings import (
     enhanced, fragments, fragments_6, in_geneve, in_gre, in_labels, in_session, in_snap, in_vxlan,
     interface, pcapng, section, udp)
 from .scripts import (
-    ALL, CALLS, REPLIES, REPLY, Tools, both_ways, connection_of, sums, taken_of, whole)
+    ALL, CALLS, REPLIES, REPLY, Tools, verdicts_on, connection_of, sums, taken_of, whole)
 
 NFSACL, PORTMAP = 100_227, 100_000
 CLIENT_6, SERVER_6 = '2001:db8::7', '2001:db8::1'
@@ -255,21 +255,19 @@ def line_of(case: Case) -> str:
 
 
 def words_of_all_kinds(tools: Tools) -> None:
-    """Rows, sums and statuses of each kind, plain, with --follow, and in files."""
+    """Rows, sums and statuses of each kind, also in files."""
     for case in CASES:
-        line, ways = line_of(case), both_ways(tools.program, pcap(good() + case.frames), case.words)
-        words_in_files(tools, case, ways[0])
-        for how, verdicts in zip(('plain', 'followed'), ways):
-            rows = sorted((verdict.state, verdict.message) for verdict in verdicts
-                          if is_row(verdict))
-            tools.want(f'{case.what}, {how}', (rows, counts_after(verdicts).words()),
-                       (sorted([('ok', 'ok'), *zip(case.states, case.messages)]), line))
-            statuses = tuple(status_of(verdicts, allowed)
-                             for allowed in (Allowed(), Allowed(losses=True),
-                                             Allowed(not_checked=True)))
-            tools.want(f'{case.what}, {how}, the status', statuses, case.statuses)
-            tools.want(f'{case.what}, {how}, all allowed', status_of(verdicts, Allowed(True, True)),
-                       int('refused' in case.states))
+        verdicts = verdicts_on(tools.program, pcap(good() + case.frames), case.words)
+        words_in_files(tools, case, verdicts)
+        rows = sorted((verdict.state, verdict.message) for verdict in verdicts if is_row(verdict))
+        tools.want(case.what, (rows, counts_after(verdicts).words()),
+                   (sorted([('ok', 'ok'), *zip(case.states, case.messages)]), line_of(case)))
+        statuses = tuple(status_of(verdicts, allowed)
+                         for allowed in (Allowed(), Allowed(losses=True),
+                                         Allowed(not_checked=True)))
+        tools.want(f'{case.what}, the status', statuses, case.statuses)
+        tools.want(f'{case.what}, all allowed', status_of(verdicts, Allowed(True, True)),
+                   int('refused' in case.states))
 
 
 def words_in_files(tools: Tools, case: Case, verdicts: list[Verdict]) -> None:
@@ -305,13 +303,12 @@ def recordings_that_end_inside_a_frame(tools: Tools) -> None:
         ends.append(ends[-1] + 16 + len(frame))
     for number in range(3, 15):
         for size in {ends[number] + 1, ends[number] + 17, ends[number + 1] - 1}:
-            for how, verdicts in zip(('plain', 'followed'),
-                                     both_ways(tools.program, content[:size])):
-                messages, counts = [verdict.message for verdict in verdicts], counts_after(verdicts)
-                tools.want(f'{size} bytes, {how}',
-                           (f'in part: the recording ends inside a frame (frame {number + 1})'
-                            in messages,
-                            counts.refused, status_of(verdicts, Allowed())), (True, 0, 1))
+            verdicts = verdicts_on(tools.program, content[:size])
+            messages, counts = [verdict.message for verdict in verdicts], counts_after(verdicts)
+            tools.want(f'{size} bytes',
+                       (f'in part: the recording ends inside a frame (frame {number + 1})'
+                        in messages,
+                        counts.refused, status_of(verdicts, Allowed())), (True, 0, 1))
     found = run_of(tools, '--allow-losses', '-', stdin=content[:-1])
     tools.want('allowed', found[0], 0)
     packers: dict[str, typing.Callable[[bytes], bytes]] = {'xz': lzma.compress}
@@ -320,14 +317,38 @@ def recordings_that_end_inside_a_frame(tools: Tools) -> None:
                                                       stdout=subprocess.PIPE, check=True).stdout
     long = pcap(good() + [frame for port in range(701, 760) for frame in whole(port=port)])
     for name, pack in packers.items():
-        verdicts = both_ways(tools.program, pack(long)[:-20])[0]
+        verdicts = verdicts_on(tools.program, pack(long)[:-20])
         counts, is_told = counts_after(
             verdicts), 'in part: the recording ends inside a frame' in verdicts[-1].message
         tools.want(name, (is_told, counts.refused, counts.errors, status_of(verdicts, Allowed())),
                    (True, 0, 0, 1))
-    verdicts = both_ways(tools.program, pcapng(good())[:-1])[0]
+    verdicts = verdicts_on(tools.program, pcapng(good())[:-1])
     tools.want('pcapng', [verdict.message for verdict in verdicts],
                ['ok', 'in part: the recording ends inside a frame (frame 15)'])
+
+
+def recordings_that_grow(tools: Tools) -> None:
+    """With --growing the end of a frame or record may come yet; what is missing before may not."""
+    content, frames = pcap(good()), good()
+    lost = pcap(frames[:4] + frames[5:])[:-1]
+    for what, recording, statuses in (('a frame', content[:-1], (1, 0)),
+                                      ('a record', pcap(frames[:4]), (1, 0)),
+                                      ('lost', lost, (1, 1)), ('whole', content, (0, 0))):
+        tools.write('a.pcap', recording)
+        found = [tools.tool('verdicts', *words, 'a.pcap') for words in ([], ['--growing'])]
+        tools.want(what, tuple(answer[0] for answer in found), statuses)
+        tools.want(f'{what}, said', found[1][2] != '', what != 'whole')
+
+
+def options_that_are_gone(tools: Tools) -> None:
+    """Each says in one line what to use in its place."""
+    tools.write('a.pcap', pcap(good()))
+    for words, instead in ((['verdicts', '--follow', '-'], 'watch -n 10'),
+                           (['verdicts', '--filter', 'tcp', 'a.pcap'], 'tshark -r'),
+                           (['from_pcap', '--filter', 'tcp', 'a.pcap', 'out'], 'tshark -r')):
+        status, out, error = tools.tool(*words)
+        tools.want(' '.join(words), (status, out, error.count('\n'), instead in error),
+                   (2, '', 1, True))
 
 
 def interfaces_that_are_not_read(tools: Tools) -> None:
@@ -335,10 +356,10 @@ def interfaces_that_are_not_read(tools: Tools) -> None:
     frames = [*map(enhanced, good()), *(enhanced(frame, index=1) for frame in good())]
     recording = section() + interface() + interface(105) + b''.join(frames)
     told = 'not checked: 15 frames of the link type 105 are not read; what is in them is not known'
-    for how, verdicts in zip(('plain', 'followed'), both_ways(tools.program, recording)):
-        statuses = [status_of(verdicts, Allowed(not_checked=allowed)) for allowed in (False, True)]
-        tools.want(how, ([verdict.message for verdict in verdicts], statuses),
-                   (['ok', told], [1, 0]))
+    verdicts = verdicts_on(tools.program, recording)
+    statuses = [status_of(verdicts, Allowed(not_checked=allowed)) for allowed in (False, True)]
+    tools.want('rows', ([verdict.message for verdict in verdicts], statuses),
+               (['ok', told], [1, 0]))
 
 
 def ports_that_are_chosen(tools: Tools) -> None:
@@ -346,12 +367,10 @@ def ports_that_are_chosen(tools: Tools) -> None:
     frames = whole() + whole(port=701, service=900) + whole(port=702, service=20_048) + datagrams(4)
     for ports, found, left in (('900', 1, 0), ('2049,20048', 2, 1), ('2049', 1, 1),
                                ('701,702', 2, 0), ('5', 0, 0)):
-        for how, verdicts in zip(('plain', 'followed'),
-                                 both_ways(tools.program, pcap(frames), ['--port', ports])):
-            tools.want(f'{ports}, {how}', (status_of(verdicts, Allowed()),
-                                           counts_after(verdicts).words()),
-                       (int(left > 0 or not found),
-                        sums(found, left_out=left, errors=int(not found))))
+        verdicts = verdicts_on(tools.program, pcap(frames), ['--port', ports])
+        tools.want(ports, (status_of(verdicts, Allowed()), counts_after(verdicts).words()),
+                   (int(left > 0 or not found),
+                    sums(found, left_out=left, errors=int(not found))))
     for ports in ('', '2049,', 'nfs', '0', '65536', '-1', '2049,2049'):
         try:
             tools.want(f'no ports: {ports}', port_numbers(ports), 'refused')

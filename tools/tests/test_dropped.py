@@ -1,27 +1,20 @@
-"""Tests that no recorded byte is dropped without being counted, plain and with --follow."""
-import io
+"""Tests that no recorded byte is dropped without being counted."""
 import itertools
 import struct
-import time
 import typing
-from unittest.mock import patch
 
 from examples.messages import fragment
 from examples.packets import ACK, FIN, RST, SYN, Talk, ethernet, pcap
-from tests.shared.running import begin, pipe_of
 
-from ..nfs3tools.judgement import following
-from ..nfs3tools.judgement.verdict import Verdict, is_row, status_of
+from ..nfs3tools.judgement.verdict import is_row, status_of
 from ..nfs3tools.recordings import spool, streams
 from ..nfs3tools.recordings.coverage import Allowed
-from ..nfs3tools.recordings.selection import Options
 from .recordings import fragments, fragments_6
 from .scripts import (
-    ALL, CALL, CALLS, REPLIES, REPLY, VERDICTS, Tools, both_ways, stream, taken_of, timed, whole)
+    ALL, CALL, CALLS, REPLIES, REPLY, Tools, stream, taken_of, timed, verdicts_on, whole)
 
 BAD = 77  # an accept_stat that is not defined
 RECORD_16 = 'server record 16 byte 20: BadEnum, frame %d'
-ENDS = '192.0.2.7:700 and 192.0.2.1:2049'
 
 
 def reply(number: int, is_bad: bool) -> bytes:
@@ -45,24 +38,21 @@ def with_times(frames: list[bytes], seconds: dict[int, int]) -> bytes:
                   for number, (pause, frame) in enumerate(zip(pauses, frames))), 1)
 
 
-def judged(tools: Tools, recording: bytes) -> list[tuple[int, list[str], str]]:
-    """The status, the verdicts of all rows, and what else is reported, plain and with
-    --follow."""
-    found = []
-    for verdicts in both_ways(tools.program, recording):
-        notes = [note for verdict in verdicts
-                 for note in [*verdict.notes, *([] if is_row(verdict) else [verdict.message])]]
-        rows = sorted(verdict.message for verdict in verdicts if is_row(verdict))
-        found.append((status_of(verdicts, Allowed()), rows, '\n'.join(notes)))
-    return found
+def judged(tools: Tools, recording: bytes) -> tuple[int, list[str], str]:
+    """The status, the verdicts of all rows, and what else is reported."""
+    verdicts = verdicts_on(tools.program, recording)
+    notes = [note for verdict in verdicts
+             for note in [*verdict.notes, *([] if is_row(verdict) else [verdict.message])]]
+    rows = sorted(verdict.message for verdict in verdicts if is_row(verdict))
+    return status_of(verdicts, Allowed()), rows, '\n'.join(notes)
 
 
-def both(tools: Tools, what: str, recording: bytes, status: int, rows: list[str],
+def told(tools: Tools, what: str, recording: bytes, status: int, rows: list[str],
          note: str = '') -> None:
-    """Both ways give this status and these rows, and tell this."""
-    for how, found in zip(('plain', 'followed'), judged(tools, recording)):
-        tools.want(f'{what}, {how}', (found[0], found[1], note in found[2] or found[2]),
-                   (status, sorted(rows), True))
+    """The verdicts have this status and these rows, and tell this."""
+    found = judged(tools, recording)
+    tools.want(what, (found[0], found[1], note in found[2] or found[2]),
+               (status, sorted(rows), True))
 
 
 # --- Far numbers ---
@@ -77,7 +67,7 @@ def much_is_missing_in_the_middle(tools: Tools) -> None:
             frames += [*exchanged(talk, range(10, 20), bad), *talk.closed()]
             row = (f'ok in part: 20 calls, {2 * lost:,} bytes missing' if bad is None else RECORD_16
                    % (3 + 2 * 16))
-            both(tools, f'{lost} bytes, {bad}', pcap(frames), 1, [row])
+            told(tools, f'{lost} bytes, {bad}', pcap(frames), 1, [row])
 
 
 def much_is_missing_at_the_end(tools: Tools) -> None:
@@ -88,10 +78,10 @@ def much_is_missing_at_the_end(tools: Tools) -> None:
         talk.next = [talk.next[0] + lost, talk.next[1] + lost]
         ending = [talk.frame(0, FIN | ACK), talk.frame(1, FIN | ACK, ahead=0)]
         acknowledging = [talk.frame(0, ACK), talk.frame(1, ACK)]
-        both(tools, f'{lost} bytes', pcap(frames + acknowledging + ending), 1,
+        told(tools, f'{lost} bytes', pcap(frames + acknowledging + ending), 1,
              [f'ok in part: 10 calls, {2 * lost:,} bytes missing'])
         row = f'ok in part: 10 calls, {2 * lost:,} bytes missing'
-        both(tools, f'{lost} bytes, FIN alone', pcap(frames + ending), 1, [row])
+        told(tools, f'{lost} bytes, FIN alone', pcap(frames + ending), 1, [row])
 
 
 def one_frame_that_is_far(tools: Tools) -> None:
@@ -103,7 +93,7 @@ def one_frame_that_is_far(tools: Tools) -> None:
         frames.append(talk.frame(1, ACK))
         talk.next[0] -= far
         frames += [*exchanged(talk, range(10, 20)), *talk.closed()]
-        both(tools, f'{far}', pcap(frames), 1,
+        told(tools, f'{far}', pcap(frames), 1,
              ['ok in part: 20 calls, bytes far beyond the last may be missing'],
              'client: frame 24 shows bytes far beyond the last that is known, and no other frame '
              'does')
@@ -130,49 +120,12 @@ def stray_resets(tools: Tools) -> None:
         talk = Talk()
         frames = [*talk.opened(), *exchanged(talk, range(10)), talk.frame(1, RST, ahead=ahead),
                   *exchanged(talk, range(10, 20), 15), *talk.closed()]
-        both(tools, what, pcap(frames), 1, [RECORD_16 % 36])
+        told(tools, what, pcap(frames), 1, [RECORD_16 % 36])
         talk = Talk()
         frames = [*talk.opened(), talk.frame(1, RST, ahead=ahead), *exchanged(talk, range(20)),
                   *talk.closed()]
-        both(tools, what + ', before any payload', pcap(frames), 0, ['ok'],
+        told(tools, what + ', before any payload', pcap(frames), 0, ['ok'],
              'frame 4: a RST that its receiver does not expect')
-
-
-def what_comes_after_a_line(tools: Tools) -> None:
-    """--follow reports bytes that come after a line, which the plain tool judges."""
-    talk = Talk()
-    frames = [*talk.opened(), *exchanged(talk, range(10)), talk.frame(1, RST),
-              *exchanged(talk, range(10, 20), 15), *talk.closed()]
-    plain, followed = judged(tools, pcap(frames))
-    tools.want('plain', plain[:2], (1, [RECORD_16 % 36]))
-    late = 10 * (CALL + REPLY)
-    tools.want('followed', followed[:2],
-               (1, [f'in part: {ENDS}: {late} bytes came after it was judged', 'ok']))
-    talk = Talk()
-    again = [*talk.opened(), *exchanged(talk, range(10)), *talk.closed()]
-    both(tools, 'the same bytes', pcap([*again, *again[3:7]]), 0, ['ok'])
-    other = again[5][:-4] + b'else'
-    plain, followed = judged(tools, pcap([*again, other]))
-    tools.want('plain, other content', plain[:2],
-               (1, ['ok in part: 10 calls, 1 frame with other content']))
-    tools.want('followed, other content', followed[:2],
-               (1, [f'in part: {ENDS}: {CALL} bytes came after it was judged', 'ok']))
-
-
-def many_idle_connections(tools: Tools) -> None:
-    """A connection that was judged early is reported if it has bytes later."""
-    talks = [Talk(1_000 + number) for number in range(32)]
-    frames = [frame for talk in talks for frame in talk.opened()]
-    frames += [frame for talk in talks for frame in exchanged(talk, range(2))]
-    said = list[Verdict]()
-    one = following.Following('-', tools.program, Options(), said.append)
-    with patch.object(following, 'OPEN_AT_MOST', 20):
-        following.take_all(one, typing.cast(following.Growing, io.BytesIO(pcap(frames))))
-    one.connections.spool.close()
-    late = [verdict for verdict in said
-            if verdict.message.endswith(f'{2 * (CALL + REPLY)} bytes came after it was judged')]
-    tools.want('followed', (len(late), {verdict.state for verdict in late}), (12, {'in part'}))
-    tools.want('the others', sum(verdict.state == 'ok' for verdict in said), 20)
 
 
 def stray_ends(tools: Tools) -> None:
@@ -182,12 +135,12 @@ def stray_ends(tools: Tools) -> None:
             talk = Talk()
             frames = [*talk.opened(), *exchanged(talk, range(10)), talk.frame(side, FIN | ACK),
                       *exchanged(talk, range(10, 20), bad), *talk.closed()]
-            both(tools, f'{side} {bad}', pcap(frames), bad is not None, ['ok'] if bad is None
+            told(tools, f'{side} {bad}', pcap(frames), bad is not None, ['ok'] if bad is None
                  else [RECORD_16 % 36])
     talk = Talk()
     frames = [*talk.opened(), *exchanged(talk, range(10)), talk.frame(1, FIN | ACK)]
     frames += [talk.frame(1, ACK, reply(9, False)), talk.frame(0, FIN | ACK)]
-    both(tools, 'not acknowledged', pcap(frames), 1,
+    told(tools, 'not acknowledged', pcap(frames), 1,
          [f'ok in part: 10 calls, {REPLY} bytes left out'],
          f'server: {REPLY} bytes fit nowhere in the stream, and are left out, first frame 25')
     talk = Talk()
@@ -196,7 +149,7 @@ def stray_ends(tools: Tools) -> None:
     frames += [talk.frame(1, FIN | ACK)]
     talk.next[1] -= REPLY
     frames += [talk.frame(1, FIN | ACK), talk.frame(0, FIN | ACK)]
-    both(tools, 'two ends', pcap(frames), 1, [f'ok in part: 10 calls, {REPLY} bytes missing'])
+    told(tools, 'two ends', pcap(frames), 1, [f'ok in part: 10 calls, {REPLY} bytes missing'])
 
 
 def stray_beginnings(tools: Tools) -> None:
@@ -208,7 +161,7 @@ def stray_beginnings(tools: Tools) -> None:
                 frames = [*talk.opened(), *exchanged(talk, range(10)),
                           talk.frame(side, flags, ahead=ahead),
                           *exchanged(talk, range(10, 20), bad), *talk.closed()]
-                both(tools, f'{flags} {side} {ahead} {bad}', pcap(frames), bad is not None,
+                told(tools, f'{flags} {side} {ahead} {bad}', pcap(frames), bad is not None,
                      ['ok'] if bad is None else [RECORD_16 % 36],
                      'frame 24: a SYN that fits no connection' if bad is None else '')
 
@@ -219,15 +172,15 @@ def ports_that_are_used_again(tools: Tools) -> None:
     older = [*first.opened(), *exchanged(first, range(10)), *first.closed()]
     newer = [*second.opened(), *exchanged(second, range(10)), *second.closed()]
     mixed = [*older[:-5], *newer[:5], *older[-5:], *newer[5:]]
-    both(tools, 'late segments', pcap(mixed), 0, ['ok', 'ok'])
+    told(tools, 'late segments', pcap(mixed), 0, ['ok', 'ok'])
     first, again = Talk(), Talk()
     refused = [*first.opened(), *exchanged(first, range(10), 5), *first.closed()]
     newer = [*again.opened(), *exchanged(again, range(10)), *again.closed()]
     for what, frames in (('the same numbers', refused + newer),
                          ('after RST', refused[:-2] + [first.frame(0, RST)] + newer)):
         rows = ['ok', 'server record 6 byte 20: BadEnum, frame 15']
-        both(tools, 'refused, then ' + what, pcap(frames), 1, rows)
-        both(tools, 'refused, and seconds later ' + what, with_times(frames, {17: 5, 30: 5}), 1,
+        told(tools, 'refused, then ' + what, pcap(frames), 1, rows)
+        told(tools, 'refused, and seconds later ' + what, with_times(frames, {17: 5, 30: 5}), 1,
              rows)
 
 
@@ -238,13 +191,13 @@ def syn_after_data(tools: Tools) -> None:
         frames = [frames[0], frames[1], frames[2], frames[3], frames[8], *frames[4:8], *frames[9:]]
         early, late = swapped
         frames.insert(late, frames.pop(early))
-        both(tools, f'{swapped}', pcap(frames), 0, ['ok'])
+        told(tools, f'{swapped}', pcap(frames), 0, ['ok'])
     frames = whole()
     lost = [*frames[1:3], frames[4], frames[0], *frames[5:]]
     missing = -(-len(ALL[0]) // 5)
-    found = judged(tools, pcap(lost))
-    tools.want('bytes before the first', [(status, f'{missing} bytes missing' in rows[0])
-                                          for status, rows, _ in found], [(1, True)] * 2)
+    status, rows, _ = judged(tools, pcap(lost))
+    tools.want('bytes before the first', (status, f'{missing} bytes missing' in rows[0]),
+               (1, True))
 
 
 def other_content(tools: Tools) -> None:
@@ -254,14 +207,14 @@ def other_content(tools: Tools) -> None:
     other = talk.frame(0, ACK, b'x' * CALL, ahead=-3 * CALL)
     before = talk.frame(0, ACK, b'x' * 9, ahead=-10 * CALL - 9)
     keep_alive, reset = talk.frame(0, ACK, b'x', ahead=-1), talk.frame(0, RST, b'a reason')
-    both(tools, 'other content', pcap([*frames, other, *talk.closed()]), 1,
+    told(tools, 'other content', pcap([*frames, other, *talk.closed()]), 1,
          ['ok in part: 10 calls, 1 frame with other content'],
          '1 frame repeats bytes with other content, first frame 24')
     talk.next = [talk.next[0] - 1, talk.next[1]]
-    both(tools, 'before the first', pcap([*frames, before, *talk.closed()]), 1,
+    told(tools, 'before the first', pcap([*frames, before, *talk.closed()]), 1,
          ['ok in part: 10 calls, 9 bytes left out'],
          'client: 9 bytes fit nowhere in the stream, and are left out, first frame 24')
-    both(tools, 'a keep-alive', pcap([*frames, keep_alive, reset]), 0, ['ok'])
+    told(tools, 'a keep-alive', pcap([*frames, keep_alive, reset]), 0, ['ok'])
 
 
 def other_content_beyond_an_end(tools: Tools) -> None:
@@ -273,7 +226,7 @@ def other_content_beyond_an_end(tools: Tools) -> None:
         frames = [*talk.opened(), *exchanged(talk, range(10)), talk.frame(1, FIN | ACK),
                   *exchanged(talk, [10]), talk.frame(1, ACK, again, ahead=-REPLY),
                   *exchanged(talk, range(11, 20)), *talk.closed()]
-        both(tools, what, pcap(frames), int(row != 'ok'), [row],
+        told(tools, what, pcap(frames), int(row != 'ok'), [row],
              '' if row == 'ok' else '1 frame repeats bytes with other content, first frame 27')
 
 
@@ -315,20 +268,3 @@ def stale_fragments(tools: Tools) -> None:
                            else ['1 datagram of TCP is not taken, since not all fragments of it '
                                  'came in time'])
                 found.spool.close()
-
-
-def a_file_that_becomes_shorter(tools: Tools) -> None:
-    """With --follow that is reported, and the status is 1."""
-    tools.write('a.pcap', pcap(whole()))
-    process = begin([VERDICTS, '--follow', '--program', tools.program, 'a.pcap'], tools.folder)
-    out = pipe_of(process.stdout)
-    tools.want('what is there', [out.readline().split()[0], out.readline().split()[-1]],
-               [b'recording', b'ok'])
-    with open(tools.path('a.pcap'), 'r+b') as file:
-        file.truncate(24)
-    begun = time.monotonic()
-    rest = out.read().decode().splitlines()
-    tools.want('it ends', (process.wait(20), time.monotonic() < begun + 20), (1, True))
-    tools.want('told',
-               rest[0].endswith('the recording is damaged after frame 15: the file has become '
-                                'shorter than what was read of it'), True)

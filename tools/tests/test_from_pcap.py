@@ -1,14 +1,11 @@
 """Tests of how the streams of recordings are put together, alike for all tools."""
 import itertools
-import lzma
 import os
 import random
-import shutil
 import struct
 import subprocess
 import sys
 import typing
-import unittest
 
 from examples import messages
 from examples.messages import NFS, call, success
@@ -571,38 +568,3 @@ def streamed(tools: Tools, count: int, lost: int) -> tuple[int, list[str]]:
         error.seek(0)
         *told, _, taken = error.read().decode().split()
         return int(taken) // 1024, told
-
-
-@unittest.skipUnless(shutil.which('tshark'), 'tshark is not there')
-def filters(tools: Tools) -> None:
-    """--filter, which alone asks tshark; what is in its brackets stays there."""
-    one, two = whole(port=700), whole(port=701, service=111)
-    tools.write('a.pcap', pcap([frame for pair in zip(one, two) for frame in pair]
-                               + [ethernet(datagram(CLIENT, SERVER, bytes(30), 17))]))
-    for words, ports in (('tcp.port == 111', [701]),
-                         ('tcp.port == 111 or tcp.port == 700', [700, 701]), ('tcp.port == 5', [])):
-        status, _, told = tools.tool('from_pcap', '--filter', words, 'a.pcap', 'out')
-        found = [int(line.split(':')[2].split()[0]) for line in told.splitlines()
-                 if ': client ' in line]
-        tools.want(words, (status, found), (0 if ports else 1, ports))
-    status, _, told = tools.tool('from_pcap', '--filter', 'tcp.port == 111', '-', 'out',
-                                 stdin=pcap(one + two))
-    tools.want('standard input', (status, ':701 and' in told), (0, True))
-    tools.write('a.xz', lzma.compress(pcap(one + two)))
-    for name in ('a.xz', 'a.x[yz]'):
-        tools.write('a.xy', lzma.compress(pcap(whole(port=702))))
-        status, _, told = tools.tool('from_pcap', '--filter', 'tcp.port == 111 or tcp.port == 702',
-                                     name, 'out')
-        found = [port for port in (700, 701, 702) if f':{port} and' in told]
-        tools.want('compressed', (status, found), (0, [701] if name == 'a.xz' else [701, 702]))
-    tools.write('a.xz', lzma.compress(pcap(one + two))[:-9])
-    answer = tools.tool('from_pcap', '--filter', 'tcp', 'a.xz', 'out')
-    tools.want('compressed and cut', answer,
-               (2, '', 'from_pcap: the compressed file is cut short\n'))
-    status, _, told = tools.tool('from_pcap', '--filter', 'no.such == 1', 'a.pcap', 'out')
-    tools.want('a filter that is none', (status, told.startswith('from_pcap: tshark: ')), (2, True))
-    alone = {**os.environ, 'PATH': '/nonexistent:' + os.path.dirname(sys.executable)}
-    if not shutil.which('tshark', path=alone['PATH']):
-        answer = tools.tool('from_pcap', '--filter', 'tcp', 'a.pcap', 'out', env=alone)
-        tools.want('without tshark', answer,
-                   (2, '', 'from_pcap: tshark is missing, which --filter needs\n'))

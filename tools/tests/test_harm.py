@@ -307,23 +307,6 @@ def programs_that_die(tools: Tools) -> None:
                  'cannot be started')
 
 
-def filters_that_die(tools: Tools) -> None:
-    """A tshark that dies has not chosen frames; one that refuses a filter has."""
-    os.mkdir(tools.path('bin'))
-    env = {**os.environ, 'PATH': f'{tools.path("bin")}:{os.environ["PATH"]}'}
-    for how, status, told in ((KILLED, 3, 'tshark was killed by signal 9'),
-                              ('echo 4; ' + KILLED, 3, 'tshark was killed by signal 9'),
-                              (ABSENT, 3, 'tshark ended with status 127'),
-                              ('echo "tshark: no" >&2; echo more >&2; exit 4', 2, 'tshark: no')):
-        tools.write('bin/tshark', f'#!/bin/sh\n{how}\n'.encode())
-        os.chmod(tools.path('bin/tshark'), 0o755)
-        for words in (['from_pcap', '--filter', 'tcp', FIRST, 'out'],
-                      ['where', '--filter', 'tcp', FIRST, 'file 12']):
-            one_line(tools, f'{words[0]}: {how}', tools.tool(*words, env=env), status,
-                     f'{words[0]}: {told}')
-        tools.want('OUT', tools.exists('out'), False)
-
-
 # --- Standard streams, and names ---
 
 # Command lines, and whether something goes to standard output, and to standard error.
@@ -336,8 +319,7 @@ SAYING: list[tuple[list[str], bool, bool]] = [
     (['procedures', '--beside', FIRST, CHANGED], True, False),
     (['cut', FIRST, PLACE, 'out'], True, False), (['where', FIRST, PLACE], True, False),
     (['where', FIRST, 'nothing'], False, True), (['from_pcap', FIRST, 'out'], False, True),
-    (['explain', NULL, PLACE], True, False), (['install', 'prefix'], True, False),
-    (['release', '--program', 'absent', '.'], False, True), (['compare', '--help'], True, False)]
+    (['explain', NULL, PLACE], True, False), (['compare', '--help'], True, False)]
 
 
 def closed_outputs(tools: Tools) -> None:
@@ -414,9 +396,7 @@ def names(tools: Tools) -> None:
             ['compare', '--program', HOSTILE, capture, capture],
             ['verdicts', *program, recording, HOSTILE],
             ['verdicts', *program, '--junit', recording, capture],
-            ['explain', recording, 'file 0: BadMagic'], ['explain', HOSTILE, 'file 8'],
-            ['install', '--program', HOSTILE, 'prefix'],
-            ['install', *program, HOSTILE], ['release', '--program', HOSTILE, '.']]
+            ['explain', recording, 'file 0: BadMagic'], ['explain', HOSTILE, 'file 8']]
     for words in rows:
         command = [tool(words[0]), *words[1:]]
         done = ended([os.fsencode(word) for word in command], tools.folder)
@@ -439,9 +419,8 @@ def names(tools: Tools) -> None:
 
 MANY = 'RECORDING|CAPTURE [RECORDING|CAPTURE ...]'
 OPERANDS = {'calls': MANY, 'compare': 'A B', 'cut': 'RECORDING|CAPTURE POSITION OUT',
-            'explain': 'FILE [POSITION]', 'from_pcap': 'RECORDING OUT', 'install': '[PREFIX]',
-            'procedures': MANY, 'release': '[FOLDER]', 'verdicts': MANY,
-            'where': 'RECORDING [POSITION]'}
+            'explain': 'FILE [POSITION]', 'from_pcap': 'RECORDING OUT',
+            'procedures': MANY, 'verdicts': MANY, 'where': 'RECORDING [POSITION]'}
 
 
 def refused_lines(tools: Tools) -> None:

@@ -1,5 +1,4 @@
-"""Tests of tools/install and tools/release: what is installed is run elsewhere."""
-import hashlib
+"""Tests of the Makefile: what is installed is run elsewhere."""
 import os
 import pathlib
 import re
@@ -30,9 +29,15 @@ class Place(Runs):
         """What a command ended with."""
         return ended(words, self.folder, limit=None).text()
 
-    def tool(self, name: str, *words: str) -> Answer:
-        """What a script of tools/ ended with, on the program of the tests."""
-        return self.command(str(TOP / 'tools' / name), '--program', self.program, *words)
+    def make(self, target: str, *words: str, umask: str = '022') -> Answer:
+        """What `make` ended with, which leaves the clone as it is."""
+        return self.command('bash', '-c', f'umask {umask}; exec "$@"', 'bash', 'make', '-sC',
+                            str(TOP), f'BUILD={self.path("build")}', target, *words)
+
+    def installed(self, prefix: str = 'prefix') -> pathlib.Path:
+        """Installs under a prefix in the folder, and returns it."""
+        self.want('install', self.make('install', f'PREFIX={self.path(prefix)}'), (0, '', ''))
+        return pathlib.Path(self.path(prefix))
 
 
 def version() -> str:
@@ -79,7 +84,7 @@ def works(place: Place, prefix: pathlib.Path) -> None:
 
 def signals_leave_nothing(place: Place) -> None:
     """A signal ends launcher and program, and leaves no file of this run."""
-    place.want('install', place.tool('install', 'prefix')[0], 0)
+    place.installed()
     os.mkdir(place.path('out'))
     mine, half = '.nfs3canon-0123456789abcdef', (
         TOP / 'examples/two_connections.nfs3cap').read_bytes()[:-4]
@@ -107,7 +112,7 @@ def signals_leave_nothing(place: Place) -> None:
 
 def part_named_by_a_user(place: Place) -> None:
     """A signal takes away no IN that is named like a part."""
-    place.want('install', place.tool('install', 'prefix')[0], 0)
+    place.installed()
     name = '.nfs3canon-0123456789abcdef'
     place.write(name, packed((stream(call(xid, NFS, 3, 0) for xid in range(9_000)), b'')))
     for launcher in (TOP, pathlib.Path(place.folder, 'prefix/bin')):
@@ -126,14 +131,14 @@ def part_named_by_a_user(place: Place) -> None:
 
 def a_limit_on_the_size_of_files(place: Place) -> None:
     """If OUT is longer than files may be, it is not written, and nothing else is left."""
-    place.want('install', place.tool('install', 'prefix')[0], 0)
+    place.installed()
     place.write('in', packed((stream(call(xid, NFS, 3, 0) for xid in range(900)), b'')))
     for launcher in (TOP, pathlib.Path(place.folder, 'prefix/bin')):
         for words in (('nfs3canon', 'canon', 'in', 'out'), ('nfs3mask', 'in', 'out')):
             found = place.command('bash', '-c', 'ulimit -f 1; exec "$@"', 'bash',
                                   str(launcher / words[0]), *words[1:])
             place.want(f'{launcher} {words[0]}', (found[0], sorted(os.listdir(place.folder))),
-                       (3, ['in', 'prefix']))
+                       (3, ['build', 'in', 'prefix']))
 
 
 PIP = '--no-build-isolation --no-index --no-warn-script-location --root-user-action=ignore'.split()
@@ -163,7 +168,7 @@ def by_pip(place: Place) -> None:
     status, _, error = place.command(*made, str(TOP / 'examples/ganesha_a.pcap'))
     place.want('without programs', (status, error), (
         2, 'nfs3-verdicts: nfs3canon is missing: it is neither beside the tools nor on the PATH; '
-        '`tools/install` in a clone of nfs3canon installs it\n'))
+        '`make install` in a clone of nfs3canon installs it\n'))
     place.want('help',
                'man/verdicts.1 of the tools in a clone' in place.command(*made, '--help')[1], True)
 
@@ -189,8 +194,7 @@ OTHER_NAMES = (r'tools/|(?<!nfs3-)\b(?:from_pcap|where|verdicts|calls|procedures
 
 def named_as_installed(place: Place) -> None:
     """Help and manual pages have the names under which the tools are installed."""
-    prefix = pathlib.Path(place.folder, 'prefix')
-    place.want('install', place.tool('install', 'prefix')[0], 0)
+    prefix = place.installed()
     for tool in TOOLS:
         name = 'nfs3-' + tool
         status, out, _ = place.command(str(prefix / 'bin' / name), '--help')
@@ -239,7 +243,7 @@ def commands_of_the_package(place: Place) -> None:
 # What each completion offers: an option of its own, or for the programs a word that only the
 # launcher knows.
 OFFERED = {'nfs3canon': '--version', 'nfs3mask': '--version', 'nfs3-from-pcap': '--port',
-           'nfs3-where': '--filter',
+           'nfs3-where': '--port',
            'nfs3-verdicts': '--junit', 'nfs3-calls': '--slow', 'nfs3-procedures': '--beside',
            'nfs3-compare': '--brief', 'nfs3-explain': '--port', 'nfs3-cut': '--origins'}
 # What is offered for the last of these words; shells offer files where this is nothing.
@@ -264,8 +268,7 @@ IN_FISH = 'complete -C "$argv"'
 
 def completions_load(place: Place) -> None:
     """Each shell that is there finds each completion, and offers what it has."""
-    place.want('install', place.tool('install', 'prefix')[0], 0)
-    share = pathlib.Path(place.folder, 'prefix/share')
+    share = place.installed() / 'share'
     path = f'PATH={share.parent / "bin"}:{os.environ["PATH"]}'
     fish = ('env', path, f'XDG_DATA_DIRS={share}', f'HOME={place.folder}', 'fish', '-c', IN_FISH)
     for name, option in OFFERED.items():
@@ -302,7 +305,7 @@ def syntax_of(place: Place, shell: str, share: pathlib.Path) -> list[tuple[int, 
 
 def advice_of_the_launchers(place: Place) -> None:
     """The launchers say which installed tool reads a recording."""
-    place.want('install', place.tool('install', 'prefix')[0], 0)
+    place.installed()
     place.write('a b.pcap', b'\x0a\x0d\x0d\x0a' + bytes(20))
     for name, words, advice in (('nfs3canon',
                                  ['check', 'a b.pcap'], "`nfs3-verdicts 'a b.pcap'` reads it"),
@@ -313,104 +316,41 @@ def advice_of_the_launchers(place: Place) -> None:
 
 
 def under_a_prefix(place: Place) -> None:
-    """Twice, since an older version is replaced. The launchers of a clone have the version, too."""
-    for _ in range(2):
-        status, out, error = place.tool('install', 'prefix')
-        place.want('install', (status, out, error),
-                   (0, 'installed nfs3canon %s under prefix\n' % version(), ''))
-    works(place, pathlib.Path(place.folder, 'prefix'))
+    """Twice, since an older version is replaced. The launchers of a clone have the version, too.
+    What is removed leaves nothing."""
+    place.installed()
+    works(place, place.installed())
+    place.want('uninstall', place.make('uninstall', f'PREFIX={place.path("prefix")}'), (0, '', ''))
+    place.want('what is left', os.listdir(place.path('prefix')), [])
     for name in PROGRAMS:
         place.want('version', place.command(str(TOP / name), '--version'),
                    (0, f'{name} {version()}\n', ''))
 
 
-def where_nothing_can_be_written(place: Place) -> None:
-    place.write('file', b'')
-    status, out, error = place.tool('install', 'file')
-    place.want('install', (status, out, 'Traceback' in error, error.count('\n')), (3, '', False, 1))
-
-
-def found_under(folder: str) -> dict[str, tuple[int, bytes | str | None]]:
-    """Each name under a folder, with the number of its file and what it has."""
-    found = dict[str, tuple[int, bytes | str | None]]()
-    for path in sorted(pathlib.Path(folder).rglob('*')):
-        content = os.readlink(
-            path) if path.is_symlink() else path.read_bytes() if path.is_file() else None
-        found[str(path.relative_to(folder))] = path.lstat().st_ino, content
-    return found
-
-
-def nothing_changes(place: Place, status: int, *words: str) -> None:
-    """A command ends with this status and one line, and leaves all as it was."""
-    before = found_under(place.folder)
-    found, out, error = place.command(*words)
-    place.want(' '.join(words), (found, out, error.count('\n'), 'Traceback' in error),
-               (status, '', 1, False))
-    after = found_under(place.folder)
-    place.want('what is there', sorted(after), sorted(before))
-    place.want('what changed', [name for name in before if after.get(name) != before[name]], [])
-
-
-def without_a_program(place: Place) -> None:
-    """A program that is missing, mistyped, or cannot be run changes nothing."""
-    clone = pathlib.Path(place.folder, 'clone')
-    for name in ('tools', 'man', 'completions'):
-        shutil.copytree(TOP / name, clone / name)
-    for name in ('CHANGELOG.md', 'LICENSE-MIT', 'LICENSE-APACHE'):
-        shutil.copy(TOP / name, clone)
-    install, env = str(TOP / 'tools/install'), 'PYTHONDONTWRITEBYTECODE=1'
-    place.want('the older one', place.tool('install', 'prefix')[0], 0)
-    for prefix in ('prefix', 'new/prefix'):
-        nothing_changes(place, 2, 'env', env, str(clone / 'tools/install'), prefix)
-        nothing_changes(place, 2, install, '--program', place.program + 'n', prefix)
-        nothing_changes(place, 2, install, '--program', str(TOP / 'CHANGELOG.md'), prefix)
-
-
-def on_a_full_disk(place: Place) -> None:
-    """Each old file stays whole or is a new one, and nothing else is left."""
-    bin_folder = pathlib.Path(place.folder, 'prefix/bin')
-    bin_folder.mkdir(parents=True)
-    for name in PROGRAMS:
-        (bin_folder / name).write_bytes(b'old')
-    install = [str(TOP / 'tools/install'), '--program', place.program]
-    for blocks in (8, 100):
-        status, out, error = place.command('bash', '-c', f'ulimit -f {blocks}; exec "$@"', 'bash',
-                                           *install, 'prefix')
-        place.want('the end', (status, out, error.count('\n'), 'Traceback' in error),
-                   (3, '', 1, False))
-        place.want('the old files', [(bin_folder / name).read_bytes() for name in PROGRAMS],
-                   [b'old'] * 2)
-    (bin_folder / 'nfs3-where').mkdir()
-    place.want('a folder', place.command(*install, 'prefix')[::2],
-               (3, 'install: prefix/bin/nfs3-where: Is a directory\n'))
-    place.want('parts', [name for name in found_under(place.folder) if '.nfs3canon-' in name], [])
-
-
-def nothing_that_would_not_work(place: Place) -> None:
-    """Without nfs3mask, or through a link, nothing is installed."""
-    for folder in ('only', 'real', 'elsewhere'):
-        os.mkdir(place.path(folder))
-    only = shutil.copy(place.program, place.path('only/nfs3canon'))
-    os.symlink('../elsewhere', place.path('real/bin'))
-    for name in ('install', 'release'):
-        for program in (only, str(TOP / 'nfs3canon')):
-            nothing_changes(place, 2, str(TOP / 'tools' / name), '--program', program, 'only')
-    nothing_changes(place, 2, str(TOP / 'tools/install'), '--program', place.program, 'real')
-    os.symlink(place.path('only'), place.path('link'))
-    place.want('a prefix that is a link', place.tool('install', 'link')[0], 0)
-    place.want('what is there', place.command(place.path('only/bin/nfs3-where'), '--version'),
-               (0, f'nfs3-where {version()}\n', ''))
+def of_old_names(place: Place) -> None:
+    """The scripts of an earlier version say what to run."""
+    for name, target in (('install', 'make install'), ('release', 'make dist')):
+        status, out, error = place.command(str(TOP / 'tools' / name), 'prefix')
+        place.want(name, (status, out, error.count('\n'), target in error), (2, '', 1, True))
 
 
 def as_a_release(place: Place) -> None:
-    """The tar file has the layout of a prefix below one folder, and its checksum is right."""
-    name = 'nfs3canon-%s-linux-x86_64' % version()
-    archive = pathlib.Path(place.folder, name + '.tar.xz')
-    place.want('release', place.tool('release', '.')[:2], (0, name + '.tar.xz\n'))
+    """The tar file has the layout of a prefix below one folder, its checksum is right, and each
+    umask gives the same bytes and permissions."""
+    name, contents = f'nfs3canon-{version()}-linux-x86_64', set[bytes]()
+    archive = pathlib.Path(place.folder, f'{name}.tar.xz')
+    for umask in ('000', '077'):
+        place.want('release', place.make('dist', f'OUT={place.folder}', umask=umask), (0, '', ''))
+        contents.add(archive.read_bytes())
+    place.want('made again', len(contents), 1)
     place.want('checksum', place.command('sha256sum', '-c', archive.name + '.sha256')[0], 0)
     with tarfile.open(archive) as tar:
-        place.want('owners', {(member.uid, member.gid, member.mtime)
-                              for member in tar.getmembers()}, {(0, 0, 0)})
+        members = tar.getmembers()
+        place.want('owners', {(member.uid, member.gid, member.mtime) for member in members},
+                   {(0, 0, 0)})
+        place.want('permissions', ({member.mode for member in members if member.isdir()},
+                                   {member.mode for member in members if member.isfile()}),
+                   ({0o755}, {0o755, 0o644}))
         tar.extractall(place.folder, filter='data')
     works(place, pathlib.Path(place.folder, name))
 
@@ -424,12 +364,10 @@ def as_a_package(place: Place) -> None:
     name, contents = f'nfs3canon_{version()}_amd64.deb', set[bytes]()
     for umask in ('022', '077'):
         os.mkdir(place.path(umask))
-        out = place.command('bash', '-c', f'umask {umask}; exec "$@"', 'bash',
-                            str(TOP / 'tools/release'), '--program', place.program, '--deb', umask)
-        place.want('release', out, (0, f'{umask}/{name}\n', ''))
+        status, _, error = place.make('deb', f'OUT={place.path(umask)}', umask=umask)
+        place.want('deb', (status, error), (0, ''))
         contents.add(pathlib.Path(place.path(umask), name).read_bytes())
     place.want('made again', len(contents), 1)
-    place.want('checksum', place.command('sh', '-c', f'cd 022 && sha256sum -c {name}.sha256')[0], 0)
     fields = dict(line.split(': ', 1) for line in place.command('dpkg-deb', '-f', f'022/{name}')[
         1].splitlines() if line[0] != ' ')
     place.want('control',
@@ -466,56 +404,3 @@ def installed_package(place: Place, package: str) -> None:
     place.want('program', place.command(str(root / 'usr/bin/nfs3canon'), 'check',
                                         str(TOP / 'examples/null.nfs3cap'))[:2],
                (0, 'ok connections=1 calls=1 replies=1 handles=0\n'))
-    without = place.command('env', 'PATH=/nonexistent', sys.executable, str(TOP / 'tools/release'),
-                            '--program', place.program, '--deb', '.')
-    place.want('without dpkg-deb', without[0::2],
-               (2, 'release: dpkg-deb is not there; Debian has it in the package dpkg\n'))
-
-
-UMASKS = (0o000, 0o077)
-
-
-def modes_under(folder: pathlib.Path) -> set[tuple[bool, int]]:
-    """The permissions under a folder, and which are of folders."""
-    return {(path.is_dir(), path.stat().st_mode & 0o7777) for path in folder.rglob('*')
-            if not path.is_symlink()}
-
-
-def under_every_umask(place: Place) -> None:
-    """A release has the same bytes, and what is installed the same permissions."""
-    contents = set()
-    for umask in UMASKS:
-        run = ['bash', '-c', 'umask %03o; exec "$@"' % umask, 'bash']
-        for name in ('release', 'install'):
-            folder = '%s%03o' % (name, umask)
-            os.mkdir(place.path(folder))
-            status = place.command(*run, str(TOP / 'tools' / name), '--program', place.program,
-                                   folder + ('/new' if name == 'install' else ''))
-            place.want(folder, (status[0], status[2]), (0, ''))
-        archive = next(pathlib.Path(place.path('release%03o' % umask)).glob('*.xz'))
-        contents.add(hashlib.sha256(archive.read_bytes()).hexdigest())
-        place.want('%03o: installed' % umask,
-                   modes_under(pathlib.Path(place.path('install%03o' % umask))),
-                   {(True, 0o755), (False, 0o755), (False, 0o644)})
-        with tarfile.open(archive) as tar:
-            members = tar.getmembers()
-        place.want('%03o: in the release' % umask, (
-            {member.mode for member in members if member.isdir()},
-            {member.mode for member in members if member.isfile()},
-            {member.mode for member in members if member.issym()}),
-                   ({0o755}, {0o755, 0o644}, {0o777}))
-        place.want('%03o: programs' % umask,
-                   {member.mode for member in members if '/libexec/' in member.name
-                    and member.isfile()}, {0o755})
-    place.want('bytes of a release', len(contents), 1)
-
-
-def under_a_name_that_is_no_text(place: Place) -> None:
-    """The programs refuse to run under a name that is not UTF-8, so nothing is installed there."""
-    for name in (b'\xff', b'a/\xfe/b'):
-        command = [os.fsencode(word) for word in (str(TOP / 'tools/install'), '--program',
-                                                  place.program)]
-        done = ended([*command, name], place.folder)
-        place.want(repr(name), (done.status, done.error.startswith(b'install: '),
-                                done.error.count(b'\n')), (2, True, 1))
-    place.want('what is there', os.listdir(place.folder), [])

@@ -8,8 +8,8 @@ from tests.shared.running import ended
 from .scripts import TOP, Tools
 
 OLDEST = (3, 9)
-COMMANDS = ('calls', 'compare', 'cut', 'explain', 'from_pcap', 'install', 'meaning', 'procedures',
-            'release', 'verdicts', 'where')
+COMMANDS = ('calls', 'compare', 'cut', 'explain', 'from_pcap', 'meaning', 'procedures',
+            'verdicts', 'where')
 # Imports each module. Prints what went wrong.
 EACH = """import importlib, pathlib, sys
 sys.path.insert(0, sys.argv[1])

@@ -89,17 +89,6 @@ def verdicts_fit(tools: Tools) -> None:
     tools.want('findings', len(value['findings']) > 0, True)
 
 
-def lines_of_follow_fit(tools: Tools) -> None:
-    """Each line of --follow fits: the rows, and then the counts and the status."""
-    for recording in (pcap(whole()), pcap(whole()[:4] + whole()[5:]),
-                      (EXAMPLES / 'bad_server_record.pcap').read_bytes()):
-        status, out, _ = tools.tool('verdicts', '--follow', '--json', '-', '-', stdin=recording)
-        values = [fits(tools, 'follow.json', line) for line in out.splitlines()]
-        tools.want('the end', ['row' in value for value in values],
-                   [True] * (len(values) - 1) + [False])
-        tools.want('status', values[-1]['status'], status)
-
-
 def comparisons_fit(tools: Tools) -> None:
     """What compare writes fits, of runs of all kinds and of parts."""
     place = Comparisons(tools.program, tools.folder)

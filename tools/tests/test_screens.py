@@ -190,19 +190,6 @@ def verdicts_fit(tools: Tools) -> None:
     tools.want('wide', wide, tools.tool('verdicts', 'a.pcap')[1].splitlines())
 
 
-def lines_of_follow_fit(tools: Tools) -> None:
-    """Lines of --follow have columns on a wide terminal alone."""
-    tools.write('a.pcap', pcap(whole()))
-    row = ['-', '1', '192.0.2.7:700', '192.0.2.1:2049', '39', '39', f'{GREEN}ok{END}']
-    for width, wanted in ((80, '  '.join(row)),
-                          (150, '-          1           192.0.2.7:700          192.0.2.1:2049      '
-                           '   39         39         '
-                           + row[-1])):
-        with open(tools.path('a.pcap'), 'rb') as file:
-            text = written_to(tools, width, 'stdout', 'verdicts', '--follow', '-', given=file)[1]
-        tools.want(f'{width} columns', text.replace('\r\n', '\n').splitlines()[1], wanted)
-
-
 def calls_fit(tools: Tools) -> None:
     """In 70 columns a long call is wrapped, and its answer below it."""
     tools.write('a.pcap', recording())
@@ -244,7 +231,7 @@ def procedures_fit(tools: Tools) -> None:
 def help_fits(tools: Tools) -> None:
     """No help is wider than 80 columns, and a value like an option is refused."""
     for tool in ('from_pcap', 'where', 'verdicts', 'calls', 'procedures', 'compare', 'explain',
-                 'cut', 'install', 'release'):
+                 'cut'):
         status, out, _ = tools.tool(tool, '--help')
         tools.want(tool, (status, [line for line in out.splitlines() if len(line) > 80]), (0, []))
     tools.write('a.pcap', recording())

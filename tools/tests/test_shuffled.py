@@ -1,7 +1,7 @@
 """Random recordings against a small model of TCP, which knows which bytes were sent and recorded.
 
-If the model has all bytes, both ways are to say `ok` and have just these; if some are missing, or
-belong to nothing, neither may. And recordings of which one frame was changed.
+If the model has all bytes, the verdict is `ok` and just these are taken; if some are missing, or
+belong to nothing, it may not be. And recordings of which one frame was changed.
 """
 import collections
 import dataclasses
@@ -18,11 +18,10 @@ from ..nfs3tools.recordings.coverage import Allowed
 from ..nfs3tools.shared.places import SIDES
 from .cases import try_seeds
 from .recordings import fragments
-from .scripts import Tools, both_ways, stream, taken_of
+from .scripts import Tools, stream, taken_of, verdicts_on
 
 FAR = 1 << 30
 CALL, REPLY = 44, 28  # bytes of a record of each
-LATER = ' it was judged'
 
 
 # --- What is sent ---
@@ -346,30 +345,20 @@ def contents(recording: bytes, port: int) -> list[tuple[bytes, bytes]]:
 
 
 def wrong_of_port(port: int, whole: Whole, made: Make, recording: bytes,
-                  said: dict[str, list[Verdict]]) -> list[str]:
+                  verdicts: list[Verdict]) -> list[str]:
     """What is wrong with what is said of the connections of a port."""
-    wrong = []
-    for how, verdicts in said.items():
-        rows = rows_of(verdicts, port)
-        is_good = all(row.state == 'ok' for row in rows) and len(rows) == whole.with_bytes
-        is_part = any(row.state == 'in part' and not row.client and 'fragments' in row.message
-                      for row in verdicts)
-        if whole.is_whole is not None and is_good is not whole.is_whole and not (
+    wrong, rows = [], rows_of(verdicts, port)
+    is_good = all(row.state == 'ok' for row in rows) and len(rows) == whole.with_bytes
+    is_part = any(row.state == 'in part' and not row.client and 'fragments' in row.message
+                  for row in verdicts)
+    if whole.is_whole is not None and is_good is not whole.is_whole and not (
             is_part and not whole.is_whole):
-            wrong.append(f'{how}, port {port}: {whole}, but '
-                         f'{[(row.state, row.message) for row in rows]}')
-        if is_good and how == 'plain':
-            wanted = [one.streams for one in made.connections if one.port == port]
-            found = contents(recording, port)
-            if not all(any(client.startswith(one) and server.startswith(two)
-                           for client, server in wanted) for one, two in found):
-                wrong.append(f'{how}, port {port}: other bytes')
-    rows = [sorted((row.state, row.message) for row in rows_of(verdicts, port))
-            for verdicts in said.values()]
-    is_early = any(row.message.endswith(LATER) for row in rows_of(said['followed'], port)) or any(
-        row.state == 'refused' for verdicts in said.values() for row in rows_of(verdicts, port))
-    if rows[0] != rows[1] and not is_early:
-        wrong.append(f'port {port}: plain {rows[0]}, followed {rows[1]}')
+        wrong.append(f'port {port}: {whole}, but {[(row.state, row.message) for row in rows]}')
+    wanted = [one.streams for one in made.connections if one.port == port]
+    if is_good and not all(any(client.startswith(one) and server.startswith(two)
+                               for client, server in wanted)
+                           for one, two in contents(recording, port)):
+        wrong.append(f'port {port}: other bytes')
     return wrong
 
 
@@ -377,9 +366,9 @@ def wrong_of_seed(program: str, seed: int) -> list[str]:
     made = Make(seed)
     frames = made.recorded()
     recording = pcap_of(frames)
-    said = dict(zip(('plain', 'followed'), both_ways(program, recording)))
+    verdicts = verdicts_on(program, recording)
     return [f'seed {seed}: {wrong}' for port, whole in modelled(made.connections, frames).items()
-            for wrong in wrong_of_port(port, whole, made, recording, said)]
+            for wrong in wrong_of_port(port, whole, made, recording, verdicts)]
 
 
 # --- One frame that is changed ---
@@ -446,8 +435,7 @@ def wrong_of_change(program: str, seed: int) -> list[str]:
     at = made.chance.randrange(len(frames))
     instead, others = changed(made.chance, frames[at]), frames[:at] + frames[at + 1:]
     recording = pcap_of(frames[:at] + instead + frames[at + 1:])
-    statuses = [status_of(verdicts, Allowed()) for verdicts in both_ways(program, recording)]
-    if all(statuses):
+    if status_of(verdicts_on(program, recording), Allowed()):
         return []
     with taken_of(recording) as taken:
         judged = records_of(stream.read(0, stream.size) for one in taken.connections
@@ -455,13 +443,13 @@ def wrong_of_change(program: str, seed: int) -> list[str]:
     (_, every), (is_whole, left) = (recorded_in(made, some) for some in (frames, others))
     is_right = judged == every or is_whole and judged >= left and every >= judged
     return [] if is_right else [
-        f'seed {seed}: frame {at + 1}, statuses {statuses}, {is_whole}, judged '
+        f'seed {seed}: frame {at + 1}, {is_whole}, judged '
         f'{sum(judged.values())} '
         f'of {sum(left.values())} and {sum(every.values())}']
 
 
 def seeds(tools: Tools) -> None:
-    """Both ways say what the model says."""
+    """The verdicts are what the model says."""
     try_seeds(tools, 1_500, wrong_of_seed)
 
 

@@ -304,16 +304,15 @@ def rows_of_all_kinds(tools: Tools) -> None:
 
 
 def rows_of_faults_alone(tools: Tools) -> None:
-    """With -q rows of ok are left out, also with --follow."""
+    """With -q rows of ok are left out."""
     good, bad = pcap(whole()), (TOP / 'examples/bad_server_record.pcap').read_bytes()
-    for words, content, faults in ((['-'], good, 0), (['-'], bad, 1), (['--follow', '-'], good, 0),
-                                   (['--follow', '-'], bad, 1)):
-        status, rows, last, error = verdicts(tools, *words, stdin=content)
-        quiet = tools.tool('verdicts', '-q', *words, stdin=content)
+    for content, faults in ((good, 0), (bad, 1)):
+        status, rows, last, error = verdicts(tools, '-', stdin=content)
+        quiet = tools.tool('verdicts', '-q', '-', stdin=content)
         *lines, counts = [re.split('  +', line) for line in quiet[1].splitlines()]
-        tools.want(f'{words}, faults: {faults}', (quiet[0], lines, counts, quiet[2]),
+        tools.want(f'faults: {faults}', (quiet[0], lines, counts, quiet[2]),
                    (status, [row for row in rows if row[-1] != 'ok'], re.split('  +', last), error))
-        tools.want(f'{words}, rows', (len(lines), len(rows) > faults), (faults, True))
+        tools.want(f'rows: {faults}', (len(lines), len(rows) > faults), (faults, True))
 
 
 def rows_of_files_that_are_not_whole(tools: Tools) -> None:

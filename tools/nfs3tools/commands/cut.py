@@ -244,7 +244,7 @@ def extract_of(program: str, frames: list[Frame], untrimmed: list[int], cuts: li
                name: str) -> Extract:
     """Makes a recording of some frames, and reads it again."""
     content = b''.join(pcap_of(frames))
-    with take_from(Source(io.BytesIO(content)), None, Options(), True, Progress(False)) as there:
+    with take_from(Source(io.BytesIO(content)), Options(), True, Progress(False)) as there:
         verdicts = Judge(program, Options(), 1, False).of_taken(name, there)
         found = [pair for cut in cuts for pair in places_in(there, cut)]
         return Extract(content, verdicts, found, untrimmed)

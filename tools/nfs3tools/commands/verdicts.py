@@ -2,7 +2,6 @@
 
     tools/verdicts [-q] [--color WHEN] [--junit FILE] [--json FILE] [--html FILE] [-j N]
                    RECORDING|CAPTURE ..
-    tcpdump -i any -U -w - port 2049 | tools/verdicts [-q] --follow -
 
 The manual page, tools/man/verdicts.1, has the rest.
 
@@ -25,7 +24,6 @@ import typing
 from functools import partial
 from xml.etree.ElementTree import SubElement
 
-from ..judgement.following import Form, follow
 from ..judgement.unanswered import Unanswered, open_calls
 from ..judgement.verdict import (
     COVERED, VERDICTS_VERSION, VERDICT_HEADS, Verdict, colour_of, counts_after, error_verdict,
@@ -38,11 +36,11 @@ from ..recordings.selection import Options
 from ..recordings.taken import NotTaken, Taken, TakenConnection, take
 from ..reporting.junit import Suite
 from ..reporting.messages import (
-    add_recordings, allowed_of, failure_text, options_of, parser_of, run)
-from ..shared.outputs import STANDARD_OUTPUT, writing
+    add_gone, add_recordings, allowed_of, failure_text, options_of, parser_of, run)
+from ..shared.outputs import writing
 from ..shared.places import Place, parse_fault
 from ..shared.printed import escaped, printable
-from ..shared.programs import CHECKED, Died, FilterRefused, Missing, program_path, run_program
+from ..shared.programs import CHECKED, Died, Missing, program_path, run_program
 from ..shared.screens import Screen, Styled, is_as_wide, positive, screen_of, table_lines
 
 CONNECTIONS_AT_ONCE = 32  # of a recording
@@ -67,7 +65,7 @@ class Judge(typing.NamedTuple):
                 if look:
                     look(taken, verdicts)
                 return verdicts
-        except (NotTaken, FilterRefused, Missing, OSError, MemoryError) as failed:
+        except (NotTaken, Missing, OSError, MemoryError) as failed:
             return [error_verdict(recording, failure_text(failed, 'verdicts'))]
         except Died as died:
             raise Died(f'{escaped(recording)}: {died}') from died
@@ -129,7 +127,7 @@ def with_unanswered(verdicts: list[Verdict], taken: Taken) -> list[Verdict]:
     unanswered, counted = Unanswered(), list[Verdict]()
     for verdict, connection in zip(verdicts, taken.connections):
         if verdict.state not in ('refused', 'error'):
-            found = open_calls([connection.client], connection.server)
+            found = open_calls(connection.client, connection.server)
             verdict = verdict._replace(unanswered=unanswered.number(
                 connection.client_end, connection.server_end, found))
         counted.append(verdict)
@@ -147,25 +145,13 @@ def main(words: list[str]) -> int:
     parser.add_argument('--html', metavar='FILE',
                         help='writes a page for a browser, with faults and latencies')
     parser.add_argument('-j', metavar='N', type=positive, help='judges N recordings at once')
-    parser.add_argument('--follow', action='store_true', help='judges one recording while it is '
-                        'made, and prints each verdict at once')
+    parser.add_argument('--growing', action='store_true',
+                        help='takes a recording that ends inside a frame or a record as one that '
+                             'is still made')
+    add_gone(parser, '--follow', 'while a recording is made, run '
+             '`watch -n 10 tools/verdicts --growing run.pcap`')
     add_recordings(parser)
-    chosen = parser.parse_args(words)
-    if chosen.follow:
-        return followed(parser, chosen)
-    return judged_all(chosen)
-
-
-def followed(parser: argparse.ArgumentParser, chosen: argparse.Namespace) -> int:
-    """Judges a recording while it is made."""
-    refused = chosen.j, chosen.junit, chosen.html, chosen.filter
-    if len(chosen.recordings) > 1 or any(refused):
-        parser.error('--follow takes one recording, and none of -j, --junit, --html and --filter')
-    if chosen.json not in (None, STANDARD_OUTPUT):
-        parser.error('--follow prints JSON on standard output: --json -')
-    form = Form(chosen.quiet, chosen.json is not None, screen_of(chosen.color))
-    return follow(chosen.recordings[0], program_path(chosen.program), options_of(chosen),
-                  allowed_of(chosen), form)
+    return judged_all(parser.parse_args(words))
 
 
 def judged_all(chosen: argparse.Namespace) -> int:
@@ -176,7 +162,8 @@ def judged_all(chosen: argparse.Namespace) -> int:
     with writing(inputs, (chosen.junit, lambda: [junit_of_verdicts(verdicts, allowed)]),
                  (chosen.json, lambda: [json_of_verdicts(verdicts)]),
                  (chosen.html, lambda: judged_page(seen, allowed, [table_of(seen)]))):
-        judge = Judge(program_path(chosen.program), options_of(chosen), at_once,
+        options = options_of(chosen)._replace(is_growing=chosen.growing)
+        judge = Judge(program_path(chosen.program), options, at_once,
                       len(chosen.recordings) == 1)
         try:
             seen = list(judged_recordings(partial(judge.seen, bool(chosen.html)),

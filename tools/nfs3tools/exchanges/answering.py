@@ -9,7 +9,7 @@ import functools
 import re
 from array import array
 from collections import Counter, defaultdict, deque
-from collections.abc import Collection, Hashable, Iterable, Iterator
+from collections.abc import Hashable, Iterable, Iterator
 from typing import NamedTuple
 
 from ..recordings.records import Window, body_of, extent_of, xids
@@ -100,9 +100,7 @@ class Answers:
     replies: how many replies each call that was sent first has
     """
 
-    def __init__(self, calls: Iterable[UnreadCall], server: TakenStream,
-                 answered_before: Collection[int] = ()) -> None:
-        """`answered_before` are the numbers of calls that had a reply before these records."""
+    def __init__(self, calls: Iterable[UnreadCall], server: TakenStream) -> None:
         self.calls, rule = list(calls), Answering()
         numbers = Counter(call.xid for call in self.calls)
         self.owners = array('Q')
@@ -112,25 +110,15 @@ class Answers:
         self.replies = Counter(rule.reply(xid)
                                for _, xid, _ in xids(Window(server), 0, server.size)
                                if xid in numbers)
-        self.answered_before = {self.owners[at] for at in answered_before}
 
     def is_answered(self, at: int) -> bool:
         """Whether the exchange of a call has a reply."""
-        return self.replies[self.owners[at]] > 0 or self.owners[at] in self.answered_before
+        return self.replies[self.owners[at]] > 0
 
     def unanswered(self) -> Iterator[int]:
         """Iterates over the calls of exchanges without a reply, each exchange once."""
         return (at for at, owner in enumerate(self.owners)
                 if owner == at and not self.is_answered(at))
-
-    def may_be_answered(self) -> Iterator[int]:
-        """Iterates over calls that may get a reply yet: sent more often than answered."""
-        replies = self.replies.copy()
-        for at, owner in enumerate(self.owners):
-            if replies[owner]:
-                replies[owner] -= 1
-            else:
-                yield at
 
 
 def error_in(procedure: str, said: str) -> str:

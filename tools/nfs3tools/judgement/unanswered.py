@@ -1,15 +1,14 @@
 """How many calls of a recording got no reply.
 
     unanswered = Unanswered()
-    unanswered.number('192.0.2.7:700', '192.0.2.1:2049', open_calls([client], server))
+    unanswered.number('192.0.2.7:700', '192.0.2.1:2049', open_calls(client, server))
 """
 from __future__ import annotations
 
-import itertools
 from array import array
 from bisect import bisect_left
 from collections import defaultdict
-from collections.abc import Collection, Iterator, Sequence
+from collections.abc import Iterator
 
 from ..exchanges.answering import Answers, calls_in
 from ..exchanges.kept import host_of
@@ -40,23 +39,21 @@ class Unanswered:
         return new
 
 
-def open_calls(clients: Sequence[TakenStream], server: TakenStream,
-               answered_before: Collection[int] = ()) -> set[CallDigest]:
+def open_calls(client: TakenStream, server: TakenStream) -> set[CallDigest]:
     """Returns the calls of a client without a reply. What they say is read of these alone, unless
     several calls have one xid."""
-    calls, replies = sorted_xids(clients), sorted_xids([server])
-    sent = itertools.chain.from_iterable(map(calls_in, clients))
-    if answered_before or any(map(int.__eq__, calls, calls[1:])):
-        answers = Answers(sent, server, answered_before)
+    calls, replies = sorted_xids(client), sorted_xids(server)
+    if any(map(int.__eq__, calls, calls[1:])):
+        answers = Answers(calls_in(client), server)
         return {(answers.calls[at].xid, answers.calls[at].said()) for at in answers.unanswered()}
     wanted = set(missing_from(replies, calls))
-    return {(call.xid, call.said()) for call in sent if call.xid in wanted} if wanted else set()
+    return {(call.xid, call.said()) for call in calls_in(client)
+            if call.xid in wanted} if wanted else set()
 
 
-def sorted_xids(streams: Sequence[TakenStream]) -> array[int]:
-    """Returns the xids of all records of some streams. An array takes little memory."""
-    return array('I', sorted(xid for stream in streams
-                             for _, xid, _ in xids(Window(stream), 0, stream.size)))
+def sorted_xids(stream: TakenStream) -> array[int]:
+    """Returns the xids of all records of a stream. An array takes little memory."""
+    return array('I', sorted(xid for _, xid, _ in xids(Window(stream), 0, stream.size)))
 
 
 def missing_from(several: array[int], wanted: array[int]) -> Iterator[int]:

@@ -11,7 +11,7 @@ from collections.abc import Iterable, Mapping, Sequence
 from ..exchanges.kept import Kept
 from ..exchanges.stored import LongValues
 from ..recordings.coverage import (
-    Allowed, Called, Counts, Covered, Word, called_in, counts_of, of_connection)
+    Allowed, Counts, Covered, Word, counts_of)
 from ..recordings.selection import BEGUN_BEFORE, count
 from ..recordings.taken import FrameRef, Taken, TakenConnection
 from ..shared.places import FilePlace, parse_fault
@@ -69,55 +69,25 @@ class Verdict(typing.NamedTuple):
         return self.state in ('ok', 'note')
 
 
-class JudgedBefore(typing.NamedTuple):
-    """What was judged of a connection before the streams that are taken: its calls and replies, the
-    bytes missing among them, why else it is in part, and its calls by kind. `carried` is how
-    many of the calls are put before the client's stream again, since their replies are not
-    there."""
-    calls: int = 0
-    replies: int = 0
-    missing: int = 0
-    carried: int = 0
-    lacks: tuple[str, ...] = ()
-    called: Called = Called()
-
-
-def verdict_of(recording: str, taken: Taken, connection: TakenConnection, answer: Answer,
-               before: JudgedBefore = JudgedBefore()) -> Verdict:
+def verdict_of(recording: str, taken: Taken, connection: TakenConnection,
+               answer: Answer) -> Verdict:
     """What the program's answer on a connection's capture says."""
     verdict = Verdict(recording, connection.number, connection.stream_number,
                       connection.client_end, connection.server_end)
     counts, fault = CHECKED_CONNECTION.fullmatch(answer.out), parse_fault(answer.error)
-    covered = covered_of(taken, connection, before)
+    covered = taken.covered_connection(connection)
     verdict = verdict._replace(missing=covered.missing, lacks=covered.lacks, raw=covered.called.raw)
     if answer.status == 0 and counts:
-        calls = before.calls + int(counts[1]) - before.carried
-        return with_word(verdict._replace(calls=calls, replies=before.replies + int(counts[2])),
-                         covered)
-    calls, replies = (before.calls + connection.client.count_records(),
-                      before.replies + connection.server.count_records())
-    verdict = verdict._replace(calls=calls, replies=replies)
+        return with_word(verdict._replace(calls=int(counts[1]), replies=int(counts[2])), covered)
+    verdict = verdict._replace(calls=connection.client.count_records(),
+                               replies=connection.server.count_records())
     if answer.status != 2 or fault is None or isinstance(fault.place, FilePlace):
         return verdict._replace(state='error', message=said_last(answer))
-    is_call = fault.place.side == 'client'
-    there = fault.place._replace(connection=connection.number,
-                                 record=fault.place.record - before.carried * is_call)
-    frames = taken.frames(there)
-    position = str(there._replace(connection=1,
-                                  record=there.record
-                                  + (before.calls if is_call else before.replies)))
-    position = position.removeprefix('connection 1 ')
+    there = fault.place._replace(connection=connection.number)
+    frames, position = taken.frames(there), there.in_connection
     message = f'{position}: {fault.reason}' + ''.join(f', frame {frame.number}' for frame in frames)
     return verdict._replace(state='refused', message=message, position=position,
                             reason=fault.reason, frames=frames)
-
-
-def covered_of(taken: Taken, connection: TakenConnection, before: JudgedBefore) -> Covered:
-    """Returns the word of a connection with what was judged of it before."""
-    lacks = tuple(dict.fromkeys((*before.lacks, *connection.lacks)))
-    return of_connection(before.called + called_in(connection.client), connection.server_port,
-                         taken.ports,
-                         before.missing + connection.missing, lacks)
 
 
 def with_word(verdict: Verdict, covered: Covered) -> Verdict:

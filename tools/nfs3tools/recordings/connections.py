@@ -6,7 +6,7 @@ from collections.abc import Callable, Iterator, Sequence
 
 from .segments import ACK, FIN, RST, SYN, Segment, ends_of, reversed_key
 from .spool import Frames, Spool
-from .streams import HELD_BY_ALL, SEQUENCE_SPACE, Budget, Stream
+from .streams import SEQUENCE_SPACE, Budget, Stream
 
 STRAYS_AT_MOST = 10  # frames of a connection that are reported
 
@@ -20,9 +20,8 @@ class Connection:
     older: the connection of the same ends before this one, of which segments may come yet
     strays: frames of which nothing is taken, and why
     """
-    __slots__ = ('number', 'key', 'client', 'first_payload', 'is_chosen', 'is_judged', 'make',
-                 'is_closed_later', 'both', 'only', 'older', 'begun_by', 'is_stray',
-                 'strays', 'after', 'shown_after', 'is_told')
+    __slots__ = ('number', 'key', 'client', 'first_payload', 'is_chosen', 'make', 'both', 'only',
+                 'older', 'begun_by', 'is_stray', 'strays')
 
     def __init__(self, number: int, key: bytes, make: Callable[[], Stream],
                  begun_by: int = 0) -> None:
@@ -31,10 +30,6 @@ class Connection:
         self.client: int | None = None  # the end that sent SYN
         self.first_payload: int | None = None  # the end that sent payload first
         self.is_chosen = False
-        self.is_judged = False  # nothing of it is wanted any more
-        self.is_closed_later = False  # after that
-        self.after, self.is_told = 0, True  # bytes that came after that, and whether this is said
-        self.shown_after = 0  # the first frame after that by which others are missing
         self.older: Connection | None = None
         self.is_stray = False  # the older one went on
         self.strays: Sequence[str] = ()
@@ -69,7 +64,7 @@ class Connection:
     def is_closed(self) -> bool:
         """Whether an end closed or reset it."""
         return (self.streams[0].end is not None or self.streams[1].end is not None
-                or self.is_reset_by(0) or self.is_reset_by(1) or self.is_closed_later)
+                or self.is_reset_by(0) or self.is_reset_by(1))
 
     def is_reset_by(self, side: int) -> bool:
         """Whether an end reset it, and sent nothing after that."""
@@ -87,7 +82,7 @@ class Connection:
         if own.first is None:
             answers = not segment.flags & ACK or not other.is_begin or (
                 (segment.acknowledged - (other.first or 0)) % SEQUENCE_SPACE <= other.next)
-            return self.is_judged or self.is_stray or not answers
+            return self.is_stray or not answers
         if own.first == first:
             return bool(own.opened_by) and self.is_closed and not segment.flags & ACK
         return not own.may_begin_at(first)
@@ -156,23 +151,6 @@ class Connection:
         else:
             other.is_heard_of(acknowledged, number)
 
-    def pass_by(self, side: int, segment: Segment, number: int) -> None:
-        """Counts the bytes of a segment that comes after the connection was judged, but for those
-        that were taken before."""
-        own, size = self.streams[side], len(segment.payload) + segment.missing
-        self.is_closed_later |= bool(segment.flags & (FIN | RST))
-        if segment.flags & ACK and self.streams[1 - side].is_beyond(segment.acknowledged):
-            self.shown_after = self.shown_after or number
-        if not size or segment.flags & RST or not self.is_told:
-            return
-        if own.first is None:
-            own.first = segment.sequence
-        position = own.position(segment.sequence)
-        self.after += own.new_in(position, segment.payload)
-        self.after += max(0, position + size - max(own.next, position + len(segment.payload)))
-        own.next = max(own.next, position + size)
-        own.expected = (own.first + own.next) % SEQUENCE_SPACE
-
 
 def distance(first: int, second: int) -> int:
     """How far two sequence numbers are apart, which wrap."""
@@ -183,11 +161,10 @@ def distance(first: int, second: int) -> int:
 class Connections:
     """The connections of a recording, in the order of their first segments."""
 
-    def __init__(self, keeps_frames: bool, held_by_all: int = HELD_BY_ALL) -> None:
-        self.spool, self.budget, self.keeps_frames = Spool(), Budget(held_by_all), keeps_frames
+    def __init__(self, keeps_frames: bool) -> None:
+        self.spool, self.budget, self.keeps_frames = Spool(), Budget(), keeps_frames
         self.make = self.stream
-        self.count = 0  # of those that were begun
-        self.all: dict[int, Connection] = {}
+        self.all: list[Connection] = []
         # By the keys of both directions; the second is there once it has a segment
         self.newest: dict[bytes, Connection] = {}
 
@@ -196,22 +173,18 @@ class Connections:
         frames = Frames(self.spool) if self.keeps_frames else None
         return Stream(self.spool, self.budget, frames)
 
-    def take(self, segment: Segment, number: int, time: int, is_chosen: bool) -> Connection:
-        """Takes a segment, and returns its connection. One that is not chosen only counts as one of
-        its connection."""
+    def take(self, segment: Segment, number: int, time: int, is_chosen: bool) -> None:
+        """Takes a segment. One that is not chosen only counts as one of its connection."""
         key = segment.key
         found = self.newest.get(key) or self.answered(key) or self.begin(key, number)
         if found.begun_by != number and (segment.flags & SYN or found.older is not None):
             found = self.among_two(found, segment, number)
         if is_chosen:
             found.is_chosen = True
-            if found.is_judged:
-                found.pass_by(found.side_of(key), segment, number)
-            elif found.begun_by == number and not (segment.payload or segment.missing):
+            if found.begun_by == number and not (segment.payload or segment.missing):
                 found.only = segment, time
             else:
                 found.take(found.side_of(key), segment, number, time)
-        return found
 
     def answered(self, key: bytes) -> Connection | None:
         """Returns the connection of which this is the first segment of the other direction."""
@@ -244,32 +217,22 @@ class Connections:
     def begin(self, key: bytes, begun_by: int, older: Connection | None = None) -> Connection:
         """Begins a connection. That of the same ends before it is not forgotten: one that has not
         had any payload gives way to its own."""
-        connection = self.all[self.count] = Connection(self.count, key, self.make, begun_by)
+        connection = Connection(len(self.all), key, self.make, begun_by)
+        self.all.append(connection)
         if older is not None:
             is_kept = older.first_payload is not None or older.older is None
             connection.older = older if is_kept else older.older
             older.older = None if is_kept else older.older
-        self.count += 1
         self.newest.pop(reversed_key(key), None)
         self.newest[key] = connection
         return connection
 
-    def forget(self, connection: Connection) -> None:
-        """Segments of the same ends are those of another connection from now on."""
-        self.all.pop(connection.number, None)
-        for key in (connection.key, reversed_key(connection.key)):
-            newest = self.newest.get(key)
-            if newest is connection:
-                del self.newest[key]
-            elif newest is not None and newest.older is connection:
-                newest.older = None
-
     def finish(self) -> Iterator[Connection]:
         """Iterates over the connections of which a segment was chosen, but those of a SYN that fits
         none. Nothing is taken after this, and nothing is kept of those that were passed."""
-        chosen = deque(connection for connection in self.all.values()
+        chosen = deque(connection for connection in self.all
                        if connection.is_chosen and not is_of_stray(connection))
-        self.all, self.newest = {}, {}
+        self.all, self.newest = [], {}
         while chosen:
             connection = chosen.popleft()
             if not connection.is_bare:

@@ -61,11 +61,6 @@ class Called(typing.NamedTuple):
     unchecked: Mapping[str, int] = {}
     raw: Mapping[str, int] = {}
 
-    def __add__(self, other: 'Called') -> 'Called':  # type: ignore[override]
-        return Called(self.calls + other.calls, self.typed + other.typed,
-                      summed(self.unchecked, other.unchecked),
-                      summed(self.raw, other.raw))
-
 
 class Covered(typing.NamedTuple):
     """A connection, or something else that a recording shows.
@@ -122,13 +117,6 @@ class Counts(typing.NamedTuple):
     def judged(self) -> int:
         return self.ok + self.refused
 
-    def __add__(self, other: 'Counts') -> 'Counts':  # type: ignore[override]
-        numbers = {name: getattr(self, name) + getattr(other, name) for name in self._fields
-                   if name not in ('raw', 'unanswered')}
-        known = [one.unanswered for one in (self, other) if one.unanswered is not None]
-        return Counts(**numbers, raw=summed(self.raw, other.raw),
-                      unanswered=sum(known) if known else None)
-
     def words(self) -> str:
         """The sum as all tools print it."""
         bare = f' ({self.without_calls} without a call)' if self.without_calls else ''
@@ -166,10 +154,6 @@ def counts_of(several: Iterable[tuple[CountedWord, bool, Mapping[str, int]]]) ->
     return Counts(words['ok'] + words['judged'], words['refused'], words['in part'],
                   words['left out'], words['not checked'],
                   words['error'], bare, raw)
-
-
-def summed(first: Mapping[str, int], second: Mapping[str, int]) -> Mapping[str, int]:
-    return collections.Counter(first) + collections.Counter(second)
 
 
 def named_calls(calls: Mapping[str, int]) -> str:

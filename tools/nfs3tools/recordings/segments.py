@@ -172,7 +172,7 @@ class Segments:
     """
 
     def __init__(self, ports: frozenset[int] = frozenset()) -> None:
-        self.ports, self.is_chosen = ports, True  # of NFS; whether datagrams of this frame count
+        self.ports = ports  # of NFS
         self.cut = self.lying = self.given_up = 0
         self.unread: dict[int | None, int] = {}
         self.links: dict[int, int] = {}
@@ -183,16 +183,15 @@ class Segments:
         self.held = self.tunnels = self.number = self.time = 0
         self.differing: tuple[int, ...] = ()  # as of the segment
 
-    def segment(self, frame: Frame, is_chosen: bool = True) -> Segment | None:
+    def segment(self, frame: Frame) -> Segment | None:
         """Returns the segment that the frame carries, or completes as the last fragment, if there
-        is one. If the frame is not chosen, no datagram of it is counted."""
+        is one."""
         data = frame.data
         if frame.link == ETHERNET and data[12:15] == PLAIN_IPV4 and len(data) >= PLAIN.size:
             total, fragment, protocol, sequence, acknowledged, size, flags = PLAIN.unpack_from(data)
             begin, end = 34 + (size >> 4) * 4, 14 + total
             if protocol == TCP and not fragment & 0x3fff and 54 <= begin <= end <= len(data):
                 return Segment(data[26:38], sequence, acknowledged, flags, data[begin:end], 0)
-        self.is_chosen = is_chosen
         return self.of_any(frame)
 
     def of_any(self, frame: Frame) -> Segment | None:
@@ -200,8 +199,7 @@ class Segments:
         as most are."""
         data, link = frame.data, LINKS.get(frame.link)
         if link is None:
-            if self.is_chosen:
-                self.links[frame.link] = self.links.get(frame.link, 0) + 1
+            self.links[frame.link] = self.links.get(frame.link, 0) + 1
             return None
         self.tunnels, self.number, self.time, self.differing = 0, frame.number, frame.time, ()
         return self.of_kind(*network_layer(data, *link), data, frame.length)
@@ -224,8 +222,7 @@ class Segments:
 
     def other(self, name: str) -> None:
         """Counts a frame that carries no segment of TCP."""
-        if self.is_chosen:
-            self.others[name] = self.others.get(name, 0) + 1
+        self.others[name] = self.others.get(name, 0) + 1
 
     def of_ipv4(self, data: bytes, at: int, length: int) -> Segment | None:
         if at + 20 > len(data):
@@ -314,7 +311,7 @@ class Segments:
     def count_datagram(self, data: bytes, at: int) -> None:
         """Counts a datagram of UDP, or the first fragment of one, if it has a port of NFS."""
         port = self.port_in(data, at)
-        if port is not None and self.is_chosen:
+        if port is not None:
             self.datagrams[port] = self.datagrams.get(port, 0) + 1
 
     def port_in(self, data: bytes, at: int) -> int | None:
@@ -334,7 +331,7 @@ class Segments:
         there. Returns whether it does."""
         port = self.port_in(data, at)
         is_counted = port is not None or at + 4 > len(data)
-        if is_counted and self.is_chosen:
+        if is_counted:
             self.unread[port] = self.unread.get(port, 0) + 1
         return is_counted
 
@@ -376,8 +373,7 @@ class Segments:
             pending = None
         if pending is None:
             waits = WAITING_6 if len(name) > LONGEST_NAME_4 else WAITING_4
-            pending = self.pending[name] = Pending(protocol == TCP and self.is_chosen,
-                                                   self.time + waits)
+            pending = self.pending[name] = Pending(protocol == TCP, self.time + waits)
             self.held += pending.cost
         return pending
 

@@ -20,11 +20,11 @@ RESET_INSIDE = 'the other end reset it inside a record'
 class Options(typing.NamedTuple):
     """Which connections of a recording are taken. Of a capture all are.
 
-    filter: a display filter of Wireshark that is true of whole connections, or None; needs tshark
     ports: of which each connection has one; any connection if there are none
+    is_growing: whether it is no loss that the recording ends inside a frame or a record
     """
-    filter: str | None = None
     ports: frozenset[int] = frozenset()
+    is_growing: bool = False
 
 
 @dataclasses.dataclass
@@ -87,20 +87,20 @@ def missing_of(stream: Stream) -> int:
     return sum(gap.size for gap in gaps_of(stream))
 
 
-def select(connection: Connection, known: typing.Iterable[int] = (),
-           goes_on: bool = False) -> Selected:
-    """Chooses what is kept of a connection. `known` has the xids of calls that were kept before. If
-    it goes on, a record that is cut at its end is kept."""
+def select(connection: Connection, is_growing: bool = False) -> Selected:
+    """Chooses what is kept of a connection. If the recording is growing, the end of a record may
+    come yet."""
     client, why = client_of(connection)
     ends = client, 1 - client
     streams = connection.streams[client], connection.streams[1 - client]
-    calls, replies = (keep_records(connection.streams[end], side,
-                                   '' if goes_on else cut_by(connection, end))
+    calls, replies = (keep_records(connection.streams[end], side, cut_by(connection, end))
                       for end, side in zip(ends, SIDES))
     if calls.lacks and replies.ranges:
-        leave_out_replies(streams, calls, replies, known)
+        leave_out_replies(streams, calls, replies)
     for stream, kept, side in zip(streams, (calls, replies), SIDES):
         add_uncertain(stream, kept, side)
+        if is_growing:
+            kept.reasons = [reason for reason in kept.reasons if reason != ENDS_INSIDE_RECORD]
     return Selected(client, why, (calls, replies))
 
 
@@ -152,8 +152,7 @@ def is_of_rpc(connection: Connection, ports: frozenset[int]) -> bool:
     """Whether a connection has a port of NFS, or bytes that may be the head of a message of RPC."""
     served = SERVER_PORTS | {str(port) for port in ports}
     return any(end.rpartition(':')[2] in served for end in connection.ends) or any(
-        next(Search(stream.stored, side, stream.begin, stream.stored.size).places(),
-             None) is not None
+        next(Search(stream.stored, side, 0, stream.stored.size).places(), None) is not None
         for stream in connection.streams for side in SIDES)
 
 
@@ -167,7 +166,7 @@ def keep_records(stream: Stream, side: Side, cut: str) -> KeptRanges:
     """Keeps of each run of a stream what follows from the first record on. `cut` is why a record at
     its end that is cut is none of its sender's fault."""
     kept, gaps, parts = KeptRanges(missing=missing_of(stream)), gaps_of(stream), stored_runs(stream)
-    kept.lacks, left_out = bool(gaps) or stream.lacks or not stream.is_begin, 0
+    kept.lacks, left_out = bool(gaps) or not stream.is_begin, 0
     if stream.stored.size and not stream.is_begin:
         kept.reasons.append(BEGUN_BEFORE)
     for part in parts:
@@ -211,12 +210,11 @@ def keep_up_to_whole(stream: Stream, part: StoredRun, side: Side, kept: KeptRang
     return dropped
 
 
-def leave_out_replies(streams: tuple[Stream, Stream], calls: KeptRanges, replies: KeptRanges,
-                      before: typing.Iterable[int]) -> None:
-    """Leaves out the replies whose calls are not kept and were not kept before."""
+def leave_out_replies(streams: tuple[Stream, Stream], calls: KeptRanges,
+                      replies: KeptRanges) -> None:
+    """Leaves out the replies whose calls are not kept."""
     window = Window(streams[0].stored)
-    known = {*before,
-             *(xid for begin, end in calls.ranges for _, xid, _ in xids(window, begin, end))}
+    known = {xid for begin, end in calls.ranges for _, xid, _ in xids(window, begin, end)}
     window, ranges, left_out = Window(streams[1].stored), list[tuple[int, int]](), 0
     for begin, end in replies.ranges:
         kept, count_of_range = with_calls(window, begin, end, known)

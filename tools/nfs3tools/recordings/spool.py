@@ -12,59 +12,18 @@ WRITTEN_AT_ONCE = 1 << 16
 UNWRITTEN_AT_MOST = 8 << 20  # bytes of all streams together that are not in the temporary file yet
 
 
-class Room:
-    """Which bytes of a file are free to be written again: ranges in order, none of which touch. All
-    bytes from `end` on are free."""
-
-    def __init__(self) -> None:
-        self.begins: list[int] = []
-        self.sizes: list[int] = []
-        self.end = 0
-
-    def take(self, size: int) -> int:
-        """Takes the first free range that is large enough, and returns where it begins."""
-        for at, there in enumerate(self.sizes):
-            if there >= size:
-                begin = self.begins[at]
-                self.set(at, begin + size, there - size)
-                return begin
-        self.end += size
-        return self.end - size
-
-    def set(self, at: int, begin: int, size: int) -> None:
-        if size:
-            self.begins[at], self.sizes[at] = begin, size
-        else:
-            del self.begins[at], self.sizes[at]
-
-    def give(self, begin: int, size: int) -> None:
-        """Makes a range free, joined with those that it touches."""
-        at = bisect.bisect(self.begins, begin)
-        if at < len(self.begins) and begin + size == self.begins[at]:
-            size += self.sizes[at]
-            self.set(at, 0, 0)
-        if at and self.begins[at - 1] + self.sizes[at - 1] == begin:
-            at -= 1
-            begin, size = self.begins[at], self.sizes[at] + size
-            self.set(at, 0, 0)
-        if begin + size == self.end:
-            self.end = begin
-        else:
-            self.begins.insert(at, begin)
-            self.sizes.insert(at, size)
-
-
 class Spool:
     """The temporary file in which streams stand. It is made when the first bytes are written."""
 
     def __init__(self) -> None:
         self.file: typing.IO[bytes] | None = None
-        self.room, self.unwritten = Room(), 0
-        self.stored: dict['Stored', None] = {}  # in the order in which they were begun
+        self.size = self.unwritten = 0
+        self.stored: list['Stored'] = []
 
     def append(self, piece: bytes | bytearray) -> int:
         """Writes a piece, and gives where it stands."""
-        begin, done = self.room.take(len(piece)), 0
+        begin, done = self.size, 0
+        self.size += len(piece)
         try:
             if self.file is None:
                 self.file = tempfile.TemporaryFile(prefix='nfs3canon', buffering=0)
@@ -77,13 +36,6 @@ class Spool:
 
     def read(self, begin: int, size: int) -> bytes:
         return os.pread(self.file.fileno(), size, begin) if self.file else b''
-
-    def free(self, begin: int, size: int) -> None:
-        """Has the room of bytes used again. What is free at the end of the file is cut off."""
-        before = self.room.end
-        self.room.give(begin, size)
-        if self.file and self.room.end < before:
-            self.file.truncate(self.room.end)
 
     def spare(self) -> None:
         """Writes what all streams hold in memory, if it is much."""
@@ -110,7 +62,7 @@ class Stored:
         self.written = 0
         self.begins, self.places = NONE_WRITTEN, NONE_WRITTEN  # of each part that was written
         self.unwritten = bytearray()
-        spool.stored[self] = None
+        spool.stored.append(self)
 
     def append(self, piece: bytes) -> None:
         self.unwritten += piece
@@ -149,26 +101,6 @@ class Stored:
             pieces.append(bytes(self.unwritten[begin - self.written:end - self.written]))
         return pieces[0] if len(pieces) == 1 else b''.join(pieces)
 
-    def drop(self, end: int) -> None:
-        """Forgets the bytes before a position, as far as whole parts go. They must not be read
-        again."""
-        parts = (len(self.begins) if end >= self.written
-                 else max(0, bisect.bisect_right(self.begins, end) - 1))
-        ends = [*self.begins[1:parts + 1], self.written][:parts]
-        for begin, part_end, place in zip(self.begins, ends, self.places):
-            self.spool.free(place, part_end - begin)
-        if parts:
-            del self.begins[:parts], self.places[:parts]
-        if end > self.written:
-            self.spool.unwritten -= end - self.written
-            del self.unwritten[:end - self.written]
-            self.written = end
-
-    def close(self) -> None:
-        """Forgets all bytes. Nothing is appended after this."""
-        self.drop(self.size)
-        self.spool.stored.pop(self, None)
-
 
 class Brought(typing.NamedTuple):
     """A frame that brought stored bytes: where they begin, its number, and its time."""
@@ -180,12 +112,11 @@ class Brought(typing.NamedTuple):
 class Frames:
     """Which frame brought which of the stored bytes, in order. It is stored as the bytes are, so
     little memory follows the frames."""
-    __slots__ = 'stored', 'firsts', 'dropped'
+    __slots__ = 'stored', 'firsts'
 
     def __init__(self, spool: Spool) -> None:
         # Where the bytes of every 128th frame begin
         self.stored, self.firsts = Stored(spool), array.array('Q')
-        self.dropped = 0  # blocks of 128 frames
 
     def append(self, begin: int, number: int, time: int) -> None:
         if not self.stored.size % BLOCK_OF_FRAMES:
@@ -206,16 +137,8 @@ class Frames:
         if last:
             yield last
 
-    def drop(self, begin: int) -> None:
-        """Forgets the frames that brought bytes before a position, in whole blocks."""
-        blocks = max(0, bisect.bisect_right(self.firsts, begin) - 1)
-        del self.firsts[:blocks]
-        self.dropped += blocks
-        self.stored.drop(self.dropped * BLOCK_OF_FRAMES)
-
     def noted_from(self, block: int) -> typing.Iterator[Brought]:
-        """Iterates over the frames from a block on, the first of those that are kept being 0."""
-        for at in range((self.dropped + block) * BLOCK_OF_FRAMES, self.stored.size,
-                        BLOCK_OF_FRAMES):
+        """Iterates over the frames from a block on."""
+        for at in range(block * BLOCK_OF_FRAMES, self.stored.size, BLOCK_OF_FRAMES):
             yield from map(Brought._make,
                            BROUGHT.iter_unpack(self.stored.read(at, BLOCK_OF_FRAMES)))

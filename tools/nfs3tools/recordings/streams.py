@@ -13,17 +13,14 @@ HELD_BY_ALL = 64 << 20  # the same of all streams together
 # Bytes that were sent beyond the last that is known, or before those that were acknowledged
 LIKELY_AT_MOST = 64 << 20
 IN_FLIGHT_AT_MOST = 1 << 30  # bytes that were sent and not acknowledged (RFC 7323, section 2.3)
-# Bytes before those that are forgotten, with which others that come again are compared
-KEPT_TO_COMPARE = 4 << 20
-TAIL = 4 << 10  # bytes of a connection that was judged, for the same
 SEQUENCE_SPACE = 1 << 32  # of sequence
 
 
 class Budget:
-    """The bytes that all streams together hold back, and how many these may be."""
+    """The bytes that all streams together hold back."""
 
-    def __init__(self, most: int = HELD_BY_ALL) -> None:
-        self.held, self.most = 0, most
+    def __init__(self) -> None:
+        self.held = 0
 
 
 class Gap(typing.NamedTuple):
@@ -48,11 +45,10 @@ class Stream:
     Each byte of payload is taken, or equals one that was taken, or is counted: in `unplaced`, or as
     one of a frame in `conflicts`.
     """
-    __slots__ = ('stored', 'budget', 'frames', 'first', 'is_begin', 'begin', 'compared', 'lacks',
-                 'next', 'expected', 'acknowledged',
-                 'acked', 'runs', 'held', 'end', 'beyond', 'known_end', 'known_by', 'far',
-                 'far_by', 'far_fin', 'conflicts', 'conflict', 'opened_by', 'reset_at', 'heard',
-                 'unplaced', 'unplaced_by', 'tail', 'tail_end')
+    __slots__ = ('stored', 'budget', 'frames', 'first', 'is_begin', 'next', 'expected',
+                 'acknowledged', 'acked', 'runs', 'held', 'end', 'beyond', 'known_end', 'known_by',
+                 'far', 'far_by', 'far_fin', 'conflicts', 'conflict', 'opened_by', 'reset_at',
+                 'heard', 'unplaced', 'unplaced_by')
 
     def __init__(self, spool: Spool, budget: Budget, frames: Frames | None) -> None:
         self.stored, self.budget, self.frames = Stored(spool), budget, frames
@@ -61,11 +57,7 @@ class Stream:
         self.heard: int | None = None
         self.opened_by = 0  # the frame of SYN, if it was recorded
         self.reset_at: int | None = None  # the position at which this end reset the connection
-        # The bytes at `begin` are the first that were sent, or the first of a record
-        self.is_begin = False
-        self.begin = 0  # the stored bytes before it are forgotten
-        self.compared = 0  # but for those from here on, with which others are compared
-        self.lacks = False  # some of these were not whole
+        self.is_begin = False  # the bytes at position 0 are the first that were sent
         self.next = 0  # the position after the last byte in order
         self.expected: int | None = None  # its sequence number
         self.acknowledged: int | None = None  # the sequence number that was acknowledged last
@@ -82,8 +74,6 @@ class Stream:
         self.conflicts, self.conflict = 0, 0
         # Bytes that could not be taken, and the first frame of them
         self.unplaced, self.unplaced_by = 0, 0
-        # The last bytes, once all are forgotten, and the position after them
-        self.tail, self.tail_end = b'', 0
 
     def position(self, sequence: int) -> int:
         """The position of a sequence number, which wraps: the first one that is not long before
@@ -110,8 +100,8 @@ class Stream:
         before = 0 if self.first is None else (self.first - sequence) % SEQUENCE_SPACE
         if self.first is None or not before:
             self.begins_at(sequence)
-            self.is_begin |= not self.begin
-        elif self.may_begin_at(sequence) and not self.begin:
+            self.is_begin = True
+        elif self.may_begin_at(sequence):
             self.first, self.is_begin = sequence % SEQUENCE_SPACE, True
             self.move(before, number)
 
@@ -180,11 +170,6 @@ class Stream:
         if self.heard is None:
             self.heard = acknowledged
         self.shows(self.position(acknowledged), number)
-
-    def is_beyond(self, acknowledged: int) -> bool:
-        """Whether an acknowledgement shows bytes after all that are known. FIN counts as a byte."""
-        return (self.first is not None
-                and self.position(acknowledged) > max(self.next, self.known_end) + 1)
 
     def ends_at(self, end: int, number: int) -> None:
         """The position of the end is known, unless bytes beyond it were sent."""
@@ -260,7 +245,7 @@ class Stream:
             self.differs(number)
         self.budget.held += self.held.cost - cost
         if self.held.cost > HELD_AT_MOST or (
-                self.budget.held > self.budget.most and self.held.begins):
+                self.budget.held > HELD_BY_ALL and self.held.begins):
             self.give_up_gap()
 
     def take_late(self, position: int, payload: bytes, number: int, time: int) -> None:
@@ -296,9 +281,6 @@ class Stream:
         """Iterates over runs of bytes with which others can be compared, from the last that begins
         at a position or before it, or from the first: the position of each, where it is stored, and
         its size."""
-        if self.compared < self.begin and self.runs and position < self.runs[0].position:
-            size = self.begin - self.compared
-            yield self.runs[0].position - size, self.compared, size
         for at in range(max(0, bisect.bisect_right(Keys(self.runs, lambda run: run.position),
                                                    position) - 1), len(self.runs)):
             end = self.runs[at + 1].begin if at + 1 < len(self.runs) else self.stored.size
@@ -331,44 +313,6 @@ class Stream:
             self.leave_out(self.beyond.size, self.beyond.pieces[0][1])
             self.budget.held -= self.beyond.cost
             self.beyond = Held()
-
-    def drop(self, begin: int) -> None:
-        """Forgets the stored bytes before a place at which a record begins, but for some with which
-        others are compared."""
-        passed = [run for run in self.runs if run.begin <= begin]
-        self.lacks |= not self.is_begin or any(run.gap for run in passed)
-        last = passed[-1] if passed else Stretch(begin, None, self.next)
-        together = self.compared if len(passed) <= 1 and not last.gap else last.begin
-        self.runs = [Stretch(begin, None, last.position + begin - last.begin),
-                     *self.runs[len(passed):]]
-        self.begin, self.is_begin = begin, True
-        self.compared = max(together, begin - KEPT_TO_COMPARE)
-        self.stored.drop(self.compared)
-        if self.frames is not None:
-            self.frames.drop(begin)
-
-    def close(self) -> None:
-        """Forgets all bytes but the last, with which others that come later are compared. Nothing
-        is taken after this."""
-        begin = max(self.begin, self.runs[-1].begin if self.runs else 0, self.stored.size - TAIL)
-        self.tail, self.tail_end = self.stored.read(begin, self.stored.size - begin), self.next
-        self.budget.held -= self.held.cost + self.beyond.cost
-        self.held, self.beyond = Held(), Held()
-        self.stored.close()
-        if self.frames is not None:
-            self.frames.stored.close()
-
-    def new_in(self, position: int, payload: bytes) -> int:
-        """How many bytes of a segment that comes after all are forgotten cannot be seen to be those
-        that were taken."""
-        if len(payload) == 1 and position == self.next - 1:  # a keep-alive
-            return 0
-        first = self.tail_end - len(self.tail)
-        low, high = max(position, first), min(position + len(payload), self.tail_end)
-        if low < high and (
-                self.tail[low - first:high - first] == payload[low - position:high - position]):
-            return len(payload) - (high - low)
-        return len(payload)
 
     def gap_at_end(self) -> Gap | None:
         """The bytes that are missing after the last one."""

@@ -29,7 +29,6 @@ from ..shared.kinds import MAGICS
 from ..shared.outputs import CAPTURE, write_file
 from ..shared.places import SIDES, FilePlace, NoPlace, Place, Side
 from ..shared.printed import escaped
-from ..shared.programs import chosen_frames
 from ..shared.progress import Progress, Share
 from .connections import Connection, Connections
 from .container import (
@@ -406,8 +405,8 @@ def take(path: str, options: Options = Options(), frames: bool = True,
     frames. `frames` says whether the frames of bytes are noted, which takes 24 bytes of a temporary
     file for each frame; `shows_progress` whether their number is shown on a terminal meanwhile.
 
-    Raises `NotTaken`, `Missing` and `FilterRefused` (of `programs`), and `OSError` if a file cannot
-    be read or a temporary file not be written.
+    Raises `NotTaken`, `Missing` (of `programs`), and `OSError` if a file cannot be read or a
+    temporary file not be written.
     """
     progress, files = Progress(shows_progress), files_of(path)
     taken = (take_parts(files, options, frames, progress) if len(files) > 1
@@ -419,8 +418,8 @@ def take(path: str, options: Options = Options(), frames: bool = True,
 def take_file(path: str, options: Options, keeps_frames: bool, progress: Progress) -> Taken:
     """Takes a recording or capture of one file."""
     with contextlib.ExitStack() as stack:
-        source, chosen = opened_for(path, options, stack)
-        taken = take_from(source, chosen, options, keeps_frames, progress,
+        source = Source(stack.enter_context(opened(path)))
+        taken = take_from(source, options, keeps_frames, progress,
                           share_of(source, 0, size_of([path])))
     begun = sum(left_out.is_begun_before for left_out in taken.left_out)
     pattern = pattern_beside(path) if begun else None
@@ -451,30 +450,13 @@ def take_parts(files: list[str], options: Options, keeps_frames: bool, progress:
     try:
         for path in parts_in_order(files):
             with contextlib.ExitStack() as stack:
-                source, chosen = opened_for(path, options, stack)
+                source = Source(stack.enter_context(opened(path)))
                 taking.taken.parts.append(Part(path, taking.count))
-                taking.add(Recording(source), chosen, f'{path}: ', share_of(source, before, size))
+                taking.add(Recording(source), f'{path}: ', share_of(source, before, size))
             before += size_of([path]) or 0
     except (NoRecording, Damaged) as refused:
         raise NotTaken(str(refused)) from refused
     return taking.ended()
-
-
-def opened_for(path: str, options: Options,
-               stack: contextlib.ExitStack) -> tuple[Source, set[int] | None]:
-    """Opens a recording, and asks tshark for the frames that a filter chooses, if there is one. It
-    reads a copy if that is of standard input or compressed. Raises `NotTaken` if what is compressed
-    cannot be copied as a whole."""
-    source = Source(stack.enter_context(opened(path)))
-    if options.filter is None:
-        return source, None
-    if path == '-' or source.is_unpacked:
-        try:
-            copy = stack.enter_context(copied(source))
-        except Damaged as damaged:
-            raise NotTaken(str(damaged)) from damaged
-        path, source = copy.name, Source(copy)
-    return source, chosen_frames(path, options.filter)
 
 
 @contextlib.contextmanager
@@ -488,15 +470,14 @@ def copied(content: Readable) -> typing.Iterator[typing.IO[bytes]]:
         yield copy
 
 
-def take_from(source: Source, chosen: set[int] | None, options: Options, keeps_frames: bool,
-              progress: Progress, share: Share | None = None) -> Taken:
-    """Takes what is read; of a recording only the frames that are chosen, if `chosen` is not
-    None."""
+def take_from(source: Source, options: Options, keeps_frames: bool, progress: Progress,
+              share: Share | None = None) -> Taken:
+    """Takes what is read."""
     try:
         if source.peek(8) in MAGICS:
             return of_capture(source)
         taking = Taking(options, keeps_frames, progress)
-        taking.add(Recording(source), chosen, share=share)
+        taking.add(Recording(source), share=share)
         return taking.ended()
     except NoRecording as refused:
         raise NotTaken(str(refused), refused.packed_by) from refused
@@ -532,25 +513,24 @@ class Taking:
         self.segments = Segments(self.taken.ports)
         self.count = 0  # frames
 
-    def add(self, recording: Recording, chosen: set[int] | None, name: str = '',
-            share: Share | None = None) -> None:
-        """Takes a part, of which only the frames that are chosen count, if `chosen` is not None. A
-        name is before what is said."""
+    def add(self, recording: Recording, name: str = '', share: Share | None = None) -> None:
+        """Takes a part. A name is before what is said."""
         before, segments, connections, ports = (
             self.count, self.segments, self.connections, self.options.ports)
         frame = None
         for frame in recording.frames():
             self.taken.begun = self.taken.begun or frame.time
-            is_chosen = chosen is None or frame.number in chosen
-            segment = segments.segment(frame, is_chosen)
+            segment = segments.segment(frame)
             if segment is not None:
-                is_chosen = is_chosen and (not ports or segment.has_port(ports))
+                is_chosen = not ports or segment.has_port(ports)
                 connections.take(segment, before + frame.number, frame.time, is_chosen)
             if not frame.number % FRAMES_A_STEP:
                 self.progress.step(f'{before + frame.number:,} frames', share)
         self.count += recording.count
         self.taken.ended = frame.time if frame else self.taken.ended
-        if recording.cut:
+        if recording.cut and self.options.is_growing:
+            self.taken.notes.append(name + recording.cut)
+        elif recording.cut:
             self.taken.remarks.append(Covered('in part', name + recording.cut))
         if recording.damage:
             self.taken.notes.append(name + recording.damage)
@@ -577,7 +557,7 @@ def add(taken: Taken, connection: Connection, options: Options) -> None:
     if connection.is_bare:
         taken.left_out.append(without_payload(connection))
         return
-    selected = select(connection)
+    selected = select(connection, options.is_growing)
     left_out = left_out_of(connection, selected, options)
     if left_out:
         taken.left_out.append(left_out)

@@ -19,9 +19,9 @@ from ..shared.names import as_called, called, is_installed
 from ..shared.outputs import ENDING, Refused
 from ..shared.places import NoPlace
 from ..shared.printed import escaped, printable
-from ..shared.programs import Died, FilterRefused, Missing
+from ..shared.programs import Died, Missing
 from ..shared.screens import add_colour
-from ..shared.version import TOP, version
+from ..shared.version import TOP, VERSION
 
 ABSENT, REFUSED, FAILED, INTERRUPTED = 1, 2, 3, 130  # ABSENT: no such position
 # How a tool reads a recording from standard input.
@@ -58,7 +58,7 @@ def status_of_tool(name: str, main: typing.Callable[[list[str]], int]) -> int:
         status = exit_status(main)
         flush_all()
         return status
-    except (NotTaken, NoPlace, Missing, FilterRefused, Refused) as refused:
+    except (NotTaken, NoPlace, Missing, Refused) as refused:
         return ended(name, failure_text(refused, name), REFUSED)
     except BrokenPipeError:
         return FAILED
@@ -203,7 +203,7 @@ def parser_of(text: str | None, name: str) -> argparse.ArgumentParser:
     """A parser of command lines, whose help is the beginning of the text of a module."""
     parser = Parser(prog=called(name), description=text and as_called(help_of(text, name)),
                     formatter_class=argparse.RawDescriptionHelpFormatter)
-    parser.add_argument('--version', action='version', version=f'{called(name)} {version()}')
+    parser.add_argument('--version', action='version', version=f'{called(name)} {VERSION}')
     return parser
 
 
@@ -237,10 +237,24 @@ def manual_of(name: str) -> str:
             else f'man/{name}.1 of the tools in a clone of nfs3canon')
 
 
+class Gone(argparse.Action):
+    """An option of an earlier version. Its constant is what to use in its place."""
+
+    def __call__(self, parser: argparse.ArgumentParser, *_: object) -> None:
+        parser.exit(REFUSED, f'{parser.prog}: error: {self.option_strings[0]} is gone: '
+                             f'{self.const}\n')
+
+
+def add_gone(parser: argparse.ArgumentParser, option: str, instead: str) -> None:
+    """Has an option of an earlier version say in one line what to use in its place."""
+    parser.add_argument(option, action=Gone, nargs='?', const=as_called(instead),
+                        help=argparse.SUPPRESS)
+
+
 def add_options(parser: argparse.ArgumentParser) -> None:
     """The options of which connections are taken."""
-    parser.add_argument('--filter', metavar='FILTER', help='takes the connections for which a '
-                        'display filter of Wireshark is true')
+    add_gone(parser, '--filter', 'write a smaller recording first: '
+             '`tshark -r RECORDING -Y FILTER -w OUT`')
     parser.add_argument('--port', metavar='PORT,..', type=port_numbers, default=frozenset(),
                         help='takes the connections that have one of these ports')
 
@@ -290,7 +304,7 @@ def position_text(word: str | None, file: str, what: str) -> str:
 
 
 def options_of(chosen: argparse.Namespace) -> Options:
-    return Options(chosen.filter, chosen.port)
+    return Options(chosen.port)
 
 
 def recording_lines(taken: Taken, has_taken: bool = True) -> list[str]:

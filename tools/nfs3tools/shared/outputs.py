@@ -45,7 +45,7 @@ def write_file(path: str, blocks: Iterable[bytes], inputs: Iterable[str] = (),
     with failures_named(path):
         found = check_output(path, inputs, replaces)
         if is_replaced(found):
-            write_beside(os.path.realpath(path), blocks, found=found)
+            write_beside(os.path.realpath(path), blocks, found)
         else:
             sys.stdout.flush()
             write_into(path, found, blocks)
@@ -251,12 +251,10 @@ def part_beside(target: str, mode: int) -> Iterator[tuple[str, int]]:
             os.unlink(part)
 
 
-def write_beside(target: str, blocks: Iterable[bytes], mode: int | None = None,
-                 found: os.stat_result | None = None) -> None:
+def write_beside(target: str, blocks: Iterable[bytes], found: os.stat_result | None) -> None:
     """Writes a file beside its name, which it gets once it is whole and safe on the disk, in place
     of the file that was found there."""
-    if mode is None and found is not None:
-        mode = mode_of_replaced(target, found)
+    mode = None if found is None else mode_of_replaced(target, found)
     with part_beside(target, EVERYBODY if mode is None else OWNER_ALONE) as (part, number):
         write_all(number, blocks)
         if mode is not None:

@@ -21,7 +21,12 @@ class Place(typing.NamedTuple):
     byte: typing.Optional[int] = None
 
     def __str__(self) -> str:
-        record = f'connection {self.connection} {self.side} record {self.record}'
+        return f'connection {self.connection} {self.in_connection}'
+
+    @property
+    def in_connection(self) -> str:
+        """The same without the connection."""
+        record = f'{self.side} record {self.record}'
         return record if self.byte is None else f'{record} byte {self.byte}'
 
 

@@ -20,7 +20,7 @@ CHECKED, COMPARED, MASKED = {0: 'ok ', 2: ''}, {0: 'same\n', 1: 'differ at '}, {
 COMMANDS = ('check', 'same', 'show')
 PIPE_SIZE = 1 << 16  # of Linux
 NOT_FOUND = ('nfs3canon is missing: it is neither beside the tools nor on the PATH; '
-             '`tools/install` in a clone of nfs3canon installs it')
+             '`make install` in a clone of nfs3canon installs it')
 Redirection = typing.Union[typing.IO[bytes], int]
 # Of a program itself; a shell and a loader have those above for one that cannot run
 MOST_STATUS = 125
@@ -76,24 +76,6 @@ def path_beside(program: pathlib.Path, name: str) -> pathlib.Path:
     path = program.resolve()
     return (path.parents[2] / name / 'out' / name if path.parent.name == 'out'
             else path.parent / name)
-
-
-def made_programs(names: typing.Iterable[str]) -> None:
-    """Has the launchers make the programs of this repository that are not there: they unpack or
-    build them.
-
-    Raises `Missing`.
-    """
-    for name in names:
-        # (without words a program prints its usage)
-        launcher = shutil.which(TOP / name)
-        if launcher is None:
-            raise Missing(f'{name} is missing')
-        done = subprocess.run([launcher], stdin=subprocess.DEVNULL, stdout=subprocess.DEVNULL,
-                              stderr=subprocess.PIPE, check=False)
-        if not (TOP / f'crates/{name}/out/{name}').exists():
-            raise Missing(f'{name} cannot be made: '
-                          + done.stderr.decode(errors='replace').strip().rpartition('\n')[2])
 
 
 def run_program(program: str, words: list[str], expected: typing.Mapping[int, str],
@@ -181,29 +163,3 @@ def died(command: list[str], status: int, error: str) -> Died:
            else f'ended with status {status}')
     return Died(f'{escaped(name)} {how}'
                 + ''.join(f': {printable(line)}' for line in error.splitlines()[-1:]))
-
-
-def chosen_frames(recording: str, display_filter: str) -> set[int]:
-    """The numbers of the frames for which a display filter of Wireshark is true.
-
-    Raises `Missing` if tshark is not there, and `FilterRefused`.
-    """
-    if not shutil.which('tshark'):
-        raise Missing('tshark is missing, which --filter needs')
-    words = ['tshark', '-n', '-r', recording, '-Y', f'tcp && ({display_filter})', '-T', 'fields',
-             '-e', 'frame.number']
-    with begun(words, stdin=subprocess.DEVNULL, stdout=subprocess.PIPE,
-               stderr=subprocess.PIPE) as process:
-        out, error = (piece.decode(errors='replace') for piece in process.communicate())
-    complaints = [line for line in error.splitlines() if line
-                  and not line.startswith('Running as user "root"')]
-    if process.returncode < 0 or process.returncode > MOST_STATUS:
-        raise died(words[:1], process.returncode, error)
-    if process.returncode not in (0, 2) or process.returncode and not out:
-        raise FilterRefused('; '.join(map(printable, complaints))
-                            or f'tshark ended with status {process.returncode}')
-    return set(map(int, out.split()))
-
-
-class FilterRefused(Exception):
-    """tshark does not take the filter or the recording; its text is what tshark said."""
