@@ -353,7 +353,7 @@ def as_verdicts_judges(tools: Tools) -> None:
     faulty, talk = write_faulty(tools), Talk()
     version_4 = [(0, call(1, NFS, 4, 1, bytes(8))), (1, success(1, bytes(8)))]
     tools.write('four.pcap', pcap([*talk.opened(), *talked(talk, version_4)]))
-    for name, *options in [*([one] for one in (*faulty, 'four.pcap', 'absent')),
+    for name, *options in [*([one] for one in (*faulty, 'four.pcap')),
                            ['lost.pcap', *ALLOWED], ['four.pcap', *ALLOWED]]:
         words = ['--program', tools.program, *options]
         judged, out, told = tools.tool('verdicts', *words, '--json', 'x.json', name)

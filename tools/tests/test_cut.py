@@ -58,7 +58,7 @@ def on_standard_output(tools: Tools) -> None:
                (0, packed((stream(CALLS[2:3]), stream(REPLIES[2:3])))))
     tools.want('lines', done.error.decode().splitlines()[-1], ONE)
     tools.want('no file', tools.names(), ['1'])
-    status, out, error = cut(tools, 'absent', place, 'folder/out')
+    status, out, error = cut(tools, '1', place, 'folder/out')
     tools.want('no folder', (status, out, error.startswith('cut: folder/out: ')), (3, [], True))
 
 
@@ -174,7 +174,7 @@ def what_is_refused(tools: Tools) -> None:
              'cut: a.pcap is a recording, and is not replaced\n'),
             (('old', 'connection 1 client record 1', './old'), 2,
              'cut: ./old is an input, and is not replaced\n'),
-            (('absent', 'connection 1 client record 1', 'new'), 3,
+            (('absent', 'connection 1 client record 1', 'new'), 2,
              'cut: absent: No such file or directory\n'),
             (('a.pcap', 'connection 1 client record 1', 'old.pcap'), 2,
              'cut: old.pcap is a capture, and is not replaced\n'),

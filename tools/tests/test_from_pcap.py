@@ -449,7 +449,7 @@ def files(tools: Tools) -> None:
     tools.want('a full device', tools.tool('from_pcap', 'a.pcap', '/dev/full'),
                (3, '', told + 'from_pcap: /dev/full: No space left on device\n'))
     for words, answer in ((('absent', 'x'),
-                           (3, '', 'from_pcap: absent: No such file or directory\n')),
+                           (2, '', 'from_pcap: absent: No such file or directory\n')),
                           (('.', 'x'), (3, '', 'from_pcap: .: Is a directory\n')),
                           (('a.pcap', 'absent/x'),
                            (3, '', 'from_pcap: absent/x: No such file or directory\n')),

@@ -343,12 +343,13 @@ def closed_outputs(tools: Tools) -> None:
 def outputs_before_the_work(tools: Tools) -> None:
     """Outputs are tried first, none is taken twice, and `-` has it alone."""
     tools.write('text', b'text')
+    tools.write('none', b'no recording')
     os.symlink('text', tools.path('link'))
     os.mkdir(tools.path('folder'))
     for name, one, other in (('verdicts', '--json', '--junit'), ('procedures', '--json', '--csv'),
                              ('compare', '--json', '--html'), ('compare', '--junit', '--json'),
                              ('compare', '--html', '--junit')):
-        inputs = ['no recording'] * (2 if name == 'compare' else 1)
+        inputs = ['none'] * (2 if name == 'compare' else 1)
         for words, status, told in (
                 ([one, 'absent/x'], 3, 'absent/x: '), ([one, 'folder'], 3, 'folder: '),
                 ([one, 'text/x'], 3, 'text/x: '), ([one, 'x', other, './x'], 2, 'are one file'),
@@ -357,7 +358,7 @@ def outputs_before_the_work(tools: Tools) -> None:
                 ([one, '-', other, '/dev/stdout'], 2, 'are one file')):
             answer = tools.tool(name, *words, *inputs)
             tools.want(f'{name} {words}', (answer[0], answer[1], told in answer[2],
-                                           'no recording' in answer[2]), (status, '', True, False))
+                                           'neither' in answer[2]), (status, '', True, False))
         runs = [FIRST, CHANGED] if name == 'compare' else [FIRST]
         status, out, error = tools.tool(name, one, '-', *runs)
         tools.want(f'{name} {one} -', (out[:1] in '{<', 'judged' in error), (True, True))
@@ -365,12 +366,12 @@ def outputs_before_the_work(tools: Tools) -> None:
                    tools.tool(name, one, '/dev/null', other, '/dev/null', *runs)[0], status)
     done = ended([tool('from_pcap'), FIRST, '-'], tools.folder)
     tools.want('a capture on standard output', (done.status, done.out[:8]), (0, b'NFS3CAP1'))
-    answer = tools.tool('from_pcap', 'no recording', 'absent/x')
+    answer = tools.tool('from_pcap', 'none', 'absent/x')
     tools.want('from_pcap', (answer[0], 'absent/x: ' in answer[2]), (3, True))
     os.chmod(tools.path('text'), 0o444)
     tools.want('not to be written', tools.tool('compare', '--json', 'text', FIRST, FIRST)[0], 3)
     tools.want('what is there',
-               (tools.names(), tools.read('text')), (['folder', 'link', 'text'], b'text'))
+               (tools.names(), tools.read('text')), (['folder', 'link', 'none', 'text'], b'text'))
 
 
 HOSTILE = 'a\x1b[31m\n\\ä\udcff'
@@ -396,7 +397,7 @@ def names(tools: Tools) -> None:
             ['compare', '--program', HOSTILE, capture, capture],
             ['verdicts', *program, recording, HOSTILE],
             ['verdicts', *program, '--junit', recording, capture],
-            ['explain', recording, 'file 0: BadMagic'], ['explain', HOSTILE, 'file 8']]
+            ['explain', HOSTILE, 'connection 1 client record 1']]
     for words in rows:
         command = [tool(words[0]), *words[1:]]
         done = ended([os.fsencode(word) for word in command], tools.folder)

@@ -182,7 +182,7 @@ def judged_in_part(tools: Tools) -> None:
     """Titles, words and status are those of tools/verdicts."""
     faulty = write_faulty(tools)
     tools.write('first.pcap', pcap(whole()[:3] + whole()[4:]))
-    for name in (*faulty, 'first.pcap', 'absent'):
+    for name in (*faulty, 'first.pcap'):
         for options in ((), ('--allow-losses',)):
             status, tables, error = procedures(tools, *options, name)
             judged, out, told = tools.tool('verdicts', *options, name)

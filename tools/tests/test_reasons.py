@@ -31,9 +31,10 @@ def explained(tools: Tools) -> None:
     tools.want('reasons', len(lines), 32)
     for name, (reason, line) in lines.items():
         status, out, error = tools.tool('explain', name, stdin=('first: %s\n' % line).encode())
-        said = re.search('^%s: (.*)$' % reason, out, re.M)
+        said = re.search('(?:^|: )%s: (.*)$' % reason, out or error, re.M)
         told = [name for name, words in WORDS_OF_REASONS.items() if said and words in said[1]]
-        tools.want('explain ' + line, (status, told, error), (0, [reason], ''))
+        wanted = 2 if line.startswith('file ') else 0
+        tools.want('explain ' + line, (status, told), (wanted, [reason]))
         if ' byte ' in line and reason not in ('Trailing', 'AuthLength', 'RecordCut',
                                                'RecordTooLong'):
             tools.want('the item of ' + line,
@@ -48,12 +49,8 @@ def explained_as_documented(tools: Tools) -> None:
         'connection 1 server record 1: reply NFSPROC3_GETATTR of program 100003, version 3, '
         'procedure 1', 'xid 7, a body of 28 bytes, to call record 1', 'byte 24: status = 3']))
     tools.write('a', (TOP / 'examples/interleaved.nfs3cap').read_bytes())
-    for place, told in (('file 12', 'file byte 12: the side word before a chunk of connection 1 '
-                         'client, from byte 12'),
-                        ('connection 2 server record 1 byte 4', 'byte 4: mtype = 1 (REPLY)')):
-        tools.want(place, told in tools.tool('explain', 'a', place)[1].splitlines(), True)
-    tools.want('a file that is absent', tools.tool('explain', 'absent', 'file 0'),
-               (3, '', 'explain: absent: No such file or directory\n'))
+    out = tools.tool('explain', 'a', 'connection 2 server record 1 byte 4')[1]
+    tools.want('of version 2', 'byte 4: mtype = 1 (REPLY)' in out.splitlines(), True)
     for name in ('ganesha_a.pcap', 'bad_bool.pcap'):
         status, out, error = tools.tool('explain', str(TOP / 'examples' / name), 'file 0: BadMagic')
         tools.want('a recording', (status, out, 'tools/from_pcap' in error), (2, '', True))

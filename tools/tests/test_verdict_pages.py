@@ -292,7 +292,8 @@ def names_and_outputs(tools: Written) -> None:
         status, out, error = tools.tool(tool, '--html', '-', 'a.pcap')
         tools.want(f'{tool} -', (status, out[:15], ' judged (' in error),
                    (0, '<!DOCTYPE html>', True))
-    status, _, page = tools.page('verdicts', '-j', '2', 'a.pcap', FIRST, 'absent.pcap')
+    tools.write('text.pcap', b'text')
+    status, _, page = tools.page('verdicts', '-j', '2', 'a.pcap', FIRST, 'text.pcap')
     tools.want('several', (status, len(page.all('svg', 'line')), page.texts('h1')),
                (1, 2, ['Not all could be read']))
 

@@ -83,7 +83,7 @@ def places_by_standard_input(tools: Tools, frames: list[bytes]) -> None:
         shutil.copy(TOP / 'examples/null.nfs3cap', tools.path('b.nfs3cap'))
         tools.want(message, tools.tool('where', *words), (2, '', message))
     tools.want('an absent file', tools.tool('where', 'absent', 'file 8'),
-               (3, '', 'where: absent: No such file or directory\n'))
+               (2, '', 'where: absent: No such file or directory\n'))
 
 
 def places_of_other_recordings(tools: Tools) -> None:
@@ -218,8 +218,8 @@ def parts_that_are_none(tools: Tools) -> None:
     tools.want('no recording', verdicts(tools, 'run.pcap.[ht]*')[:2],
                (1,
                 [['run.pcap.[ht]*', *['-'] * 5, 'run.pcap.html: it is neither pcap nor pcapng']]))
-    tools.want('no file', verdicts(tools, 'absent*')[1][0][-1],
-               'absent*: No such file or directory')
+    tools.want('no file', tools.tool('verdicts', 'run.pcap*', 'absent*'),
+               (2, '', 'verdicts: absent*: No such file or directory\n'))
 
 
 def recordings_that_are_compressed(tools: Tools) -> None:
@@ -321,7 +321,7 @@ def rows_of_files_that_are_not_whole(tools: Tools) -> None:
     two = (TOP / 'examples/two_connections.nfs3cap').read_bytes()
     first, second, as_a_whole = ['1', '-', '-', '1', '1',
                                  'ok'], ['2', '-', '-', '1', '1', 'ok'], ['-', '-', '-', '-', '-']
-    cases: list[tuple[str, bytes | None, list[list[str]]]] = [
+    cases: list[tuple[str, bytes, list[list[str]]]] = [
         ('cut', two[:-1], [first, second, [*as_a_whole, f'file {len(two) - 1}: CaptureCut']]),
         ('more', two + b'x', [first, second, [*as_a_whole, f'file {len(two)}: AfterEnd']]),
         ('mark', two[:100] + b'\0\0\0\7' + two[104:], [first, [*as_a_whole, 'file 100: BadMark']]),
@@ -339,11 +339,9 @@ def rows_of_files_that_are_not_whole(tools: Tools) -> None:
          [['1', '192.0.2.7:700', '192.0.2.1:2049', '39', '39', 'ok'],
           [*as_a_whole,
            'the recording is damaged after frame 15: frame 16 claims 4294967295 bytes']]),
-        ('empty', pcap([]), [[*as_a_whole, 'no connection to judge']]),
-        ('absent', None, [[*as_a_whole, 'absent: No such file or directory']])]
+        ('empty', pcap([]), [[*as_a_whole, 'no connection to judge']])]
     for name, content, rows in cases:
-        if content is not None:
-            tools.write(name, content)
+        tools.write(name, content)
         status, found, _, _ = verdicts(tools, name, 'b.pcap')
         tools.want(name, (status, found[:-1]), (1, [[name, *row] for row in rows]))
         tools.want(name + ', the other', found[-1][-1], 'ok')
@@ -377,6 +375,7 @@ def write_files(tools: Tools, *inputs: str) -> None:
     name = 'a\1\n<&"]]>\udcff.pcap'
     tools.write(name, (TOP / 'examples/bad_server_record.pcap').read_bytes())
     tools.write('b.pcap', pcap(whole()[:4] + whole()[5:] + Talk(800).opened()))
+    tools.write('c', b'text')
     words = ['--junit', 'x.xml', '--json', 'x.json', '--program', tools.program, name, *inputs]
     done = ended([VERDICTS, *words], tools.folder)
     tools.want('status', (done.status, b'Traceback' in done.error), (1, False))
@@ -403,7 +402,7 @@ def files_for_others(tools: Tools) -> None:
         ('b.pcap', 'connection 1 ' + ends, [('failure', in_part)]),
         ('b.pcap', 'left out: 192.0.2.7:800 and 192.0.2.1:2049: no payload',
          [('skipped', 'left out: 192.0.2.7:800 and 192.0.2.1:2049: no payload')]),
-        ('c', 'as a whole', [('error', 'c: No such file or directory')])])
+        ('c', 'as a whole', [('error', 'it is neither pcap nor pcapng')])])
     told = [item.text or '' for case in suite.iter('testcase') for item in case
             if item.tag == 'system-out']
     tools.want('what is told', [text.splitlines()[:2] for text in told],

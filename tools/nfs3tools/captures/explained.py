@@ -131,7 +131,7 @@ def remark_on_item(item: PlacedItem) -> str:
     return ''
 
 
-def tell_bytes(data: Body, begin: int, end: int, byte: int, tell: Tell, first: int = 0) -> None:
+def tell_bytes(data: Body, begin: int, end: int, byte: int, tell: Tell) -> None:
     """Lines of 16 bytes, of a long run those around a byte, with the bytes from `begin` to `end` in
     brackets."""
     low, high = 0, len(data)
@@ -144,10 +144,14 @@ def tell_bytes(data: Body, begin: int, end: int, byte: int, tell: Tell, first: i
                                ']' if place == end - 1 else ' ')
                  for place, value in enumerate(piece, at))
         text = ''.join(chr(byte) if 32 <= byte < 127 else '.' for byte in piece)
-        tell('%8d %-64s %s' % (first + at, ''.join(cells), text))
+        tell('%8d %-64s %s' % (at, ''.join(cells), text))
 
 
 def tell_reason(reason: str | None, tell: Tell) -> None:
     """What a reason means."""
     if reason:
-        tell('%s: %s' % (reason, REASONS.get(reason, 'no reason of nfs3canon')))
+        tell(meaning_of(reason))
+
+
+def meaning_of(reason: str) -> str:
+    return f'{reason}: {REASONS.get(reason, "no reason of nfs3canon")}'

@@ -15,7 +15,7 @@ import sys
 from collections.abc import Sequence
 from functools import partial
 
-from ..captures.explained import tell_bytes, tell_reason, tell_record
+from ..captures.explained import meaning_of, tell_record
 from ..captures.located import Within, located
 from ..recordings.carried import places_at
 from ..recordings.taken import FrameRef, NotTaken
@@ -35,20 +35,18 @@ def explain_record(within: Within, place: Place, reason: str | None) -> None:
     tell_record(found, place, reason, print)
 
 
-def tell_frames(within: Within, place: Place | FilePlace, frames: list[FrameRef]) -> None:
+def tell_frames(within: Within, place: Place, frames: list[FrameRef]) -> None:
     """Prints the frames of a position of a recording."""
     if within.taken and frames:
         print('\n'.join(place_lines(within.taken, place, frames)))
 
 
-def explain_byte(within: Within, place: FilePlace, reason: str | None) -> None:
-    part = within.part(place)
-    tell_frames(within, place, within.frames_of(place))
-    print('file byte %d: %s, from byte %d' % (place.byte, part.what, part.begin))
-    tell_reason(reason, print)
-    low = max(0, place.byte - place.byte % 16 - 64)
-    tell_bytes(within.bytes_from(low, 160), place.byte - low, min(part.end, place.byte + 4) - low,
-               place.byte - low, print, low)
+def of_container(place: FilePlace, reason: str | None) -> str:
+    """What is said of a byte that is of no record."""
+    meant = f'{meaning_of(reason)}; ' if reason else ''
+    advice = as_called('`tools/from_pcap` makes one of a recording, and ')
+    return (f'{place} is no byte of a record: {meant}{advice if reason == "BadMagic" else ""}'
+            'docs/FORMATS.md has the layout of captures')
 
 
 def main(command_line: list[str]) -> int:
@@ -60,20 +58,17 @@ def main(command_line: list[str]) -> int:
     text = position_text(words.place, words.file, 'FILE')
     place, fault = parse_place(text), parse_fault(text)
     reason = fault.reason if fault else None
+    if isinstance(place, FilePlace):
+        raise NotTaken(of_container(place, reason))
     try:
-        with located(words.file, place, options_of(words)) as within:
-            if within.taken and reason == 'BadMagic':
-                raise NotTaken(f'{escaped(words.file)} is a recording, of which '
-                               f'{as_called("tools/from_pcap")} makes a capture for nfs3canon')
+        with located(words.file, options_of(words)) as within:
             if isinstance(place, FramePlace) and within.taken is None:
                 raise NotTaken(f'{escaped(words.file)} is a capture, which has no frames')
             found: Sequence[Place | FilePlace | FramePlace] = [place]
             if within.taken:
                 found = places_at(within.taken, place)
             for one in found:
-                if isinstance(one, FilePlace):
-                    explain_byte(within, one, reason)
-                elif isinstance(one, Place):
+                if isinstance(one, Place):
                     explain_record(within, one, reason)
     except NoPlace as absent:
         return ended('explain', str(absent), ABSENT)

@@ -65,7 +65,12 @@ class Judge(typing.NamedTuple):
                 if look:
                     look(taken, verdicts)
                 return verdicts
-        except (NotTaken, Missing, OSError, MemoryError) as failed:
+        except OSError as failed:
+            # (a failure of something else, as of a temporary file, is none of the recording)
+            if failed.filename not in files_of(recording):
+                raise
+            return [error_verdict(recording, failure_text(failed, 'verdicts'))]
+        except (NotTaken, Missing, MemoryError) as failed:
             return [error_verdict(recording, failure_text(failed, 'verdicts'))]
         except Died as died:
             raise Died(f'{escaped(recording)}: {died}') from died

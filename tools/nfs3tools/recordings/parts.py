@@ -6,6 +6,7 @@ to the tool.
 """
 from __future__ import annotations
 
+import errno
 import glob
 import os
 import re
@@ -18,6 +19,10 @@ from .frames import NoRecording, Recording, Source, opened
 from .unpacking import Damaged
 
 
+class NotThere(Exception):
+    """An argument is the name of no file, and no pattern that fits one; its text is the message."""
+
+
 class Part(typing.NamedTuple):
     """A part of a recording: its file, and how many frames the parts before it have."""
     path: str
@@ -25,13 +30,17 @@ class Part(typing.NamedTuple):
 
 
 def files_of(path: str) -> list[str]:
-    """Returns the files that an argument names, sorted by their names; itself if no pattern helps.
-    Those that a pattern fits and that are no recordings, as a page beside them, are skipped unless
-    all are."""
-    if path == '-' or os.path.lexists(path):
+    """Returns the files that an argument names, sorted by their names. Those that a pattern fits
+    and that are no recordings, as a page beside them, are skipped unless all are.
+
+    Raises `NotThere` if there is none.
+    """
+    if path == '-' or os.path.exists(path):
         return [path]
     found = sorted(glob.glob(path))
-    return list(filter(may_be_recording, found)) or found or [path]
+    if not found:
+        raise NotThere(f'{escaped(path)}: {os.strerror(errno.ENOENT)}')
+    return list(filter(may_be_recording, found)) or found
 
 
 def files_in(paths: Iterable[str]) -> list[str]:
@@ -41,7 +50,7 @@ def files_in(paths: Iterable[str]) -> list[str]:
 
 def skipped_of(path: str) -> list[str]:
     """Returns the files that a pattern fits and that are skipped, sorted by their names."""
-    return sorted({*glob.glob(path)} - {*files_of(path)}) if not os.path.lexists(path) else []
+    return sorted({*glob.glob(path)} - {*files_of(path)}) if not os.path.exists(path) else []
 
 
 def may_be_recording(path: str) -> bool:

@@ -13,6 +13,7 @@ import typing
 from pathlib import Path
 
 from ..recordings.coverage import Allowed
+from ..recordings.parts import NotThere
 from ..recordings.selection import Options
 from ..recordings.taken import NotTaken, Taken
 from ..shared.names import as_called, called, is_installed
@@ -58,7 +59,7 @@ def status_of_tool(name: str, main: typing.Callable[[list[str]], int]) -> int:
         status = exit_status(main)
         flush_all()
         return status
-    except (NotTaken, NoPlace, Missing, Refused) as refused:
+    except (NotThere, NotTaken, NoPlace, Missing, Refused) as refused:
         return ended(name, failure_text(refused, name), REFUSED)
     except BrokenPipeError:
         return FAILED
