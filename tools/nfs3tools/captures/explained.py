@@ -150,8 +150,8 @@ def tell_bytes(data: Body, begin: int, end: int, byte: int, tell: Tell) -> None:
 def tell_reason(reason: str | None, tell: Tell) -> None:
     """What a reason means."""
     if reason:
-        tell(meaning_of(reason))
+        tell(reason_in_words(reason))
 
 
-def meaning_of(reason: str) -> str:
+def reason_in_words(reason: str) -> str:
     return f'{reason}: {REASONS.get(reason, "no reason of nfs3canon")}'

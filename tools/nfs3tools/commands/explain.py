@@ -15,7 +15,7 @@ import sys
 from collections.abc import Sequence
 from functools import partial
 
-from ..captures.explained import meaning_of, tell_record
+from ..captures.explained import reason_in_words, tell_record
 from ..captures.located import Within, located
 from ..recordings.carried import places_at
 from ..recordings.taken import FrameRef, NotTaken
@@ -43,7 +43,7 @@ def tell_frames(within: Within, place: Place, frames: list[FrameRef]) -> None:
 
 def of_container(place: FilePlace, reason: str | None) -> str:
     """What is said of a byte that is of no record."""
-    meant = f'{meaning_of(reason)}; ' if reason else ''
+    meant = f'{reason_in_words(reason)}; ' if reason else ''
     advice = as_called('`tools/from_pcap` makes one of a recording, and ')
     return (f'{place} is no byte of a record: {meant}{advice if reason == "BadMagic" else ""}'
             'docs/FORMATS.md has the layout of captures')
