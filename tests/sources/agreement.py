@@ -409,15 +409,6 @@ def what_is_not_proved(tools: Tools) -> None:
         tools.want(row, row[0].lower() + row[1:].strip() in told, True)
 
 
-def bugs_are_counted(tools: Tools) -> None:
-    """The page of each crate has the number of its must-fail edits."""
-    counts = {path.parent.name: len(list(path.glob('*.edit')))
-              for path in (TOP / 'crates').glob('*/must-fail')}
-    found = {crate: re.findall(r'must refuse the (\d+) bugs', text)
-             for crate, text in promises().items()}
-    tools.want('bugs', found, {crate: [str(count)] for crate, count in sorted(counts.items())})
-
-
 def clauses_of_each_function(tools: Tools) -> None:
     """dev/api gives a function its own clauses: those before its body, or before the semicolon that
     no bracket encloses."""
@@ -465,7 +456,7 @@ TESTS = [commands_of_the_pages, command_lines_of_the_pages, clause_on_the_page,
          examples_are_made_alike, pages_agree, pages_of_the_tools, what_is_believed,
          rooms_stand_apart, rooms_of_the_tools, names_of_the_tools, lines_of_the_tools,
          pages_are_plain, tables_are_whole, names_lead_somewhere, trees_are_of_the_code,
-         what_is_not_proved, bugs_are_counted, clauses_of_each_function, pages_of_the_crates,
+         what_is_not_proved, clauses_of_each_function, pages_of_the_crates,
          completions_of_the_tools, classes_of_the_mask]
 
 
