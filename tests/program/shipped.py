@@ -15,6 +15,7 @@ import sys
 import tarfile
 import tempfile
 import time
+import unittest
 from collections.abc import Callable
 
 sys.path.insert(0, str(pathlib.Path(__file__).resolve().parents[2]))
@@ -206,6 +207,12 @@ def a_clone_that_cannot_be_written(clone: Clone) -> None:
                (3, '', True, 1))
 
 
+def want_rt() -> None:
+    """Leaves a test out without the toolchain."""
+    if not shutil.which('rt'):
+        raise unittest.SkipTest('rt is not there')
+
+
 def checked(clone: Clone) -> Answer:
     """Returns what `dev/dist --check` says in the clone."""
     return ended(['dev/dist', '--check'], clone.folder).text()
@@ -214,6 +221,7 @@ def checked(clone: Clone) -> Answer:
 def a_stale_folder(clone: Clone) -> None:
     """dev/dist --check refuses a folder that was made of other sources, a damaged one, and none. It
     is made anew, since programs that another kit made are not compared."""
+    want_rt()
     for name in PROGRAMS:
         os.makedirs(clone.path(f'crates/{name}/out'))
         shutil.copy2(TOP / f'crates/{name}/out/{name}', clone.path(f'crates/{name}/out/{name}'))
@@ -232,6 +240,7 @@ def a_stale_folder(clone: Clone) -> None:
 def another_kit(clone: Clone) -> None:
     """Programs that another kit made may differ in their bytes, so they are not compared, and that
     is said."""
+    want_rt()
     made = (clone.read('dist/MADE-OF') or b'').decode()
     clone.write('dist/MADE-OF', re.sub('^kit .*', 'kit another', made, flags=re.M).encode())
     status, out, error = checked(clone)
@@ -241,6 +250,7 @@ def another_kit(clone: Clone) -> None:
 def what_was_built_here(clone: Clone) -> None:
     """dist/ of this repository is made of its sources, and has the programs that were built
     here."""
+    want_rt()
     clone.want('dist', ended(['dev/dist', '--check'], TOP, limit=None).text()[::2], (0, ''))
 
 

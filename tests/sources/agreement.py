@@ -79,12 +79,12 @@ def here(line: str, tools: Tools) -> str:
 
 def commands_of_the_pages(tools: Tools) -> None:
     """Each command of a console block is run, in order, and prints the lines below it. The status
-    follows from what is printed."""
+    follows from what is printed. Each line is written at once, as on a terminal."""
     commands = {page: console_of(text) for page, text in TEXTS.items() if '```console' in text}
     tools.want('pages', sorted(commands), ['README.md', 'examples/README.md', 'tools/README.md'])
     for command, wanted in [command for found in commands.values() for command in found]:
         _, out, _ = ended(['sh', '-c', here(command, tools)], TOP, stderr=subprocess.STDOUT,
-                          limit=None).text()
+                          env={**os.environ, 'PYTHONUNBUFFERED': '1'}, limit=None).text()
         printed = out.splitlines()
         tools.want(command, 'as written' if is_printed(wanted, printed) else printed, 'as written')
 
