@@ -3,7 +3,8 @@
 
     python3 dev/edits.py [CRATE ..]
 
-runs at the top of the repository, once the libraries below the crates are built (`rt lib`).
+runs at the top of the repository, once the libraries below the crates are built (`rt lib`). It
+begins with what `rt check` of a crate kept, if that was run.
 
 An edit is one bug, in one function. A check goes on after a function that it refuses, and says of
 each function why it is not proved. Proofs read the contracts of the functions that they call, and
@@ -32,9 +33,6 @@ sys.path.insert(0, str(Path(__file__).resolve().parent))
 from bodies import function_at, function_of_line  # noqa: E402
 import kit  # noqa: E402
 
-# A round begins with a load of the crate, which takes 10 to 20 seconds. Smaller rounds use
-# processors that are idle.
-MOST = 12
 PAIR = re.compile(r'^(file|old|new): ?(.*)$', re.MULTILINE)
 LINE = re.compile(r'^fn (\S+): (.*)$', re.MULTILINE)
 OF_CALLEES = re.compile(r'it (calls|passes the block) .*?, which (is|are) not proved')
@@ -125,7 +123,7 @@ def rounds_of(crate: kit.Crate, edits: list[Path]) -> tuple[list[Round], list[Pa
             continue
         for number, (texts, functions) in enumerate(rounds):
             made = with_edit(texts, edit, crate)
-            if len(functions) < MOST and made and not names & set().union(*functions.values()):
+            if made and not names & set().union(*functions.values()):
                 rounds[number] = Round(made, {**functions, edit: names})
                 break
         else:

@@ -111,10 +111,9 @@ def main() -> int:
         return 2
     count, start = Count(), time.monotonic()
     try_programs_and_tools(count, ON_DIST, *ON_PROGRAMS)
-    print('left out: tests of libraries and must-fail edits, which need rt')
     say(f'the tests took {(time.monotonic() - start) / 60:.0f} minutes')
-    print('Nothing was proved: these are the programs of dist/. ./test proves them anew, with rt, '
-          'the Rattle toolchain (CONTRIBUTING.md).')
+    print('Nothing was proved: the programs are those of dist/. ./test proves and builds them, and '
+          'tests the libraries, with rt, the Rattle toolchain (CONTRIBUTING.md).')
     print(count.told())
     return count.status
 

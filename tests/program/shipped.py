@@ -120,6 +120,19 @@ def recordings_through_the_launchers(clone: Clone) -> None:
         clone.want(' '.join(words), found[2].count('is a recording'), 0)
 
 
+def tests_without_the_toolchain(clone: Clone) -> None:
+    """./test names the tests that need no toolchain. They run on the programs of dist/, unless
+    these are made of other sources."""
+    clone.want('./test', clone.command('./test'), (
+        2, '', 'test: rt, the Rattle toolchain, is not on the PATH: ./test --shipped runs the tests '
+        'that need none\n'))
+    status, out, _ = clone.command('python3', 'tests/program/run.py', '--only', 'show: a NULL')
+    clone.want('a test', (status, out), (0, '1 passed, 0 failed\n'))
+    clone.change('crates/xdr3/src/lib.rt')
+    clone.want('other sources', clone.command('./test', '--shipped'), (
+        2, '', 'dev/dist: dist/ is not made of these sources: run dev/dist\n'))
+
+
 def a_changed_source(clone: Clone) -> None:
     """The program that comes with the repository does not stand for other sources: it is proved and
     built, which takes `rt`. Without that one line says so, and the status is none that an answer
@@ -269,6 +282,7 @@ def a_release(clone: Clone) -> None:
 
 TESTS: tuple[Callable[[Clone], None], ...] = (
     the_first_answer, tools_at_once, help_through_the_launchers, recordings_through_the_launchers,
+    tests_without_the_toolchain,
     a_changed_source, a_source_that_plays_no_part, asked_to_prove, a_damaged_program,
     a_clone_that_cannot_be_written, a_stale_folder, another_kit, what_was_built_here, a_release)
 
