@@ -124,8 +124,8 @@ def tests_without_the_toolchain(clone: Clone) -> None:
     """./test names the tests that need no toolchain. They run on the programs of dist/, unless
     these are made of other sources."""
     clone.want('./test', clone.command('./test'), (
-        2, '', 'test: rt, the Rattle toolchain, is not on the PATH: ./test --shipped runs the tests '
-        'that need none\n'))
+        2, '', 'test: rt, the Rattle toolchain, is not on the PATH: ./test --shipped runs the '
+        'tests that need none\n'))
     status, out, _ = clone.command('python3', 'tests/program/run.py', '--only', 'show: a NULL')
     clone.want('a test', (status, out), (0, '1 passed, 0 failed\n'))
     clone.change('crates/xdr3/src/lib.rt')
