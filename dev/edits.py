@@ -3,7 +3,8 @@
 
     python3 dev/edits.py [CRATE ..]
 
-runs at the top of the repository, once the libraries below the crates are built (`rt lib`).
+runs at the top of the repository, once the libraries below the crates are built (`rt lib`). It
+begins with what `rt check` of a crate kept, if that was run.
 
 An edit is one bug, in one function. A check goes on after a function that it refuses, and says of
 each function why it is not proved. Proofs read the contracts of the functions that they call, and
@@ -25,7 +26,6 @@ import re
 import sys
 from collections import Counter
 from collections.abc import Callable, Iterator
-from concurrent.futures import ThreadPoolExecutor
 from pathlib import Path
 from typing import NamedTuple
 
@@ -33,9 +33,6 @@ sys.path.insert(0, str(Path(__file__).resolve().parent))
 from bodies import function_at, function_of_line  # noqa: E402
 import kit  # noqa: E402
 
-# A round begins with a load of the crate, which takes 10 to 20 seconds. Smaller rounds use
-# processors that are idle.
-MOST = 12
 PAIR = re.compile(r'^(file|old|new): ?(.*)$', re.MULTILINE)
 LINE = re.compile(r'^fn (\S+): (.*)$', re.MULTILINE)
 OF_CALLEES = re.compile(r'it (calls|passes the block) .*?, which (is|are) not proved')
@@ -126,7 +123,7 @@ def rounds_of(crate: kit.Crate, edits: list[Path]) -> tuple[list[Round], list[Pa
             continue
         for number, (texts, functions) in enumerate(rounds):
             made = with_edit(texts, edit, crate)
-            if len(functions) < MOST and made and not names & set().union(*functions.values()):
+            if made and not names & set().union(*functions.values()):
                 rounds[number] = Round(made, {**functions, edit: names})
                 break
         else:
@@ -166,12 +163,12 @@ def kind_of(goal: str) -> str:
                  if any(words in goal for words in several)), OF_CODE)
 
 
-def tried(crate: kit.Crate, one: Round) -> dict[Path, Outcome]:
+def tried(crate: kit.Crate, one: Round, kept: str) -> dict[Path, Outcome]:
     """Tries a round, and alone what it does not refuse. If one edit is no code, the check says
     nothing of any function."""
-    said = kit.check(crate, one.texts, sorted(set().union(*one.functions.values())))
+    said = kit.check(crate, one.texts, sorted(set().union(*one.functions.values())), kept)
     if len(one.functions) > 1 and not LINE.search(said):
-        return tried_by_halves(crate, list(one.functions))
+        return tried_by_halves(crate, list(one.functions), kept)
     goals, found = goals_in(said, lambda path: one.texts.get(path)
                             or (Path(crate.folder) / path).read_text()), {}
     for edit, names in one.functions.items():
@@ -185,13 +182,13 @@ def tried(crate: kit.Crate, one: Round) -> dict[Path, Outcome]:
     return found
 
 
-def tried_by_halves(crate: kit.Crate, edits: list[Path]) -> dict[Path, Outcome]:
+def tried_by_halves(crate: kit.Crate, edits: list[Path], kept: str) -> dict[Path, Outcome]:
     """Tries the two halves of a round, so that an edit that is no code is soon alone. A try alone
     takes minutes in some crates."""
     found = {}
     for half in (edits[:len(edits) // 2], edits[len(edits) // 2:]):
         for one in rounds_of(crate, half)[0]:
-            found.update(tried(crate, one))
+            found.update(tried(crate, one, kept))
     return found
 
 
@@ -219,15 +216,23 @@ class Tries:
         """Returns how many checks there are."""
         return len(self.rounds) + len(self.alone)
 
-    def outcomes(self, number: int) -> dict[Path, Outcome]:
-        """Returns what became of the edits of one check, from an earlier run if it is kept."""
+    def outcomes(self, begin: Callable[[], None]) -> Iterator[dict[Path, Outcome]]:
+        """Yields what became of the edits of each check, and calls `begin` before it. A check goes
+        on with what `rt check` and those before it proved."""
+        with kit.kept_of(self.crate) as kept:
+            for number in range(len(self)):
+                begin()
+                yield self.outcomes_of(number, kept)
+
+    def outcomes_of(self, number: int, kept: str) -> dict[Path, Outcome]:
+        """Returns what became of the edits of one check, from an earlier run if it is known."""
         edits = list(self.rounds[number].functions) if number < len(self.rounds) else [
             self.alone[number - len(self.rounds)]]
         place = self.place(edits)
         if place.exists() and not self.is_anew:
-            kept = json.loads(place.read_text())
-            return {edit: Outcome(*kept[edit.name]) for edit in edits}
-        found = tried(self.crate, self.rounds[number]) if number < len(self.rounds) else {
+            known = json.loads(place.read_text())
+            return {edit: Outcome(*known[edit.name]) for edit in edits}
+        found = tried(self.crate, self.rounds[number], kept) if number < len(self.rounds) else {
             edit: tried_alone(self.crate, edit) for edit in edits}
         if all(outcome.is_tried for outcome in found.values()):
             keep(place, {edit.name: outcome for edit, outcome in found.items()})
@@ -288,10 +293,8 @@ def main(names: list[str]) -> int:
     for crate in crates:
         found, others = kit.edits(crate)
         bad += told_of_others(crate, others)
-        tries = Tries(crate, found, is_anew=True)
-        with ThreadPoolExecutor(kit.processors()) as pool:
-            for outcomes in pool.map(tries.outcomes, range(len(tries))):
-                kinds += told(crate, outcomes)
+        for outcomes in Tries(crate, found, is_anew=True).outcomes(lambda: None):
+            kinds += told(crate, outcomes)
     print(told_of_kinds(kinds))
     failed = failures(kinds)
     print(f'{kinds.total() - failed} passed, {bad + failed} failed')

@@ -3,36 +3,40 @@
 
     python3 dev/gate.py [--anew] [--alone]
 
-Three things go on side by side:
+Four things go on side by side:
 
 - `rt ci` over a copy of the crates that has no edits and not the crate of tests;
 - the tests of that crate by `rt try --test`, which builds it with checks and proves nothing;
-- the edits of each crate (dev/edits.py), once the libraries below it are proved.
+- the edits of each crate (dev/edits.py), once the libraries below it are proved;
+- the tests of the programs and of the tools, on the programs of dist/ if these sources are theirs,
+  with a higher priority than all else. So a test that fails is seen in minutes.
 
-Once the programs are proved and the edits are tried, the programs are compared with those in dist/,
-and the tests run on them, side by side. No test has to wait for a processor that an edit takes.
+In the end the programs that were proved and built are compared with those of dist/. If dist/ is of
+other sources, the tests run then.
 
 --anew takes nothing from earlier runs. --alone has `rt ci` try the tree as it is: it proves the
 crate of tests as well, and tries each edit in a check of its own. That takes about twice as long.
-The last line is 'N passed, M failed'.
+The last line is 'N passed, M failed', and ', K skipped' may follow.
 """
 import argparse
-import contextlib
 import os
 import re
 import shutil
-import subprocess
 import sys
 import tempfile
 import threading
 import time
 from collections import Counter
-from collections.abc import Callable, Iterator
+from collections.abc import Callable
 from concurrent.futures import Future, ThreadPoolExecutor
 from pathlib import Path
 
 import edits
 import kit
+
+sys.path.insert(0, str(Path(__file__).resolve().parent.parent))
+from tests import everything  # noqa: E402
+from tests.everything import COUNTS, lines_of, say, timed  # noqa: E402
 
 TOP = Path(__file__).resolve().parent.parent
 # The crate of tests, whose proofs say only that a test is safe and ends. memory_tests is proved,
@@ -40,31 +44,17 @@ TOP = Path(__file__).resolve().parent.parent
 TRIED = 'tests'
 # What the tests of tests/ run, by crates.
 BUILT = {'nfs3canon': 'nfs3canon', 'nfs3mask': 'nfs3mask', 'memory_tests': 'memory_tests_tests'}
-# The scripts of tests/ by their rooms, in the order in which they begin.
-TESTS = {
-    'program': ('shipped', 'run', 'captures', 'fuzz', 'large', 'instructions'),
-    'faults': ('failures', 'memory', 'hostile', 'exchanged'),
-    'sources': ('must_fail', 'agreement'),
-}
-TESTS_OF_THE_TOOLS = ('-m', 'tools.tests')
 PROVED = re.compile(r'^rt: (\w+) (?:proved$|is kept: )')
-COUNTS = re.compile(r'^(?:rt: )?(\d+) passed, (\d+) failed')
 TRIED_COUNTS = re.compile(r'^test result: .*?(\d+) passed; (\d+) failed', re.MULTILINE)
 SECONDS = 1.0  # how often a task that waits for memory looks again
 
 
-class Count:
-    """How much passed and failed so far, and which kinds of goals refused the edits. It is added to
-    from several threads."""
+class Count(everything.Count):
+    """How much passed and failed so far, and which kinds of goals refused the edits."""
 
     def __init__(self) -> None:
-        self.passed = self.failed = 0
+        super().__init__()
         self.kinds = Counter[str]()
-        self.lock = threading.Lock()
-
-    def add(self, passed: int, failed: int) -> None:
-        with self.lock:
-            self.passed, self.failed = self.passed + passed, self.failed + failed
 
     def add_edits(self, kinds: Counter[str]) -> None:
         """Adds edits by the kinds of goals that refused them. Those that were not refused, or by no
@@ -121,18 +111,6 @@ class Memory:
             time.sleep(SECONDS)
 
 
-def say(text: str) -> None:
-    print(f'{time.strftime("%H:%M:%S")} {text}', flush=True)
-
-
-@contextlib.contextmanager
-def timed(name: str) -> Iterator[None]:
-    """Says how long a part of the gate took."""
-    start = time.monotonic()
-    yield
-    say(f'{name} took {(time.monotonic() - start) / 60:.1f} minutes')
-
-
 def not_copied(folder: str, names: list[str]) -> set[str]:
     """Returns which names of a folder are not copied. A folder below a crate may have the name of
     the crate of tests."""
@@ -151,21 +129,12 @@ def copied(room: Path) -> Path:
     return top
 
 
-def lines_of(words: list[str], folder: Path, environment: dict[str, str]) -> Iterator[str]:
-    """Runs a command, and yields the lines of both its outputs."""
-    with subprocess.Popen(words, cwd=folder, env=environment, stdin=subprocess.DEVNULL,
-                          stdout=subprocess.PIPE,
-                          stderr=subprocess.STDOUT, text=True, errors='replace') as process:
-        assert process.stdout
-        yield from process.stdout
-
-
 def counted(words: list[str], folder: Path, count: Count,
             look: Callable[[str], None] = lambda line: None) -> bool:
     """Runs a command whose last line counts, prints its lines, and adds the count. Returns whether
     all passed."""
     told = None
-    for line in lines_of(words, folder, dict(os.environ)):
+    for line in lines_of(words, folder):
         print(line, end='', flush=True)
         look(line)
         told = COUNTS.match(line)
@@ -177,8 +146,7 @@ def counted(words: list[str], folder: Path, count: Count,
 def tries_of_tests(count: Count, memory: Memory) -> None:
     """Runs the tests of the crate of tests, with checks and no proof."""
     memory.wait()
-    said = ''.join(lines_of(['rt', 'try', TRIED, '--test'], TOP / 'crates' / TRIED,
-                            dict(os.environ)))
+    said = ''.join(lines_of(['rt', 'try', TRIED, '--test'], TOP / 'crates' / TRIED))
     found = TRIED_COUNTS.search(said)
     passed, failed = (int(found[1]), int(found[2])) if found else (0, 1)
     if failed or not passed:
@@ -187,30 +155,27 @@ def tries_of_tests(count: Count, memory: Memory) -> None:
     count.add(passed, failed or int(not passed))
 
 
-def tries_of_edits(tries: edits.Tries, number: int, board: Board, count: Count,
-                   memory: Memory) -> None:
-    """Tries edits of a crate that share a check, once the libraries below are proved."""
+def tries_of_edits(tries: edits.Tries, board: Board, count: Count, memory: Memory) -> None:
+    """Tries the edits of a crate, once the libraries below are proved."""
     crate = tries.crate
     if not board.has({below.name for below in crate.below()}):
         print(f'{crate.name}: its edits are not tried, since a library below it is not proved',
               flush=True)
         count.add(0, 1)
         return
-    memory.wait()
-    count.add_edits(edits.told(crate, tries.outcomes(number)))
+    for outcomes in tries.outcomes(memory.wait):
+        count.add_edits(edits.told(crate, outcomes))
 
 
-def checks_of_edits(top: Path, is_anew: bool, count: Count) -> list[tuple[edits.Tries, int]]:
-    """Returns each check of edits that is to be made over the libraries of a copy, lowest crates
-    first."""
+def tries_by_crates(top: Path, is_anew: bool, count: Count) -> list[edits.Tries]:
+    """Returns the tries of each crate's edits over the libraries of a copy, lowest crates first."""
     copies = {crate.name: crate for crate in kit.crates(top)}
     found = []
     for crate in kit.crates(TOP):
         own, others = kit.edits(crate)
         count.add(0, edits.told_of_others(crate, others))
         if own:
-            tries = edits.Tries(copies[crate.name], own, is_anew)
-            found += [(tries, number) for number in range(len(tries))]
+            found.append(edits.Tries(copies[crate.name], own, is_anew))
     return found
 
 
@@ -223,7 +188,8 @@ def proved(top: Path, is_anew: bool, board: Board, count: Count) -> bool:
             board.note(found[1])
             say(f'{found[1]} is proved')
     try:
-        return counted(['rt', 'ci', *(['--anew'] if is_anew else [])], top, count, look)
+        return counted(['nice', '-n', '5', 'rt', 'ci', *(['--anew'] if is_anew else [])], top,
+                       count, look)
     finally:
         board.end()
 
@@ -239,52 +205,41 @@ def taken_back(top: Path) -> None:
         beside.replace(out / name)
 
 
-def tests_of(words: tuple[str, ...], count: Count) -> bool:
-    """Runs tests, and prints what they print once they have ended. Returns whether all passed."""
-    said = list(lines_of([sys.executable, *words], TOP, dict(os.environ)))
-    told = next(filter(None, map(COUNTS.match, reversed(said))), None)
-    passed, failed = (int(told[1]), int(told[2])) if told else (0, 1)
-    print(f'{" ".join(words)}:', ''.join(said), sep='\n', end='', flush=True)
-    count.add(passed, failed)
-    return failed == 0
-
-
-def tested(count: Count) -> bool:
-    """Runs the tests of the built programs side by side, and then those of the tools, which do so
-    themselves."""
-    scripts = [(f'tests/{room}/{name}.py',) for room, names in TESTS.items() for name in names]
-    with timed('the tests of the programs'), ThreadPoolExecutor(kit.processors()) as pool:
-        are_well = list(pool.map(lambda words: tests_of(words, count), scripts))
-    with timed('the tests of the tools'):
-        return all([*are_well, tests_of(TESTS_OF_THE_TOOLS, count)])
-
-
-def together(is_anew: bool, count: Count) -> bool:
-    """Proves, and beside it tries the edits and the crate of tests. Then tests the programs.
-    Returns whether all was done."""
-    board, memory = Board(), Memory()
+def together(is_anew: bool, count: Count) -> None:
+    """Proves, and beside it tries the edits and the crate of tests, and tests the programs."""
+    board, memory, is_beside = Board(), Memory(), not everything.why_not_shipped()
     with tempfile.TemporaryDirectory(prefix='nfs3canon-gate') as room, \
+            ThreadPoolExecutor(1) as beside, \
             ThreadPoolExecutor(kit.processors(), initializer=os.nice, initargs=(10,)) as pool:
         top = copied(Path(room))
+        tested = beside.submit(test_programs, count) if is_beside else None
         tasks: list[Future[None]] = [pool.submit(tries_of_tests, count, memory)]
-        tasks += [pool.submit(tries_of_edits, tries, number, board, count, memory)
-                  for tries, number in checks_of_edits(top, is_anew, count)]
+        tasks += [pool.submit(tries_of_edits, tries, board, count, memory)
+                  for tries in tries_by_crates(top, is_anew, count)]
         with timed('the proofs'):
             is_well = proved(top, is_anew, board, count)
-        with timed('the edits that were left then'):
-            for task in tasks:
+        with timed('the edits and tests that were left then'):
+            for task in [*tasks, *filter(None, [tested])]:
                 task.result()
         say(edits.told_of_kinds(count.kinds))
         if is_well:
             taken_back(top)
-            is_well = tested(count)
-    return is_well
+            if not tested:
+                test_programs(count)
+            everything.try_scripts(count, everything.ON_DIST, everything.ON_BUILT)
 
 
-def alone(is_anew: bool, count: Count) -> bool:
-    """Has `rt ci` try the tree as it is, and tests the programs. Returns whether all was done."""
+def test_programs(count: Count) -> None:
+    """Runs the tests of the programs and of the tools, and those of this folder."""
+    everything.try_programs_and_tools(count, *everything.ON_PROGRAMS, everything.WITH_RT)
+
+
+def alone(is_anew: bool, count: Count) -> None:
+    """Has `rt ci` try the tree as it is, and tests the programs."""
     os.environ.setdefault('RT_JOBS', str(kit.processors()))
-    return counted(['rt', 'ci', *(['--anew'] if is_anew else [])], TOP, count) and tested(count)
+    if counted(['rt', 'ci', *(['--anew'] if is_anew else [])], TOP, count):
+        test_programs(count)
+        everything.try_scripts(count, everything.ON_DIST, everything.ON_BUILT)
 
 
 def main() -> int:
@@ -297,8 +252,8 @@ def main() -> int:
     count, start = Count(), time.monotonic()
     (alone if asked.alone else together)(asked.anew, count)
     say(f'the gate took {(time.monotonic() - start) / 60:.0f} minutes')
-    print(f'{count.passed} passed, {count.failed} failed')
-    return int(count.failed > 0 or not count.passed)
+    print(count.told())
+    return count.status
 
 
 if __name__ == '__main__':

@@ -7,11 +7,13 @@ import shutil
 import signal
 import subprocess
 import sys
+import tempfile
 from collections.abc import Mapping, Sequence
 from pathlib import Path
 from typing import Any, Protocol
 
 BYTES_OF_A_CHECK = 3_500_000_000  # the memory that a check of some functions takes at most
+KEPT = 'out/incremental'  # what a check of a crate keeps
 
 
 class Crate(Protocol):
@@ -66,13 +68,23 @@ def texts_with(edit: Path, crate: Crate) -> tuple[dict[str, str], str]:
     return texts or {}, why or ''
 
 
-def check(crate: Crate, texts: Mapping[str, str], functions: Sequence[str]) -> str:
-    """Checks some functions of a copy of a crate that has these texts. Returns what the check
-    printed."""
-    only = [word for name in functions for word in ('--only', name)]
-    ran = rt.checked(crate, texts, ['--jobs', '1', *only], None)
+def kept_of(crate: Crate) -> tempfile.TemporaryDirectory[str]:
+    """Returns a folder with what `rt check` of the crate kept, if it did, for checks of copies of
+    the crate. They put files in the place of others, and write into none."""
+    kept = Path(crate.folder) / KEPT
+    room = tempfile.TemporaryDirectory(dir=kept.parent if kept.is_dir() else None)
+    if kept.is_dir():
+        shutil.copytree(kept, room.name, copy_function=os.link, dirs_exist_ok=True)
+    return room
+
+
+def check(crate: Crate, texts: Mapping[str, str], functions: Sequence[str], kept: str) -> str:
+    """Checks some functions of a copy of a crate that has these texts, over what a folder keeps and
+    keeping there what is proved. Returns what the check printed."""
+    flags = ['--jobs', '1', *[word for name in functions for word in ('--only', name)]]
+    ran = rt.checked(crate, texts, flags, kept)
     if ran.returncode == -signal.SIGKILL:  # most likely memory was short
-        ran = rt.checked(crate, texts, ['--jobs', '1', *only], None)
+        ran = rt.checked(crate, texts, flags, kept)
     said: str = ran.stdout
     return said
 

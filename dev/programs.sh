@@ -45,6 +45,15 @@ unpack() {
   xz -dc "$top/dist/$1.xz" >"$2" && is_whole "$2" "$1"
 }
 
+# Unpacks a program of dist/ beside a path, and gives it that name once it is whole.
+put_shipped() {
+  local beside=$2.$$
+  mkdir -p "$(dirname "$2")" || return 1
+  if unpack "$1" "$beside" && chmod 755 "$beside" && mv "$beside" "$2"; then return; fi
+  rm -f "$beside"
+  return 1
+}
+
 # Whether a file is a program of dist/, by its checksum.
 is_whole() {
   [ -f "$1" ] && [ "$(sha256sum <"$1" | cut -d ' ' -f 1)" = "$(shipped_word "$2")" ]

@@ -237,7 +237,7 @@ TESTS = [streams_that_become_the_output, streams_that_become_standard_output,
 if __name__ == '__main__':
     why = tracing.why_not()
     if why:
-        print('skipped, since ' + why)
+        print('left out, since ' + why)
         print('0 passed, 0 failed')
     else:
         try_tests(__doc__, Place, TESTS, concurrent.futures.ProcessPoolExecutor)

@@ -476,7 +476,7 @@ def tried(program: str, test: Callable[..., None], *given: object) -> list[str]:
 def main() -> None:
     words, why = words_of(__doc__), tracing.why_not()
     if why:
-        print('skipped, since ' + why)
+        print('left out, since ' + why)
         print('0 passed, 0 failed')
         return
     chosen: list[Try] = [(name, tried, *rest) for name, *rest in tries()]

@@ -47,7 +47,7 @@ def names_of(program: str) -> list[str]:
 def main() -> None:
     words, why = words_of(__doc__, TESTS), tracing.why_not()
     if why:
-        print('skipped, since ' + why)
+        print('left out, since ' + why)
         print('0 passed, 0 failed')
         return
     tries: list[Try] = [(name, without_each_growth, name) for name in names_of(words.program)]

@@ -27,7 +27,7 @@ from examples.messages import chunk, fragment, version_1, word
 from tests.program.masking import Masker, Renamer, masked_bodies
 from tests.shared.classes import usual_ways
 from tests.shared.containers import Container
-from tests.shared.running import BUILT, Runs
+from tests.shared.running import Runs, built
 from tests.shared.traffic import Names, Traffic, in_pieces, in_version_2, streams_of
 from tools.nfs3tools.comparison.values.classes import Mask, Way
 
@@ -315,7 +315,7 @@ def broken_by(program: str, seed: int) -> str | None:
 def main() -> None:
     parser = argparse.ArgumentParser(description=__doc__,
                                      formatter_class=argparse.RawDescriptionHelpFormatter)
-    parser.add_argument('program', nargs='?', default=str(BUILT))
+    parser.add_argument('program', nargs='?', default=str(built()))
     parser.add_argument('--seed', type=int, default=1813)
     parser.add_argument('--count', type=int, default=4_000)
     chosen = parser.parse_args()

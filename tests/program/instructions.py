@@ -99,7 +99,7 @@ def is_within(program: str, folder: pathlib.Path, label: str) -> list[str]:
 def main() -> None:
     words = words_of(__doc__)
     if not shutil.which('valgrind'):
-        print('skipped, since valgrind is not installed')
+        print('left out, since valgrind is not installed')
         print('0 passed, 0 failed')
         return
     with tempfile.TemporaryDirectory() as name:

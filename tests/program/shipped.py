@@ -15,6 +15,7 @@ import sys
 import tarfile
 import tempfile
 import time
+import unittest
 from collections.abc import Callable
 
 sys.path.insert(0, str(pathlib.Path(__file__).resolve().parents[2]))
@@ -119,6 +120,19 @@ def recordings_through_the_launchers(clone: Clone) -> None:
         clone.want(' '.join(words), found[2].count('is a recording'), 0)
 
 
+def tests_without_the_toolchain(clone: Clone) -> None:
+    """./test names the tests that need no toolchain. They run on the programs of dist/, unless
+    these are made of other sources."""
+    clone.want('./test', clone.command('./test'), (
+        2, '', 'test: rt, the Rattle toolchain, is not on the PATH: ./test --shipped runs the '
+        'tests that need none\n'))
+    status, out, _ = clone.command('python3', 'tests/program/run.py', '--only', 'show: a NULL')
+    clone.want('a test', (status, out), (0, '1 passed, 0 failed\n'))
+    clone.change('crates/xdr3/src/lib.rt')
+    clone.want('other sources', clone.command('./test', '--shipped'), (
+        2, '', 'dev/dist: dist/ is not made of these sources: run dev/dist\n'))
+
+
 def a_changed_source(clone: Clone) -> None:
     """The program that comes with the repository does not stand for other sources: it is proved and
     built, which takes `rt`. Without that one line says so, and the status is none that an answer
@@ -206,6 +220,12 @@ def a_clone_that_cannot_be_written(clone: Clone) -> None:
                (3, '', True, 1))
 
 
+def want_rt() -> None:
+    """Leaves a test out without the toolchain."""
+    if not shutil.which('rt'):
+        raise unittest.SkipTest('rt is not there')
+
+
 def checked(clone: Clone) -> Answer:
     """Returns what `dev/dist --check` says in the clone."""
     return ended(['dev/dist', '--check'], clone.folder).text()
@@ -214,6 +234,7 @@ def checked(clone: Clone) -> Answer:
 def a_stale_folder(clone: Clone) -> None:
     """dev/dist --check refuses a folder that was made of other sources, a damaged one, and none. It
     is made anew, since programs that another kit made are not compared."""
+    want_rt()
     for name in PROGRAMS:
         os.makedirs(clone.path(f'crates/{name}/out'))
         shutil.copy2(TOP / f'crates/{name}/out/{name}', clone.path(f'crates/{name}/out/{name}'))
@@ -232,6 +253,7 @@ def a_stale_folder(clone: Clone) -> None:
 def another_kit(clone: Clone) -> None:
     """Programs that another kit made may differ in their bytes, so they are not compared, and that
     is said."""
+    want_rt()
     made = (clone.read('dist/MADE-OF') or b'').decode()
     clone.write('dist/MADE-OF', re.sub('^kit .*', 'kit another', made, flags=re.M).encode())
     status, out, error = checked(clone)
@@ -241,6 +263,7 @@ def another_kit(clone: Clone) -> None:
 def what_was_built_here(clone: Clone) -> None:
     """dist/ of this repository is made of its sources, and has the programs that were built
     here."""
+    want_rt()
     clone.want('dist', ended(['dev/dist', '--check'], TOP, limit=None).text()[::2], (0, ''))
 
 
@@ -259,6 +282,7 @@ def a_release(clone: Clone) -> None:
 
 TESTS: tuple[Callable[[Clone], None], ...] = (
     the_first_answer, tools_at_once, help_through_the_launchers, recordings_through_the_launchers,
+    tests_without_the_toolchain,
     a_changed_source, a_source_that_plays_no_part, asked_to_prove, a_damaged_program,
     a_clone_that_cannot_be_written, a_stale_folder, another_kit, what_was_built_here, a_release)
 

@@ -16,7 +16,8 @@ import unittest
 from collections.abc import Callable, Iterable, Mapping, Sequence
 from typing import IO, NamedTuple, NoReturn, TypeVar, TypedDict, Unpack
 
-BUILT = pathlib.Path(__file__).resolve().parents[2] / 'crates/nfs3canon/out/nfs3canon'
+TOP = pathlib.Path(__file__).resolve().parents[2]
+BUILT = TOP / 'crates/nfs3canon/out/nfs3canon'
 LIMIT = 60  # the seconds that a run may take if nothing else is said
 
 Answer = tuple[int, str, str]  # the status and both outputs of a run
@@ -170,6 +171,14 @@ class Words(argparse.Namespace):
     v: bool
 
 
+def built() -> pathlib.Path:
+    """The program that was built here, or else that of dist/, which is put there if it is made of
+    these sources."""
+    if not BUILT.exists():
+        subprocess.run([TOP / 'dev/dist', '--take'], capture_output=True, check=False)
+    return BUILT
+
+
 def program_named(name: str, program: str | pathlib.Path = BUILT) -> str:
     """The path of a program of this repository, if `program` is that of nfs3canon: what is built
     for its own crate, or beside it."""
@@ -185,11 +194,11 @@ def command_of(program: str, words: Sequence[str]) -> tuple[str, Sequence[str]]:
         program, words)
 
 
-def words_of(text: str | None, built: str | pathlib.Path = BUILT) -> Words:
+def words_of(text: str | None, program: str | pathlib.Path | None = None) -> Words:
     """PROGRAM, as a path, or the one built, `--only` and `-v`; the text is the help."""
     parser = argparse.ArgumentParser(description=text,
                                      formatter_class=argparse.RawDescriptionHelpFormatter)
-    parser.add_argument('program', nargs='?', default=str(built))
+    parser.add_argument('program', nargs='?', default=str(program or built()))
     parser.add_argument('--only', default='')
     parser.add_argument('-v', action='store_true')
     words = parser.parse_args(namespace=Words())
@@ -229,7 +238,7 @@ def one(program: str, it: Try) -> list[str] | None:
     try:
         return it[1](program, *it[2:])
     except unittest.SkipTest as why:
-        print(f'{it[0]}: left out: {why}', flush=True)
+        print(f'left out: {it[0]}: {why}', flush=True)
         return None
 
 

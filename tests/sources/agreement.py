@@ -79,12 +79,12 @@ def here(line: str, tools: Tools) -> str:
 
 def commands_of_the_pages(tools: Tools) -> None:
     """Each command of a console block is run, in order, and prints the lines below it. The status
-    follows from what is printed."""
+    follows from what is printed. Each line is written at once, as on a terminal."""
     commands = {page: console_of(text) for page, text in TEXTS.items() if '```console' in text}
     tools.want('pages', sorted(commands), ['README.md', 'examples/README.md', 'tools/README.md'])
     for command, wanted in [command for found in commands.values() for command in found]:
         _, out, _ = ended(['sh', '-c', here(command, tools)], TOP, stderr=subprocess.STDOUT,
-                          limit=None).text()
+                          env={**os.environ, 'PYTHONUNBUFFERED': '1'}, limit=None).text()
         printed = out.splitlines()
         tools.want(command, 'as written' if is_printed(wanted, printed) else printed, 'as written')
 
@@ -409,15 +409,6 @@ def what_is_not_proved(tools: Tools) -> None:
         tools.want(row, row[0].lower() + row[1:].strip() in told, True)
 
 
-def bugs_are_counted(tools: Tools) -> None:
-    """The page of each crate has the number of its must-fail edits."""
-    counts = {path.parent.name: len(list(path.glob('*.edit')))
-              for path in (TOP / 'crates').glob('*/must-fail')}
-    found = {crate: re.findall(r'must refuse the (\d+) bugs', text)
-             for crate, text in promises().items()}
-    tools.want('bugs', found, {crate: [str(count)] for crate, count in sorted(counts.items())})
-
-
 def clauses_of_each_function(tools: Tools) -> None:
     """dev/api gives a function its own clauses: those before its body, or before the semicolon that
     no bracket encloses."""
@@ -465,7 +456,7 @@ TESTS = [commands_of_the_pages, command_lines_of_the_pages, clause_on_the_page,
          examples_are_made_alike, pages_agree, pages_of_the_tools, what_is_believed,
          rooms_stand_apart, rooms_of_the_tools, names_of_the_tools, lines_of_the_tools,
          pages_are_plain, tables_are_whole, names_lead_somewhere, trees_are_of_the_code,
-         what_is_not_proved, bugs_are_counted, clauses_of_each_function, pages_of_the_crates,
+         what_is_not_proved, clauses_of_each_function, pages_of_the_crates,
          completions_of_the_tools, classes_of_the_mask]
 
 

@@ -1,5 +1,6 @@
 """Tests that are functions. Each is called with the runs of a new folder, and notes there what is
-wrong. The program is the one built, or the one that the variable NFS3CANON names.
+wrong. The program is the one built, else that of dist/, or the one that the variable NFS3CANON
+names.
 """
 import concurrent.futures
 import functools
@@ -12,9 +13,9 @@ import unittest
 from collections.abc import Callable
 from typing import Any
 
-from tests.shared.running import BUILT, Runs, tried
+from tests.shared.running import Runs, built, tried
 
-PROGRAM = os.environ.get('NFS3CANON', str(BUILT))
+PROGRAM = os.environ.get('NFS3CANON') or str(built())
 Test = Callable[[Any], None]  # of runs, of its own class
 
 

@@ -1,10 +1,9 @@
 -- Small captures are checked by computing.
-use Rattle.std.proofs.Common.{◌≡◌, ◌≢◌, ℕ, ◌+◌, Bool, true, false, ◌&&◌, List, [], ◌∷◌, ◌++◌, length, take, refl, arith, nat_lt, ltb-true}
-use Rattle.canon3.proofs.Common.{nat_eq, slice_get, list_any, Decides-eqb, Word, Entry, Begin, Call, Turn, Reply, Close, End, Place, handles, verifiers, Member, here, there, IsHandle, IsVerifier, canonical, Same, Parting, IsPlaceOf}
+use Rattle.std.proofs.Common.{◌≡◌, ◌≢◌, ℕ, ◌+◌, Bool, true, false, ◌&&◌, List, [], ◌∷◌, ◌++◌, length, refl, arith, nat_lt, ltb-true}
+use Rattle.canon3.proofs.Common.{nat_eq, list_any, Decides-eqb, Word, Entry, Begin, Call, Turn, Reply, Close, End, handles, verifiers, Member, here, there, IsHandle, IsVerifier, canonical, Same}
 use Rattle.canon3.proofs.Lemmas.Order.Order.{Stage, Between, InCalls, InReplies, Over, begin, call, turn, reply, close, end, Runs, stays, steps, IsWellFormed}
 use Rattle.canon3.proofs.Lemmas.Numbers.RankLemmas.{member_of_test}
 use Rattle.canon3.proofs.Lemmas.Renaming.Equality.{same_from_canonical}
-use Rattle.canon3.proofs.Lemmas.Order.Prefixes.{parts_from_first_difference}
 use Rattle.canon3.proofs.Lemmas.Canonical.OneFormLemmas.{canonical-same}
 
 and_left : (a b : Bool) → (a && b) ≡ true → a ≡ true
@@ -114,13 +113,6 @@ in_order_by es e =
 pub same_by : (a b : List Entry) → checks a ≡ true → checks b ≡ true → canonical a ≡ canonical b
     → Same a b
 same_by a b p q e = same_from_canonical a b (in_order_by a p) (in_order_by b q) e
-
-pub parted_by : (a b : List Entry) (i : ℕ) (place : Place) → checks a ≡ true → checks b ≡ true
-    → take i (canonical a) ≡ take i (canonical b)
-    → take (i + 1) (canonical a) ≢ take (i + 1) (canonical b)
-    → IsPlaceOf (take i a) (slice_get a i) (slice_get b i) place → Parting a b place
-parted_by a b i place p q e d is =
-    (i, parts_from_first_difference a b (in_order_by a p) (in_order_by b q) i e d, is)
 
 pub not_same_by : (a b : List Entry) → canonical a ≢ canonical b → Same a b → ⊥
 not_same_by a b d s = d (canonical-same s)

@@ -55,7 +55,6 @@ pub use Rattle.canon3.specs.Bytes.{bytes_of, chunk_bytes, entry_bytes, message_b
 pub use Rattle.canon3.specs.Canonical.{canonical, numbered, numbered_item, numbered_message}
 pub use Rattle.canon3.specs.CanonicalStream.{entries_after, items_after, message_after}
 pub use Rattle.capture3.specs.Numbering.{IsLentAfter}
-pub use Rattle.canon3.specs.Examples.{p, q}
 pub use Rattle.canon3.specs.HandleTable.{Gathers, HoldsHandles, same_handle}
 pub use Rattle.canon3.specs.Laws.{AreFirst}
 pub use Rattle.canon3.specs.OneToOne.{IsHandle, IsVerifier, IsXid, Member, Pairs, here, there}
@@ -67,7 +66,6 @@ pub use Rattle.canon3.specs.SinkWrites.{AppendsFront}
 pub use Rattle.canon3.specs.Summary.{AreMessageCounts, IsSummary}
 pub use Rattle.capture3.specs.OpenXids.{xid_of}
 pub use Rattle.canon3.specs.Values.{call_xids, handle_in, handles, handles_in, verifier_in, verifiers, verifiers_in}
-pub use Rattle.canon3.specs.Vectors.{exchange_entries}
 pub use Rattle.canon3.specs.declared.canonical_form.message_writer.MessageWriter.{MessageWriter}
 pub use Rattle.canon3.specs.declared.comparison.verdict.SameError.{SameError}
 pub use Rattle.capture3.specs.declared.reader.progress.Progress.{Progress}

@@ -2,4 +2,3 @@
 pub mod Common
 pub mod Lemmas
 pub mod Checks
-pub mod Vectors

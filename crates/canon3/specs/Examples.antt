@@ -1,42 +1,16 @@
--- Small captures worked by hand: what the definitions say of them, and what other ways of numbering
--- would say.
-use Rattle.std.specs.Prelude.{◌≡◌, ◌≢◌, ℕ, ◌+◌, List, [], ◌∷◌, ◌++◌, length, map, bytes_eq, nat_lt, codes, filter}
+-- A small capture worked by hand, and what other ways of numbering would say of some.
+use Rattle.std.specs.Prelude.{◌≡◌, ◌≢◌, ℕ, ◌+◌, List, [], ◌∷◌, ◌++◌, length, map, bytes_eq, nat_lt, codes, filter, ◌^◌}
 use Rattle.std.specs.List.{flat_map}
-use Rattle.xdr3.specs.Item.{Item, Word, Hyper, Fixed, Opaque, WriteVerf, Var, Text, Handle, word_bytes}
-use Rattle.capture3.specs.declared.fault.Side.TheVariants.{Client, Server}
-use Rattle.capture3.specs.declared.fault.Place.{Place}
-use Rattle.capture3.specs.declared.fault.Place.TheVariants as places
+use Rattle.xdr3.specs.Item.{Item, Word, Hyper, Opaque, Var, Handle, word_bytes}
+use Rattle.xdr3.specs.Examples.{words}
 use Rattle.capture3.specs.Entry.{Entry, Begin, Call, Turn, Reply, Close, End, items_of}
 use Rattle.capture3.specs.OpenXids.{xid_of}
-use Rattle.canon3.specs.Values.{handles, verifiers, call_xids}
 use Rattle.capture3.specs.Rank.{rank, distinct}
+use Rattle.capture3.specs.Typed.{Typed}
+use Rattle.canon3.specs.Values.{handles, verifiers, call_xids}
 use Rattle.canon3.specs.Canonical.{numbered_message, canonical}
 use Rattle.canon3.specs.Bytes.{bytes_of}
 use Rattle.canon3.specs.Renaming.{Same}
-use Rattle.canon3.specs.Parting.{Parting}
-
--- ---- values
-
-abbrev pub aa : List ℕ
-aa = 0xaa ∷ []
-
-abbrev pub bb : List ℕ
-bb = 0xbb ∷ []
-
-abbrev pub cc : List ℕ
-cc = 0xcc ∷ []
-
-abbrev pub handle_number : ℕ → List ℕ
-handle_number n = 0 ∷ 0 ∷ 0 ∷ n ∷ []
-
-abbrev pub verifier_number : ℕ → List ℕ
-verifier_number n = 0 ∷ 0 ∷ 0 ∷ 0 ∷ 0 ∷ 0 ∷ 0 ∷ n ∷ []
-
-abbrev pub long : List ℕ
-long = 1 ∷ 2 ∷ 3 ∷ 4 ∷ 5 ∷ 6 ∷ 7 ∷ 8 ∷ []
-
-abbrev pub zero_verifier : List ℕ
-zero_verifier = 0 ∷ 0 ∷ 0 ∷ 0 ∷ 0 ∷ 0 ∷ 0 ∷ 0 ∷ []
 
 -- ---- entries
 
@@ -60,117 +34,74 @@ success_reply prog proc xid results =
 abbrev pub getattr : ℕ → List ℕ → Entry
 getattr xid handle = call_of 100003 1 xid (Opaque Handle (codes "fh") handle ∷ [])
 
--- MNT and what it gives (RFC 1813, section 5.2.1)
-abbrev pub mount : ℕ → Entry
-mount xid = call_of 100005 1 xid (Opaque Text (codes "dirpath") (codes "/x") ∷ [])
-
-abbrev pub mnt_reply : ℕ → List ℕ → Entry
-mnt_reply xid handle =
-    success_reply 100005 1 xid (Word (codes "status") 0 ∷ Opaque Handle (codes "fh") handle
-    ∷ Word (codes "flavors") 1 ∷ Word (codes "flavor") 1 ∷ [])
-
--- COMMIT and what it gives (RFC 1813, section 3.3.21)
-abbrev pub commit : ℕ → Entry
-commit xid = call_of 100003 21 xid (Opaque Handle (codes "fh") [] ∷ Hyper (codes "offset") 0
-    ∷ Word (codes "count") 0 ∷ [])
-
-abbrev pub committed : ℕ → List ℕ → Entry
-committed xid verifier =
-    success_reply 100003 21 xid (Word (codes "status") 0 ∷ Word (codes "before") 0
-    ∷ Word (codes "attr") 0 ∷ WriteVerf (codes "verf") verifier ∷ [])
-
--- READDIR from the beginning and what it gives of an empty directory (RFC 1813, section 3.3.16)
-abbrev pub list_directory : ℕ → Entry
-list_directory xid =
-    call_of 100003 16 xid (Opaque Handle (codes "fh") [] ∷ Hyper (codes "cookie") 0
-    ∷ Fixed (codes "cookieverf") zero_verifier ∷ Word (codes "count") 512 ∷ [])
-
-abbrev pub readdir_reply : ℕ → List ℕ → Entry
-readdir_reply xid verifier =
-    success_reply 100003 16 xid (Word (codes "status") 0 ∷ Word (codes "attr") 0
-    ∷ Fixed (codes "cookieverf") verifier ∷ Word (codes "entry") 0 ∷ Word (codes "eof") 1 ∷ [])
-
 abbrev pub connection : (calls replies : List Entry) → List Entry
 connection calls replies = (Begin ∷ calls) ++ ((Turn ∷ replies) ++ (Close ∷ []))
 
 abbrev pub one : (calls replies : List Entry) → List Entry
 one calls replies = connection calls replies ++ (End ∷ [])
 
--- two connections with a call each
-abbrev pub two : Entry → Entry → List Entry
-two a b = connection (a ∷ []) [] ++ one (b ∷ []) []
+-- ---- a GETATTR call of a directory, and its reply (RFC 1813, section 3.3.1)
 
-abbrev pub in_client : (connection_number record_number : ℕ) → Place
-in_client connection_number record_number = places.Record connection_number Client record_number 0
+-- The file has just these entries, and its canonical form just these bytes.
+pub record IsWorked (file : List ℕ) (entries : List Entry) (form : List ℕ) : Type 0 where
+  pub typed : Typed file entries
+  pub form_is : bytes_of (canonical entries) ≡ form
 
-abbrev pub in_server : (connection_number record_number : ℕ) → Place
-in_server connection_number record_number = places.Record connection_number Server record_number 0
+-- a body as one chunk of one last fragment (RFC 5531, section 11)
+abbrev pub chunk : List ℕ → List ℕ
+chunk body = words ((4 + length body) ∷ (2 ^ 31 + length body) ∷ []) ++ body
+
+-- a connection, whose streams have these bodies
+abbrev pub streams : (client server : List (List ℕ)) → List ℕ
+streams client server =
+    words (1 ∷ [])
+    ++ (flat_map chunk client ++ (words (0 ∷ []) ++ (flat_map chunk server ++ words (0 ∷ []))))
+
+abbrev pub capture : (connections : List ℕ) → List ℕ
+capture connections = codes "NFS3CAP1" ++ (connections ++ words (0 ∷ []))
+
+-- a call with AUTH_NONE, and a reply of success (RFC 5531, section 9)
+abbrev pub call_bytes : (prog proc xid : ℕ) → List ℕ → List ℕ
+call_bytes prog proc xid arguments =
+    words (xid ∷ 0 ∷ 2 ∷ prog ∷ 3 ∷ proc ∷ 0 ∷ 0 ∷ 0 ∷ 0 ∷ []) ++ arguments
+
+abbrev pub reply_bytes : (xid : ℕ) → List ℕ → List ℕ
+reply_bytes xid results = words (xid ∷ 1 ∷ 0 ∷ 0 ∷ 0 ∷ 0 ∷ []) ++ results
+
+-- status, type, mode, nlink, uid, gid, size, used, rdev, fsid, fileid, atime, mtime and ctime
+abbrev pub attribute_bytes : List ℕ
+attribute_bytes =
+    words (0 ∷ 2 ∷ 493 ∷ 2 ∷ 0 ∷ 0 ∷ 0 ∷ 4096 ∷ 0 ∷ 4096 ∷ 0 ∷ 0 ∷ 0 ∷ 1 ∷ 0 ∷ 2 ∷ 1 ∷ 0 ∷ 1 ∷ 0 ∷ 1
+    ∷ 0 ∷ [])
+
+abbrev pub attribute_items : List Item
+attribute_items =
+    Word (codes "status") 0 ∷ Word (codes "type") 2 ∷ Word (codes "mode") 493
+    ∷ Word (codes "nlink") 2 ∷ Word (codes "uid") 0 ∷ Word (codes "gid") 0
+    ∷ Hyper (codes "size") 4096 ∷ Hyper (codes "used") 4096 ∷ Word (codes "rdev1") 0
+    ∷ Word (codes "rdev2") 0 ∷ Hyper (codes "fsid") 1 ∷ Hyper (codes "fileid") 2
+    ∷ Word (codes "atime_sec") 1 ∷ Word (codes "atime_nsec") 0 ∷ Word (codes "mtime_sec") 1
+    ∷ Word (codes "mtime_nsec") 0 ∷ Word (codes "ctime_sec") 1 ∷ Word (codes "ctime_nsec") 0 ∷ []
+
+abbrev pub exchange_of : (xid : ℕ) (handle : List ℕ) → List ℕ
+exchange_of xid handle =
+    capture (streams (call_bytes 100003 1 xid handle ∷ []) (reply_bytes xid attribute_bytes ∷ []))
+
+-- the handle has five bytes, and residual bytes that are not zero
+abbrev pub exchange : List ℕ
+exchange = exchange_of 7 (words (5 ∷ []) ++ (codes "abcde" ++ 255 ∷ 255 ∷ 255 ∷ []))
+
+abbrev pub exchange_entries : List Entry
+exchange_entries =
+    one (getattr 7 (codes "abcde") ∷ []) (success_reply 100003 1 7 attribute_items ∷ [])
+
+abbrev pub exchange_form : List ℕ
+exchange_form = exchange_of 1 (words (4 ∷ 1 ∷ []))
+
+-- ---- other ways of numbering
 
 abbrev pub AreNotSame : List Entry → List Entry → Type 0
 AreNotSame a b = Same a b → ⊥
-
--- ---- two GETATTR calls in one connection: aa and bb; bb and aa, the xids swapped too; cc twice
-
-abbrev pub p : List Entry
-p = one (getattr 5 aa ∷ getattr 6 bb ∷ []) []
-
-abbrev pub q : List Entry
-q = one (getattr 6 bb ∷ getattr 5 aa ∷ []) []
-
-abbrev pub r : List Entry
-r = one (getattr 5 cc ∷ getattr 6 cc ∷ []) []
-
-pub record TwoGetattrs : Type 0 where
-  pub form_of_r : canonical r
-      ≡ one (getattr 1 (handle_number 1) ∷ getattr 2 (handle_number 1) ∷ []) []
-  pub p_and_q : Same p q
-  pub p_and_r : Parting p r (in_client 1 2)
-  pub r_and_p : Parting r p (in_client 1 2)
-
--- ---- connections
-
-pub record Connections : Type 0 where
-  -- handles are numbered across the capture, and xids in each connection
-  pub form : canonical (two (getattr 5 bb) (getattr 5 bb))
-      ≡ two (getattr 1 (handle_number 1)) (getattr 1 (handle_number 1))
-  pub handles : Parting (two (getattr 5 aa) (getattr 5 aa)) (two (getattr 5 aa) (getattr 5 bb))
-      (in_client 2 1)
-  pub xids : Same (two (getattr 5 aa) (getattr 5 aa)) (two (getattr 5 aa) (getattr 6 aa))
-  -- the empty handle has no number
-  pub empty_stays : canonical (two (getattr 5 []) (getattr 5 aa))
-      ≡ two (getattr 1 []) (getattr 1 (handle_number 1))
-  pub empty_differs : Parting (two (getattr 5 []) (getattr 5 aa))
-      (two (getattr 5 aa) (getattr 5 aa)) (in_client 1 1)
-  -- none against one, and no call against one
-  pub none : Parting (End ∷ []) (one [] []) (in_client 1 0)
-  pub no_call : Parting (one [] []) (one (call_of 100003 0 7 [] ∷ []) []) (in_client 1 1)
-
--- ---- write verifiers
-
--- two COMMIT calls in one connection that gave these
-abbrev pub commits : List ℕ → List ℕ → List Entry
-commits v w = one (commit 1 ∷ commit 2 ∷ []) (committed 1 v ∷ committed 2 w ∷ [])
-
--- a COMMIT call in each of two connections
-abbrev pub two_commits : List ℕ → List ℕ → List Entry
-two_commits v w =
-    connection (commit 1 ∷ []) (committed 1 v ∷ []) ++ one (commit 1 ∷ []) (committed 1 w ∷ [])
-
-pub record Commits : Type 0 where
-  pub form : canonical (commits long long) ≡ commits (verifier_number 1) (verifier_number 1)
-  -- across the capture
-  pub later : canonical (two_commits long long)
-      ≡ two_commits (verifier_number 1) (verifier_number 1)
-  -- also zeros
-  pub zeros : canonical (two_commits long zero_verifier)
-      ≡ two_commits (verifier_number 1) (verifier_number 2)
-  pub swapped : Same (commits long zero_verifier) (commits zero_verifier long)
-  pub parted : Parting (commits long long) (commits long zero_verifier) (in_server 1 2)
-  -- a cookie verifier is not a write verifier
-  pub cookie_stays : canonical (one (list_directory 1 ∷ []) (readdir_reply 1 long ∷ []))
-      ≡ one (list_directory 1 ∷ []) (readdir_reply 1 long ∷ [])
-
--- ---- other ways of numbering
 
 -- the entries up to the next Begin
 abbrev pub of_connection : List Entry → List Entry

@@ -11,7 +11,6 @@ pub mod CanonicalStream
 pub mod Parting
 pub mod Laws
 pub mod Examples
-pub mod Vectors
 pub mod SinkWrites
 pub mod MemSink
 pub mod WriteErrors

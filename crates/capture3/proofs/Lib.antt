@@ -1,4 +1,3 @@
 -- Lemmas of captures.
 pub mod Common
 pub mod Lemmas
-pub mod Examples

@@ -1,4 +1,4 @@
--- Small captures.
+-- A small capture.
 use Rattle.std.specs.Prelude.{ℕ, List, [], ◌∷◌, ◌++◌}
 use Rattle.xdr3.specs.Item.{Item, Word, Opaque, Var, called}
 use Rattle.rpc_head.specs.declared.values.call.ProcId.{ProcId}
@@ -50,49 +50,3 @@ null_reply_items =
 abbrev pub null_entries : List Entry
 null_entries =
     Begin ∷ Call null_call_items ∷ Turn ∷ Reply null_procedure null_reply_items ∷ Close ∷ End ∷ []
-
--- a record whose mtype is 2, and the same without its last byte
-abbrev pub bad_mtype_cut : List ℕ
-bad_mtype_cut =
-    magic_1 ++ word_1 ++ (0 ∷ 0 ∷ 0 ∷ 12 ∷ []) ++ (128 ∷ 0 ∷ 0 ∷ 8 ∷ []) ++ word_1 ++ 0 ∷ 0 ∷ 0 ∷ []
-
-abbrev pub bad_mtype : List ℕ
-bad_mtype = bad_mtype_cut ++ 2 ∷ []
-
--- ---- version 2
-
-abbrev pub magic_2 : List ℕ
-magic_2 = 78 ∷ 70 ∷ 83 ∷ 51 ∷ 67 ∷ 65 ∷ 80 ∷ 50 ∷ []
-
-abbrev pub word_3 : List ℕ
-word_3 = 0 ∷ 0 ∷ 0 ∷ 3 ∷ []
-
--- the streams of null_capture, each in one chunk with its side word
-abbrev pub client_chunk : List ℕ
-client_chunk = word_1 ++ (0 ∷ 0 ∷ 0 ∷ 44 ∷ []) ++ (128 ∷ 0 ∷ 0 ∷ 40 ∷ []) ++ null_call
-
-abbrev pub server_chunk : List ℕ
-server_chunk = word_2 ++ (0 ∷ 0 ∷ 0 ∷ 28 ∷ []) ++ (128 ∷ 0 ∷ 0 ∷ 24 ∷ []) ++ null_reply
-
--- the chunk of the call first, and the chunk of the reply first
-abbrev pub null_mixed : List ℕ
-null_mixed = magic_2 ++ word_1 ++ client_chunk ++ server_chunk ++ word_0 ++ word_0
-
-abbrev pub null_mixed_swapped : List ℕ
-null_mixed_swapped = magic_2 ++ word_1 ++ server_chunk ++ client_chunk ++ word_0 ++ word_0
-
--- a client record whose mtype is 2 up to all but the last byte of the side word 0, and with that
--- byte
-abbrev pub bad_mtype_mixed_cut : List ℕ
-bad_mtype_mixed_cut =
-    magic_2 ++ word_1 ++ word_1 ++ (0 ∷ 0 ∷ 0 ∷ 12 ∷ []) ++ (128 ∷ 0 ∷ 0 ∷ 8 ∷ []) ++ word_1
-    ++ word_2 ++ 0 ∷ 0 ∷ 0 ∷ []
-
-abbrev pub bad_mtype_mixed : List ℕ
-bad_mtype_mixed = bad_mtype_mixed_cut ++ 0 ∷ []
-
--- the call in both streams
-abbrev pub call_answered_by_call : List ℕ
-call_answered_by_call =
-    magic_2 ++ word_1 ++ client_chunk ++ word_2 ++ (0 ∷ 0 ∷ 0 ∷ 44 ∷ []) ++ (128 ∷ 0 ∷ 0 ∷ 40 ∷ [])
-    ++ null_call ++ word_0

@@ -1,6 +1,6 @@
 //! Laws over the definitions of captures alone. They do nothing: each is what a function without a result ensures.
 
-ghost use Rattle.std.specs.Prelude.{◌≡◌, ◌↔◌, ◌≤◌, ℕ, List, [], ◌∷◌, ◌++◌, length, Ok, Err};
+ghost use Rattle.std.specs.Prelude.{◌≡◌, ◌↔◌, ◌≤◌, ℕ, List, ◌++◌, length, Ok, Err};
 ghost use Rattle.xdr3.specs.Item.{AreBytes, Item};
 ghost use Rattle.record_mark.specs.Machine.{after};
 ghost use Rattle.capture3.specs.declared.fault.Fault.{Fault};
@@ -10,18 +10,14 @@ ghost use Rattle.capture3.specs.SidedChunks.{Streams};
 ghost use Rattle.capture3.specs.Connections.{calls_in_turn, replies_to};
 ghost use Rattle.capture3.specs.Entries.{AreAllBeforeEnd, KeepsLimits};
 ghost use Rattle.capture3.specs.machinery.EntriesHistory.{StandsFor};
-ghost use Rattle.capture3.specs.Entry.{Begin, Call, Close, End, Entry, Turn};
+ghost use Rattle.capture3.specs.Entry.{Entry};
 ghost use Rattle.capture3.specs.FirstFault.{FirstFault, IsClean};
 ghost use Rattle.capture3.specs.Laws.{AreWithinLimits, HasItsPlace, HasOneVerdict, HaveSameEntries, IsCutShort, IsJudgedInTurn, IsJudgedOnce, IsWithinVersion, most_bytes};
 ghost use Rattle.capture3.specs.FileMachine.{file_next, parsed, reached, verdict};
 ghost use Rattle.capture3.specs.Reached.{AreFirstReached, Reached};
 ghost use Rattle.capture3.specs.Typed.{Typed};
-ghost use Rattle.xdr3.specs.declared.reason.Reason.TheVariants.{AfterEnd, BadEnum, BadMark, CaptureCut, TooManyBytes, WrongSide};
-ghost use Rattle.capture3.specs.declared.fault.Place.TheVariants.{Record};
-ghost use Rattle.capture3.specs.declared.fault.Side.TheVariants.{Client, Server};
-ghost use Rattle.capture3.specs.Examples.{bad_mtype, bad_mtype_cut, magic_1, null_call_items, null_capture, null_entries, word_0, word_1};
-ghost use Rattle.capture3.specs.Examples.{bad_mtype_mixed, bad_mtype_mixed_cut, call_answered_by_call, client_chunk, magic_2, null_mixed, null_mixed_swapped, server_chunk, word_3};
-ghost use Rattle.capture3.specs.Sides.{file_fault};
+ghost use Rattle.xdr3.specs.declared.reason.Reason.TheVariants.{CaptureCut};
+ghost use Rattle.capture3.specs.Examples.{null_capture, null_entries};
 
 use crate::device::source::Source;
 use crate::reader::entries::Entries;
@@ -119,34 +115,7 @@ pub fn reached_in_turn()
         → AreAllBeforeEnd front entries → AreFirstReached (front ++ back) entries }
 {}
 
-/// What small captures are: one NULL call and its reply, the smallest file, and some with faults;
-/// and the same in version 2, with the chunks of both sides in either order.
+/// What a small capture is: one NULL call and its reply.
 pub fn examples()
-    ensures null { Typed null_capture null_entries }
-    ensures smallest { Typed (magic_1 ++ word_0) (End ∷ []) }
-    ensures after_end { FirstFault (magic_1 ++ word_0 ++ 7 ∷ []) (file_fault 12 AfterEnd) }
-    ensures too_many_bytes { FirstFault (magic_1 ++ word_1 ++ 64 ∷ 0 ∷ 0 ∷ 1 ∷ [])
-        (file_fault 12 TooManyBytes) }
-    ensures bad_mtype { FirstFault bad_mtype
-        (record { place = Record 1 Client 1 4; reason = BadEnum }) }
-    ensures bad_mtype_cut { FirstFault bad_mtype_cut (file_fault 27 CaptureCut) }
-    ensures null_mixed { Typed null_mixed null_entries }
-    ensures null_mixed_swapped { Typed null_mixed_swapped null_entries }
-    ensures smallest_mixed { Typed (magic_2 ++ word_0) (End ∷ []) }
-    ensures empty_mixed { Typed (magic_2 ++ word_1 ++ word_0 ++ word_0)
-        (Begin ∷ Turn ∷ Close ∷ End ∷ []) }
-    ensures bad_side { FirstFault (magic_2 ++ word_1 ++ word_3) (file_fault 12 BadMark) }
-    ensures bad_side_after_chunks { FirstFault (magic_2 ++ word_1 ++ client_chunk
-        ++ server_chunk ++ word_3) (file_fault 100 BadMark) }
-    ensures no_length { FirstFault (magic_2 ++ word_1 ++ word_1 ++ word_0) (file_fault 16 BadMark) }
-    ensures too_many_mixed { FirstFault (magic_2 ++ word_1 ++ word_1 ++ 64 ∷ 0 ∷ 0 ∷ 1 ∷ [])
-        (file_fault 16 TooManyBytes) }
-    ensures bad_mtype_mixed { FirstFault bad_mtype_mixed
-        (record { place = Record 1 Client 1 4; reason = BadEnum }) }
-    ensures bad_mtype_mixed_cut { FirstFault bad_mtype_mixed_cut (file_fault 35 CaptureCut) }
-    ensures call_answered_by_call { FirstFault call_answered_by_call
-        (record { place = Record 1 Server 1 4; reason = WrongSide }) }
-    ensures reached_at_fault { Reached call_answered_by_call
-        (Begin ∷ Call null_call_items ∷ Turn ∷ []) }
-    ensures reached_before_side { Reached bad_mtype_mixed_cut (Begin ∷ []) }
+    ensures { Typed null_capture null_entries }
 {}

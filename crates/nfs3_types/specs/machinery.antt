@@ -1,3 +1,4 @@
 -- What clauses inside the crate and proofs name, and no reader of a public clause has to believe.
 pub mod AttributeTails
+pub mod SettableItems
 pub mod TimesItems

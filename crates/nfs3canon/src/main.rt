@@ -6,8 +6,6 @@ mod forms;
 mod jobs;
 mod listing;
 mod packing;
-#[cfg(test)]
-mod tests;
 
 ghost use Rattle.std.specs.Prelude.{◌≡◌, [], Bool, None, Some, map, string_bytes};
 ghost use Rattle.std.specs.declared.io.Stdout.{Stdout};

@@ -1,13 +1,13 @@
--- Messages worked by hand: how their bytes are laid out.
+-- Calls worked by hand: how their bytes are laid out.
 use Rattle.std.specs.Prelude.{◌≡◌, ℕ, ◌==◌, if◌then◌else◌, List, [], ◌∷◌, ◌++◌, Ok, codes}
 use Rattle.xdr3.specs.declared.reason.Reason.TheVariants.{BadEnum}
-use Rattle.xdr3.specs.Item.{Item, Handle, Opaque, Rest, Text, Var, Word, called}
+use Rattle.xdr3.specs.Item.{Item, Handle, Opaque, Text, Var, Word, called}
 use Rattle.xdr3.specs.Examples.{words}
-use Rattle.xdr3.specs.Layout.{Layout, exactly, rest, reading_layout}
+use Rattle.xdr3.specs.Layout.{Layout, exactly, reading_layout}
 use Rattle.xdr3.specs.Reading.{refused}
 use Rattle.xdr3.specs.Shape.{nothing, opaque}
 use Rattle.rpc_head.specs.declared.values.call.ProcId.{ProcId}
-use Rattle.rpc_head.specs.Messages.{call_layout, reply_layout}
+use Rattle.rpc_head.specs.Messages.{call_layout}
 
 -- a file handle in procedure 1, nothing in any other
 abbrev pub handle_in_one : ProcId → Layout
@@ -56,51 +56,3 @@ pub record Calls : Type 0 where
       )
   pub no_reply : reading_layout (call_layout handle_in_one) (words (7 ∷ 1 ∷ 0 ∷ 0 ∷ 0 ∷ 0 ∷ [])) 0
       ≡ refused 4 BadEnum
-
--- two bytes after each reply, which are results where there are any
-abbrev pub reply_of : List ℕ → List ℕ
-reply_of numbers = words (7 ∷ 1 ∷ numbers) ++ 1 ∷ 2 ∷ []
-
-abbrev pub reply_to : List Item → List Item
-reply_to more = Word (called "xid") 7 ∷ Word (called "mtype") 1 ∷ more
-
-pub record Replies : Type 0 where
-  pub success : reading_layout (reply_layout (rest (codes "rest"))) (reply_of (0 ∷ 0 ∷ 0 ∷ 0
-      ∷ [])) 0
-      ≡ Ok (
-        reply_to (Word (called "reply_stat") 0
-            ∷ no_verifier (Word (called "accept_stat") 0 ∷ Rest (codes "rest") (1 ∷ 2 ∷ [])
-            ∷ [])),
-        26,
-      )
-  pub system_error : reading_layout (reply_layout (rest (codes "rest"))) (reply_of (0 ∷ 0 ∷ 0 ∷ 5
-      ∷ [])) 0
-      ≡ Ok (
-        reply_to (Word (called "reply_stat") 0
-            ∷ no_verifier (Word (called "accept_stat") 5 ∷ [])),
-        24,
-      )
-  pub program_mismatch : reading_layout (reply_layout (rest (codes "rest"))) (reply_of (0 ∷ 0 ∷ 0
-      ∷ 2 ∷ 3 ∷ 3 ∷ [])) 0
-      ≡ Ok (
-        reply_to (Word (called "reply_stat") 0
-            ∷ no_verifier (Word (called "accept_stat") 2 ∷ Word (called "low") 3
-            ∷ Word (called "high") 3 ∷ [])),
-        32,
-      )
-  pub version_mismatch : reading_layout (reply_layout (rest (codes "rest"))) (reply_of (1 ∷ 0 ∷ 0
-      ∷ 0 ∷ [])) 0
-      ≡ Ok (
-        reply_to (Word (called "reply_stat") 1 ∷ Word (called "reject_stat") 0
-            ∷ Word (called "low") 0 ∷ Word (called "high") 0 ∷ []),
-        24,
-      )
-  pub authentication_error : reading_layout (reply_layout (rest (codes "rest"))) (reply_of (1 ∷ 1
-      ∷ 0 ∷ [])) 0
-      ≡ Ok (
-        reply_to (Word (called "reply_stat") 1 ∷ Word (called "reject_stat") 1
-            ∷ Word (called "auth_stat") 0 ∷ []),
-        20,
-      )
-  pub no_call : reading_layout (reply_layout (rest (codes "rest"))) (words (7 ∷ 0 ∷ 0 ∷ 0 ∷ 0 ∷ 0
-      ∷ [])) 0 ≡ refused 4 BadEnum

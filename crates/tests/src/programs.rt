@@ -1,5 +1,6 @@
-//! The part that both programs share: command lines, what is printed, and how hashes spread.
+//! The part that both programs share: command lines, files, what is printed, and how hashes spread.
 
+mod files;
 pub(crate) mod lines;
 mod reports;
 mod spread;

@@ -2,4 +2,3 @@ pub mod Common
 pub mod Reading
 pub mod CountingLemmas
 pub mod SummingLemmas
-pub mod ComparingLemmas

@@ -1,27 +1,19 @@
 -- A loop over the entries of a reader: what it has read so far, and what follows at its end.
 use Rattle.capture3.specs.Observed.{Observed, Gave}
-use Rattle.capture3.proofs.Lemmas.Reader.ObservedLemmas.{gave_on, plainly_heard, prefix_of_observed, shown_of_all}
+use Rattle.capture3.proofs.Lemmas.Reader.ObservedLemmas.{gave_on, prefix_of_observed, shown_of_all}
 use Rattle.std.specs.declared.hash.BuildHasher as BuildHasher
 use Rattle.std.specs.declared.hash.Hasher as Hasher
-use Rattle.uses.proofs.Common.{◌≡◌, ℕ, Option, Some, None, Ok, Err, List, [], ◌∷◌, ◌++◌, subst, refl, Adds, Item, Entry, OnRefused, items_of, source_of, StandsFor}
+use Rattle.uses.proofs.Common.{◌≡◌, ℕ, Option, Some, None, Ok, Err, List, [], ◌∷◌, ◌++◌, subst, refl, Entry, OnRefused, source_of, StandsFor}
 use Rattle.capture3.specs.declared.reader.entries.Entries.{Entries}
 use Rattle.capture3.specs.declared.fault.Error.{Error}
 use Rattle.capture3.specs.declared.fault.Error.TheVariants as errors
 use Rattle.capture3.specs.FirstFault.{FirstFault}
 use Rattle.capture3.specs.Handing.{HandsOutGiven}
-use Rattle.capture3.specs.MessageVisit.{Hears}
 use Rattle.capture3.specs.Typed.{Typed}
 
 pub none_is : {X : Type 0} (o : Option X) → ((x : X) → o ≡ Some x → ⊥) → o ≡ None
 none_is None not = refl
 none_is (Some x) not = absurd (not x refl)
-
--- a visitor that rests for what it represents adds the items of the entry that it was passed
-pub told_plainly : {V : Type 0} (stands : V → List Item → Type 0) (was now : V) (entry : Entry)
-    → Hears stands stands was now entry → Adds stands was now (items_of entry)
-unfolding Adds Hears
-told_plainly stands was now entry tells before s =
-    plainly_heard stands now before entry (tells before s)
 
 module _ {R S H : Type 0} {builds : BuildHasher.Ghosts S H} {hashes : Hasher.Ghosts H}
     (observed : R → Observed) (first : Observed) where

@@ -1,4 +1,3 @@
-pub mod Comparing
 pub mod Counting
 pub mod Naming
 pub mod Summing

@@ -2,14 +2,12 @@
 //! and nothing else of them.
 #![tactic(auto)]
 
-mod comparing;
 mod counting;
 mod naming;
 mod packing;
 mod summing;
 
-pub use comparing::{Handles, first_other_handle, handles_of};
 pub use counting::{GETATTR, count_calls};
 pub use naming::looked_up_name;
 pub use packing::pack_two;
-pub use summing::{DataBytes, WRITE, bytes_to_write};
+pub use summing::{DataBytes, bytes_to_write};

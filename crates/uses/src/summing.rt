@@ -1,25 +1,12 @@
-//! How many bytes the WRITE calls of a capture ask to be written, by a visitor of their items.
+//! How many bytes a call asks to be written, by a visitor of its items.
 
-ghost use Rattle.std.specs.Prelude.{◌≡◌, ◌∷◌, ◌++◌, ℕ, List, [], Some, IfOk};
-ghost use Rattle.capture3.specs.Entries.{OnRefused};
-ghost use Rattle.capture3.specs.Entry.{Entry, items_of};
-ghost use Rattle.capture3.specs.FirstFault.{FirstFault};
-ghost use Rattle.capture3.specs.Kept.{IsLent};
-ghost use Rattle.uses.specs.Counting.{is_call_of};
-ghost use Rattle.uses.specs.Summing.{HasSummed, IsSum, SumsWrites, writing};
+ghost use Rattle.std.specs.Prelude.{[], IfOk};
+ghost use Rattle.uses.specs.Summing.{HasSummed, SumsData};
 
-use capture3::{Entries, Error, LentEntry, MessageVisit, Source};
-use rpc_head::{ProcId, Start};
-use std::alloc::{AllocError, Global};
-use std::hash::BuildHasher;
+use capture3::{CallRef, MessageVisit};
+use rpc_head::Start;
+use std::alloc::AllocError;
 use xdr3::Visit;
-
-/// WRITE of NFS version 3 (RFC 1813, section 3.3.7).
-pub const WRITE: ProcId = ProcId {
-    prog: 100_003,
-    vers: 3,
-    proc_no: 7,
-};
 
 /// A visitor that sums the lengths of the items called `data`, up to 2⁶⁴ - 1.
 #[derive(Drop)]
@@ -88,58 +75,15 @@ impl MessageVisit for DataBytes {
     }
 }
 
-/// Reads a capture to its end, and returns how many bytes its WRITE calls ask to be written, at most
-/// 2⁶⁴ - 1.
+/// Returns how many bytes of data a call carries, at most 2⁶⁴ - 1: those that a WRITE asks to be written.
 ///
 /// # Errors
 ///
-/// - `Refused` with the first fault if the capture is not well formed.
-/// - `Read` if a read failed.
-/// - `Memory` if an allocation failed.
-pub fn bytes_to_write<R: Source, S: BuildHasher + Drop>(
-    alloc: Global,
-    hasher: S,
-    source: &mut R,
-) -> Result<u64, Error>
-    ensures summed { (bytes : List ℕ) → (R.observed source.old).left ≡ Some bytes
-        → IfOk result (SumsWrites bytes) }
-    ensures refused { (bytes : List ℕ) → (R.observed source.old).left ≡ Some bytes
-        → OnRefused result (FirstFault bytes) }
+/// `AllocError` only if an allocation failed.
+pub fn bytes_to_write(call: CallRef<'_>) -> Result<u64, AllocError>
+    ensures { IfOk result (SumsData call.entry.body.now) }
 {
-    let mut entries = Entries::new(alloc, hasher, source)?;
-    let mut sum: u64 = 0;
     let mut data = DataBytes::new();
-    while let Some(entry) = entries.visit(&mut data)? {
-        let writes = is_write(entry);
-        sum = with_entry(sum, writes, &data);
-        data = DataBytes::new();
-    }
-    Ok(sum)
-}
-
-/// Returns whether an entry is a WRITE call.
-fn is_write(entry: LentEntry<'_>) -> bool
-    ensures { (one : Entry) → IsLent entry.entry one → result ≡ is_call_of writing one }
-{
-    match entry {
-        LentEntry::Call(call) => call.id == WRITE,
-        LentEntry::Begin
-        | LentEntry::Turn
-        | LentEntry::Reply(_)
-        | LentEntry::Close
-        | LentEntry::End => false,
-    }
-}
-
-/// Adds what an entry has whose items were visited, if it is a WRITE call.
-fn with_entry(sum: u64, writes: bool, visitor: &DataBytes) -> u64
-    ensures { (entries : List Entry) (one : Entry) → IsSum sum entries
-        → writes ≡ is_call_of writing one → HasSummed visitor.now (items_of one)
-        → IsSum result (entries ++ one ∷ []) }
-{
-    if writes {
-        sum.saturating_add(visitor.sum)
-    } else {
-        sum
-    }
+    call.scan(&mut data)?;
+    Ok(data.sum)
 }

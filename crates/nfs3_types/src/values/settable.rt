@@ -8,6 +8,7 @@ ghost use Rattle.xdr3.specs.Shape.{hyper, optional};
 ghost use Rattle.xdr3.specs.View.{Answers, MovesOn};
 ghost use Rattle.xdr3.specs.Visit.{Adds, AddsSome, AreWithinLimit};
 ghost use Rattle.nfs3_types.specs.Items.{set_hyper_items, set_word_items};
+ghost use Rattle.nfs3_types.specs.machinery.SettableItems.{size_and_times_items};
 ghost use Rattle.nfs3_types.specs.Shapes as shapes;
 
 use crate::values::time::{Time, TimeHow};
@@ -58,13 +59,25 @@ impl Walk for Sattr {
         walk_set_word("set_mode", "mode", self.mode, visitor)?;
         walk_set_word("set_uid", "uid", self.uid, visitor)?;
         walk_set_word("set_gid", "gid", self.gid, visitor)?;
-        walk_set_hyper("set_size", "size", self.size, visitor)?;
-        self.atime
-            .walk("set_atime", "atime_sec", "atime_nsec", visitor)?;
-        self.mtime
-            .walk("set_mtime", "mtime_sec", "mtime_nsec", visitor)?;
+        walk_size_and_times(self, visitor)?;
         Ok(())
     }
+}
+
+/// Visits the size and the times.
+fn walk_size_and_times<V: Visit>(attr: &Sattr, visitor: &mut V) -> Result<(), AllocError>
+    requires { AreWithinLimit (size_and_times_items attr.now) }
+    ensures ok { OnOk result (Adds V.stands visitor.old visitor.new
+        (size_and_times_items attr.now)) }
+    ensures err { OnErr result (AddsSome V.stands visitor.old visitor.new
+        (size_and_times_items attr.now)) }
+{
+    walk_set_hyper("set_size", "size", attr.size, visitor)?;
+    attr.atime
+        .walk("set_atime", "atime_sec", "atime_nsec", visitor)?;
+    attr.mtime
+        .walk("set_mtime", "mtime_sec", "mtime_nsec", visitor)?;
+    Ok(())
 }
 
 /// Reads a bool, and a word if it is true.

@@ -1,6 +1,0 @@
-use Rattle.listing3.proofs.Common.{refl, digits, encode_with}
-use Rattle.listing3.proofs.examples.raw_lines.Goals as goal
-
-pub returns : goal.returns
-unfolding encode_with digits
-returns c = record { lines = refl }
