@@ -75,7 +75,7 @@ _nfs3_options() {
     calls | nfs3-calls) echo --help --version --errors --no-reply --slow --procedure --path --user --client --sort --json --csv --utc --from --to --width --color --program --filter --port --allow-losses --allow-not-checked ;;
     procedures | nfs3-procedures) echo --help --version --beside --total --sort --json --csv --html --from --to --width --color --program --filter --port --allow-losses --allow-not-checked ;;
     nfs3-meaning) echo --help --version --all --rule --notes --explain --accept --junit --html --json --csv --color --program --filter --port --allow-losses --allow-not-checked ;;
-    nfs3-compare) echo --help --version --mask --order --extra --ignore --accept --accept-new --marks --all --brief --html --json --junit --color --program --filter --port --allow-losses --allow-not-checked ;;
+    nfs3-compare) echo --help --version --mask --order --extra --ignore --accept --accept-new --all --brief --html --json --junit --color --program --filter --port --allow-losses --allow-not-checked ;;
     nfs3-explain) echo --help --version --filter --port ;;
     nfs3-cut) echo --help --version --origins --program --filter --port ;;
   esac

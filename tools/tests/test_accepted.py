@@ -188,7 +188,7 @@ def files_are_written_and_read_with_care(place: Comparisons) -> None:
     accepts(place, NLINK)
     for words in (('--accept-new', 'a'), ('--accept-new', 'c'),
                   ('--accept', 'known', '--json', 'known'),
-                  ('--accept-new', 'x', '--html', 'x'), ('--accept', 'known', '--marks', 'x')):
+                  ('--accept-new', 'x', '--html', 'x')):
         before = {name: place.read(name) for name in ('a', 'b', 'c', 'known')}
         place.want(' '.join(words), place.compare(*words, 'a', 'b')[0], 2)
         place.want('kept', {name: place.read(name) for name in before}, before)

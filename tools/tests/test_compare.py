@@ -450,3 +450,11 @@ def same_in_part(place: Comparisons) -> None:
         status, out, _ = place.compare(options, '--order', 'strict', 'a', 'b')
         place.want('they differ', (status, out[1:3]), (
             1, ['differ at connection 1 client record 1034', f'compared in part: {less[1]}']))
+
+
+def an_option_that_is_gone(place: Comparisons) -> None:
+    """An option of earlier versions is refused, with what to use instead."""
+    for words in (('--marks', 'x', 'a', 'b'), ('--marks=x',), ('a', 'b', '--marks')):
+        status, out, error = place.compare(*words)
+        place.want(' '.join(words), (status, out, error.count('\n')), (2, [], 1))
+        place.want('instead', 'editcap -A' in error, True)

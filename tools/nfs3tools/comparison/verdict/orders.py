@@ -59,8 +59,8 @@ class Outcome:
 
 
 class NothingToCompare(Exception):
-    """A run has no call that can be compared, or none that is not left out, or no call of both is a
-    mark; the text is the message for the user."""
+    """A run has no call that can be compared, or none that is not left out; the text is the message
+    for the user."""
 
 
 class Orders:
