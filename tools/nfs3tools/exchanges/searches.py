@@ -22,8 +22,9 @@ REPLY_PART = re.compile(
     r'rdev2=(\d+) fsid=(\d+) fileid=(\d+) atime_sec=\d+ atime_nsec=\d+ mtime_sec=\d+ '
     r'mtime_nsec=\d+ ctime_sec=(\d+) ctime_nsec=(\d+)'
     r'| fileid=(\d+) name="([^"]*)"| fh=([0-9a-f]+)| attr=0')
+FREE_SPACE = re.compile(r' (?:fbytes|abytes|ffiles|afiles|invarsec|[am]time_n?sec|used)=\d+')
 WRITTEN = re.compile(r' offset=(\d+) count=(\d+) stable=')
-SETTING = re.compile(r' set_(mode|uid|gid|size)=1')
+SETTING = re.compile(r' set_(mode|uid|gid|size)=1 \1=(\d+)')
 
 
 class SpelledAttributes(NamedTuple):
@@ -87,14 +88,21 @@ def entries_in(text: str) -> Iterator[tuple[str, int]]:
             yield name, int(found[2], 16)
 
 
-def end_of_write_in(text: str) -> int | None:
+def results_in(text: str) -> str:
+    """Returns what a reply says beside attributes and free space."""
+    return FREE_SPACE.sub('', REPLY_PART.sub('', text[text.find(' status='):])).replace(
+        ' attr=1', '')
+
+
+def written_in(text: str) -> tuple[int, int] | None:
+    """Returns where a WRITE begins, and where it ends."""
     found = WRITTEN.search(text)
-    return int(found[1]) + int(found[2]) if found else None
+    return (int(found[1]), int(found[1]) + int(found[2])) if found else None
 
 
-def settings_in(text: str) -> frozenset[str]:
+def settings_in(text: str) -> dict[str, str]:
     """Returns the mode, owners and size among the attributes that a call sets."""
-    return frozenset(SETTING.findall(text) if ' set_' in text else ())
+    return dict(SETTING.findall(text)) if ' set_' in text else {}
 
 
 def first_of(pattern: str) -> Callable[[str], str | None]:

@@ -15,15 +15,17 @@ import operator
 from array import array
 from bisect import bisect_left
 from collections import defaultdict
-from collections.abc import Iterator, Sequence
+from collections.abc import Hashable, Iterator, Sequence
 from functools import cached_property, partial
 from itertools import accumulate
-from typing import NamedTuple, Optional, Union
+from typing import NamedTuple, Optional
 
-from ...exchanges.objects import RENAMING
-from ...exchanges.searches import SpelledAttributes
+from ...exchanges import history
+from ...exchanges.history import Adds, Effect, Grows, Sets, Sight, Timeline
+from ...exchanges.listing import Message
+from ...exchanges.objects import DOTS, MAKING, RENAMING
 from ...recordings.taken import Taken
-from .facts import LINK, Fact, Facts, Statement
+from .facts import LINK, Facts, Statement
 from .matching import Pair
 from .outlines import CHANGING
 from .pairing import Pairing
@@ -32,9 +34,14 @@ NOTHING_ELSE = 'no other answer has attributes of the object'
 GONE, ANY_OBJECT = 0, -1  # what a name leads to after a removal, and if that is not known
 REMOVING = frozenset(('NFSPROC3_REMOVE', 'NFSPROC3_RMDIR'))
 NEVER_ANSWERED = 1 << 62  # when a call is answered that has no reply
-# What a change is of: an object by its identity, or a name in a folder. Both are the same in both
-# runs.
-ChangeKey = Union[int, tuple[int, str]]
+WRITE, SETATTR, MAKING_FOLDER = 'NFSPROC3_WRITE', 'NFSPROC3_SETATTR', 'NFSPROC3_MKDIR'
+FOLDER = '2'
+SET_ITEMS, TIMES = ('mode', 'uid', 'gid', 'size'), 'times'
+LASTING_ITEMS = 'type', 'rdev1', 'rdev2'
+KEPT_ITEMS = ('mode', 'uid', 'gid', 'size', 'nlink')  # of which there is a history
+# What a change is of: an item of an object by its identity, or a name in a folder. Both are the
+# same in both runs.
+ItemKey = tuple[int, str]
 # The changes that were answered before a call was sent: how many, and a hash of them that is the
 # same in both runs
 ChangesBefore = tuple[int, int]
@@ -107,26 +114,61 @@ class Changes:
     def __init__(self, pairing: Pairing, run: int, facts: Facts, turns: Turns | None) -> None:
         self.facts, self.turns, self.outlines = facts, turns, facts.outlines
         self.named = partial(pairing.name_of, run)
-        self.of_key = defaultdict[ChangeKey, list[int]](list)
-        changing = facts.changing if turns else []
-        for at in changing:
-            keys: set[ChangeKey] = {*self.names_of(at), *self.objects_of(at)}
-            for key in keys:
-                self.of_key[key].append(at)
-        for at in changing:
-            if self.outlines.procedure_of(at) in REMOVING | {RENAMING}:
-                self.take_removed(at)
+        # By objects and items, or folders and names: the changes, and what they do
+        self.of_item = defaultdict[ItemKey, dict[int, Effect]](dict)
+        self.of_name = defaultdict[ItemKey, dict[int, Effect]](dict)
+        self.timelines = dict[tuple[ItemKey, bool], Timeline]()
+        self.changing = facts.changing if turns else []
+        # (in the order in which they ended: to what a name led is said by those before)
+        for at in sorted(self.changing, key=lambda one: self.frames_of(one)[1]):
+            self.take_change(at)
 
     def frames_of(self, at: int) -> tuple[int, int]:
         """Returns the frames with which a call and its reply begin."""
-        assert self.turns
-        return self.turns.begins[at], self.turns.ends[at]
+        return (self.turns.begins[at], self.turns.ends[at]) if self.turns else (at, at)
 
-    def take_removed(self, at: int) -> None:
-        """Notes a change of the objects to which its names led."""
-        for name in self.names_of(at):
-            for identity in self.leads(at, name) - {GONE, ANY_OBJECT}:
-                self.of_key[identity].append(at)
+    def take_change(self, at: int) -> None:
+        """Notes what a change does to objects and names."""
+        procedure, sets, outlines = self.outlines.procedure_of(at), self.facts.sets, self.outlines
+        objects = [self.known_as(handle) for handle in outlines.objects_of(at)]
+        made = self.known_as(outlines.found[at]) if outlines.found[at] else 0
+        for own in filter(None, (*objects, made)):
+            self.of_item[own, TIMES][at] = Sets()
+        if procedure == WRITE:
+            self.of_item[objects[0], 'size'][at] = Grows(*self.facts.writes[at])
+        elif procedure == SETATTR:
+            for item, value in sets.get(at, {}).items():
+                self.of_item[objects[0], item][at] = Sets(frozenset((value,)))
+        else:
+            self.take_names(at, procedure, objects)
+        if made:
+            for item in SET_ITEMS:
+                value = sets.get(at, {}).get(item)
+                self.of_item[made, item][at] = Sets(frozenset((value,) if value else ()))
+
+    def take_names(self, at: int, procedure: str, objects: list[int]) -> None:
+        names = self.names_of(at)
+        for folder, _ in names:
+            self.of_item[folder, 'size'][at] = Sets()
+        if procedure == MAKING_FOLDER:
+            self.of_item[objects[0], 'nlink'][at] = Adds(1, 1)
+        elif procedure == LINK:
+            self.of_item[objects[0], 'nlink'][at] = Adds(1, 1)
+        elif procedure == RENAMING:
+            for folder in objects:
+                self.of_item[folder, 'nlink'][at] = Adds(-1, len(set(objects)) - 1)
+        elif procedure == 'NFSPROC3_RMDIR':
+            self.of_item[objects[0], 'nlink'][at] = Adds(-1, -1)
+        for number, name in enumerate(names):
+            led = {self.led(at, name)} - {ANY_OBJECT}
+            found = {GONE} if procedure in MAKING or procedure == LINK else led
+            left = {self.left_by(at, name)} - {ANY_OBJECT}
+            self.of_name[name][at] = Sets(frozenset(left), frozenset(found))
+            for own in led if procedure in REMOVING | {RENAMING} else ():
+                self.of_item[own, TIMES][at] = Sets()
+                if procedure in REMOVING or number:
+                    self.of_item[own, 'nlink'][at] = (
+                        Adds(-1, -1) if procedure == 'NFSPROC3_REMOVE' else Adds(-2, 0))
 
     def identity(self, handle: int) -> int:
         """Returns what an object is called in both runs, 0 if that is not known. Some handles are
@@ -134,24 +176,26 @@ class Changes:
         identities = self.outlines.identities
         return identities[handle] if handle < len(identities) else 0
 
-    def names_of(self, at: int) -> list[tuple[int, str]]:
+    def known_as(self, handle: int) -> int:
+        """Returns what an object is called in both runs, or else in its own."""
+        return self.identity(handle) or ~handle
+
+    def handles_of(self, known: int) -> Sequence[int]:
+        return self.facts.handles.get(known) or (~known,)
+
+    def names_of(self, at: int) -> list[ItemKey]:
         """Returns the names of a change, each in its folder."""
         names = self.facts.names.get(at, ())
         handles = self.outlines.objects_of(at)
-        return [(self.identity(handle), name)
+        return [(self.known_as(handle), name)
                 for handle, name in zip(handles[len(handles) - len(names):], names)]
 
-    def objects_of(self, at: int) -> Iterator[int]:
-        """Iterates over the objects of a change's handles, and what it makes."""
-        handles = [*self.outlines.objects_of(at), self.outlines.found[at]]
-        return filter(None, (self.identity(handle) for handle in handles if handle))
-
-    def met(self, at: int, key: ChangeKey) -> tuple[dict[int, int], dict[int, int]]:
+    def met(self, at: int, key: ItemKey, is_name: bool) -> tuple[dict[int, int], dict[int, int]]:
         """Returns the changes of a key as a question meets them, by their names: those that were
         answered before it was sent, and those that overlap it."""
         begin, end = self.frames_of(at)
         done, over = dict[int, int](), dict[int, int]()
-        for change in self.of_key.get(key, ()):
+        for change in (self.of_name if is_name else self.of_item).get(key, ()):
             its_begin, its_end = self.frames_of(change)
             if change == at:
                 continue
@@ -161,17 +205,7 @@ class Changes:
                 over[self.named(change)] = change
         return done, over
 
-    def leads(self, at: int, name: tuple[int, str]) -> set[int]:
-        """Returns to what a name may lead when an exchange is sent: as the last change before it
-        leaves it, those that overlap that, and those that overlap the exchange. It is empty if
-        there is no change."""
-        done, over = self.met(at, name)
-        begins = [self.frames_of(change) for change in done.values()]
-        last = max(begins, key=lambda frames: frames[1])[0] if begins else 0
-        near = [change for change in done.values() if self.frames_of(change)[1] >= last]
-        return {self.left_by(change, name) for change in (*near, *over.values())}
-
-    def left_by(self, at: int, name: tuple[int, str]) -> int:
+    def left_by(self, at: int, name: ItemKey) -> int:
         """Returns to what a name leads after a change of it."""
         procedure, outlines = self.outlines.procedure_of(at), self.outlines
         if procedure in REMOVING:
@@ -184,58 +218,79 @@ class Changes:
         handle = outlines.folders[at] if procedure == LINK else outlines.found[at]
         return (self.identity(handle) if handle else 0) or ANY_OBJECT
 
-    def led(self, at: int, name: tuple[int, str]) -> int:
-        """Returns to what a name led before a change, by what earlier answers say of it."""
+    def led(self, at: int, name: ItemKey) -> int:
+        """Returns to what a name led before a change, by earlier answers and changes."""
         begin = self.frames_of(at)[0]
-        told = [(self.frames_of(one)[1], self.identity(handle))
-                for folder in self.facts.handles.get(name[0], ())
+        told = [(self.frames_of(one)[1], value)
+                for one, effect in self.of_name.get(name, {}).items()
+                if isinstance(effect, Sets) and self.frames_of(one)[1] < begin
+                for value in effect.values if isinstance(value, int)]
+        told += [(self.frames_of(one)[1], self.identity(handle))
+                for folder in self.handles_of(name[0])
                 for one, handle in self.facts.leads.get((folder, name[1]), ())
                 if handle and self.frames_of(one)[1] < begin]
         return max(told)[1] or ANY_OBJECT if told else ANY_OBJECT
 
-    # --- Whether an answer agrees with others ---
+    # --- What answers may say ---
+
+    def name_line(self, name: ItemKey) -> Timeline:
+        """Returns to what a name leads when."""
+        if (name, True) not in self.timelines:
+            sights = [Sight(*self.frames_of(at), at, self.known_as(handle) if handle else GONE)
+                      for folder in self.handles_of(name[0])
+                      for at, handle in self.facts.leads.get((folder, name[1]), ())]
+            self.timelines[name, True] = Timeline(self.changes_of(self.of_name.get(name, {})),
+                                                  sights)
+        return self.timelines[name, True]
+
+    def led_to(self, at: int, name: ItemKey) -> tuple[set[Hashable], bool]:
+        """Returns to what a name may lead when a question is asked, and whether that is all."""
+        return self.name_line(name).values(Sight(*self.frames_of(at), at, None))
+
+    def names_of_folder(self, folder: int) -> set[str]:
+        """Returns the names of a folder that changes have."""
+        return {name for where, name in self.of_name if where == folder}
+
+    def entries_in(self, reply: Message) -> list[tuple[str, int]]:
+        """Returns the names of a listing, each with its handle, 0 if there is none."""
+        _, entries, _ = reply.entries()
+        return [((reply.value_of('name', entry) or '').strip('"'),
+                 int(reply.value_of('fh', entry) or '0', 16)) for entry in entries]
+
+    def changes_of(self, effects: dict[int, Effect]) -> Iterator[history.Change]:
+        return (history.Change(*self.frames_of(at), at, effect) for at, effect in effects.items())
+
+    def item_line(self, handle: int, item: str) -> Timeline:
+        """Returns what an item of an object was when."""
+        own = (self.known_as(handle), item), False
+        if own not in self.timelines:
+            facts = [fact for one in self.handles_of(own[0][0])
+                     for fact in self.facts.statements.get(one, ())]
+            sights = [Sight(*self.frames_of(fact.at), fact.at, getattr(fact.attributes, item))
+                      for fact in facts]
+            is_folder = bool(facts) and facts[0].attributes.type == FOLDER
+            kinds = {'size': history.Rough if is_folder else history.Size, 'nlink': history.Links}
+            kind = kinds.get(item, Timeline) if self.turns else Timeline
+            self.timelines[own] = kind(self.changes_of(self.of_item.get(own[0], {})),
+                                       sights)
+        return self.timelines[own]
+
+    def allows(self, at: int, handle: int, item: str, value: str,
+               is_before: bool = False) -> Optional[bool]:
+        """Returns whether an answer may have a value of an object, None if nothing says that."""
+        return self.item_line(handle, item).allows(
+            Sight(*self.frames_of(at), at, value, is_before))
 
     def disagrees(self, at: int, told: Statement) -> str:
-        """Returns why the attributes in an answer are not those of other answers, or nothing. With
-        an equal ctime all have to be equal. If there is none, the object has to be the same before
-        and after, with the mode and owners of one of both, and a known size."""
+        """Returns why the attributes in an answer are not those of its run, or nothing."""
         if told.attributes is None or told.name:
             return ''
-        own = told.attributes
-        others = [fact for fact in self.facts.statements[told.handle] if fact.at != at]
-        beside = [fact.attributes for fact in others if fact.ctime == told.ctime]
-        if beside:
-            return '' if own in beside else 'other attributes at the same ctime'
-        if not others:
-            return NOTHING_ELSE
-        near = neighbours(others, told.ctime)
-        has_owner = any((one.mode, one.uid, one.gid) == (own.mode, own.uid, own.gid)
-                        for one in near)
-        if not has_owner or any(constant(one) != constant(own) for one in near):
-            return 'other attributes than before and after'
-        is_known = (any(fact.attributes.size == own.size for fact in others)
-                    or int(own.size) <= self.end_of_writes(at, self.identity(told.handle)))
-        return '' if is_known else 'a size that no other answer has'
-
-    def end_of_writes(self, at: int, identity: int) -> int:
-        """Returns the largest end of WRITEs to an object that were sent before an answer, or -1."""
-        return max((self.facts.ends[one] for one in self.of_key.get(identity, ())
-                    if one in self.facts.ends
-                    and self.frames_of(one)[0] < self.frames_of(at)[1]), default=-1)
-
-
-def constant(one: SpelledAttributes) -> tuple[str, ...]:
-    """Returns what does not change of an object."""
-    return one.type, one.rdev1, one.rdev2, one.fsid, one.fileid
-
-
-def neighbours(others: Sequence[Fact], ctime: int) -> list[SpelledAttributes]:
-    """Returns what answers say of an object with the ctimes before and after one."""
-    before = max((fact for fact in others if fact.ctime < ctime),
-                 key=lambda fact: fact.ctime, default=None)
-    after = min((fact for fact in others if fact.ctime > ctime),
-                key=lambda fact: fact.ctime, default=None)
-    return [fact.attributes for fact in (before, after) if fact]
+        for item in (*LASTING_ITEMS, *KEPT_ITEMS):
+            is_allowed = self.allows(at, told.handle, item, getattr(told.attributes, item))
+            if not is_allowed:
+                return (NOTHING_ELSE if is_allowed is None else
+                        f'its {item} is not what the changes of its run leave')
+        return ''
 
 
 class BothChanges:
@@ -244,25 +299,56 @@ class BothChanges:
     def __init__(self, first: Changes, second: Changes) -> None:
         self.runs = first, second
 
-    def otherwise(self, pair: Pair, key: ChangeKey) -> list[Change]:
+    def otherwise(self, pair: Pair, key: ItemKey, is_name: bool = False) -> list[Change]:
         """Returns the changes of a key that stand otherwise to a question: in one run they were
         answered before it was sent, and in the other not, or they overlap it in either."""
         (first, over), (second, over_there) = both = [
-            changes.met(at, key) for changes, at in zip(self.runs, pair)]
+            changes.met(at, key, is_name) for changes, at in zip(self.runs, pair)]
         names = (first.keys() ^ second.keys()) | over.keys() | over_there.keys()
         found = {name: Change(name, run, (both[run][0] | both[run][1])[name]) for run in (1, 0)
                  for name in names & (both[run][0].keys() | both[run][1].keys())}
         return [found[name] for name in sorted(found)]
 
-    def beginning(self, pair: Pair, name: tuple[int, str]) -> set[int]:
-        """Returns to what a name led before all changes, as other answers of both runs say."""
-        return {changes.identity(handle) if handle else GONE
-                for changes, own in zip(self.runs, pair)
-                for folder in changes.facts.handles.get(name[0], ())
-                for one, handle in changes.facts.leads.get((folder, name[1]), ())
-                if one != own and not changes.leads(one, name)
-                and changes.outlines.procedure_of(one) in ('NFSPROC3_LOOKUP',
-                                                           'NFSPROC3_READDIRPLUS')}
+    def leads(self, run: int, at: int, name: ItemKey, to: Hashable) -> Optional[bool]:
+        """Returns whether a name may lead to an object, or to none, as an answer says. Before all
+        changes it leads where it does in the other run."""
+        own, other = (self.runs[one].name_line(name) for one in (run, 1 - run))
+        asked = Sight(*self.runs[run].frames_of(at), at, to)
+        is_allowed = own.allows(asked)
+        if is_allowed is None and not own.met(asked)[0]:
+            initial = other.initial()
+            return to in initial if initial else None
+        return is_allowed
+
+    def wrong_names(self, run: int, at: int) -> str:
+        """Returns why a listing has not the names that the changes of its run leave, or nothing."""
+        own, other = self.runs[run], self.runs[1 - run]
+        call, (reply,) = own.facts.messages[at]
+        folder = own.known_as(own.outlines.folders[at])
+        listed = [(name, handle) for name, handle in own.entries_in(reply) if name not in DOTS]
+        names = dict(listed)
+        if len(names) < len(listed):
+            return 'it has a name twice'
+        told, told_there = (one.facts.entries_of(folder, but)
+                            for one, but in ((own, at), (other, -1)))
+        for name, handle in listed:
+            values, is_all = own.led_to(at, (folder, name))
+            to = own.known_as(handle) if handle else ANY_OBJECT
+            if is_all and to not in values and (to != ANY_OBJECT or values == {GONE}):
+                return 'it has a name that is gone, or of another object'
+            if not is_all and to not in values and name not in told | told_there and not any(
+                    (folder, name) in one.of_name for one in self.runs):
+                return 'it has a name that no other answer has'
+        if not names or call.value_of('cookie') != '0':
+            return ''
+        wanted = own.names_of_folder(folder) | told
+        if not reply.text.endswith(' eof=1'):
+            wanted -= own.facts.later(own.outlines.folders[at], at, listed[-1][0])
+        for name in wanted - names.keys() - set(DOTS):
+            values, is_all = own.led_to(at, (folder, name))
+            if GONE not in values and (is_all or (folder, name) not in own.of_name):
+                return 'it lacks a name'
+        return ''
 
 
 def is_quiet(turns: tuple[Turns, Turns], pair: Pair) -> bool:

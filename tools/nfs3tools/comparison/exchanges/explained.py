@@ -14,24 +14,21 @@ most the end of a WRITE that was sent before. All ids are those that the run say
 from __future__ import annotations
 
 from collections.abc import Sequence
-from typing import NamedTuple, Optional
+from typing import NamedTuple
 
 from ...exchanges.in_words import LISTINGS
 from ...exchanges.objects import MAKING
 from ...exchanges.whose import Labels
 from ..values.classes import CLASSES, Mask, Way
-from .changes import ANY_OBJECT, GONE, NOTHING_ELSE, BothChanges, Change, ChangeKey, Changes
+from .changes import GONE, KEPT_ITEMS, TIMES, BothChanges, Change, Changes, ItemKey
 from .facts import DONE, LOOKUP, NO_ENTRY, is_silly
 from .matching import Pair
 
-SIZE_ITEMS = frozenset(('size', 'nlink'))
-BY_CHANGES = SIZE_ITEMS | {'used', 'atime_sec', 'atime_nsec', 'mtime_sec', 'mtime_nsec',
-                           'ctime_sec', 'ctime_nsec'}
-BY_SETTING = frozenset(('mode', 'uid', 'gid'))
+BY_CHANGES = frozenset(('used', 'atime_sec', 'atime_nsec', 'mtime_sec', 'mtime_nsec', 'ctime_sec',
+                        'ctime_nsec'))
 # Values that follow their objects and entries.
 FOLLOWING_ITEMS = {'fileid': 'ids', 'fsid': 'fsids', 'cookie': 'cookies',
                    'cookieverf': 'cookieverfs'}
-SETATTR = 'NFSPROC3_SETATTR'
 # The objects of which a call has the handles, by the words of labels: the folder of a LINK and the
 # target of a RENAME are second.
 SECOND_HANDLES = frozenset((('NFSPROC3_LINK', 'dir'), ('NFSPROC3_RENAME', 'to-dir')))
@@ -91,10 +88,9 @@ class Reply:
 
     def check_alone(self, identity: int) -> None:
         """Raises `Unexplained` if it disagrees with its run on an object that it alone shows."""
-        why = {self.changes.disagrees(self.at, one)
+        if any(self.changes.disagrees(self.at, one)
                for one in self.facts.said_in(self.at, self.message).statements
-               if one.handle and self.changes.identity(one.handle) == identity}
-        if why - {'', NOTHING_ELSE}:
+               if one.handle and self.changes.identity(one.handle) == identity):
             raise Unexplained
 
 
@@ -112,7 +108,7 @@ class Doubt:
     def __init__(self, changes: BothChanges, pair: Pair, mask: Mask, free: frozenset[str]) -> None:
         self.changes, self.pair, self.mask, self.free = changes, pair, mask, free
         self.facts = [run.facts for run in changes.runs]
-        self.found = dict[ChangeKey, list[Change]]()
+        self.found = dict[tuple[ItemKey, bool], list[Change]]()
         self.both = list[Reply]()
 
     def explained(self) -> list[Change] | None:
@@ -144,25 +140,22 @@ class Doubt:
             return self.of_listing()
         return self.of_fields(first.fields(), second.fields())
 
-    def otherwise(self, key: ChangeKey) -> list[Change]:
+    def otherwise(self, key: ItemKey, is_name: bool = False) -> list[Change]:
         """Returns the changes that stand otherwise to the pair. There has to be one."""
-        if key and key not in self.found:
-            self.found[key] = self.changes.otherwise(self.pair, key)
-        if not key or not self.found[key]:
+        if key[0] and (key, is_name) not in self.found:
+            self.found[key, is_name] = self.changes.otherwise(self.pair, key, is_name)
+        if not key[0] or not self.found[key, is_name]:
             raise Unexplained
-        return self.found[key]
+        return self.found[key, is_name]
 
     def of_lookup(self) -> list[Change]:
         """Each answer is as changes of the name leave it."""
         name = self.both[0].folder, self.facts[0].names[self.pair[0]][0]
-        found = self.otherwise(name)
-        for reply in self.both:
-            if reply.status not in (DONE, NO_ENTRY):
-                raise Unexplained
+        found = self.otherwise(name, is_name=True)
+        for run, reply in enumerate(self.both):
             to = reply.found if reply.status == DONE else GONE
-            leads = reply.changes.leads(reply.at, name) or self.changes.beginning(
-                self.pair, name) or {to}
-            if to not in leads and ANY_OBJECT not in leads:
+            if reply.status not in (DONE, NO_ENTRY) or not self.changes.leads(
+                    run, reply.at, name, to):
                 raise Unexplained
         for reply in self.both:
             if reply.found:
@@ -179,43 +172,24 @@ class Doubt:
         for one, other in zip(first, second):
             if one.value != other.value and one.name not in self.free:
                 found += self.of_field(one, other)
-        self.check_sizes(first, second)
         return found
 
     def of_field(self, one: Field, other: Field) -> list[Change]:
+        """Each value is one that the history of its run allows."""
         if one.identity != other.identity:
             raise Unexplained
         if one.name == 'fh':
             return []
-        if one.name in BY_CHANGES:
-            return self.otherwise(one.identity)
-        if one.name in BY_SETTING:
-            some = [change for change in self.otherwise(one.identity)
-                    if one.name in self.facts[change.run].sets.get(change.at, ())]
-            if some:
-                return some
-        raise Unexplained
-
-    def check_sizes(self, first: Sequence[Field], second: Sequence[Field]) -> None:
-        """Raises `Unexplained` if a size or a count of links differs that no other answer has."""
-        for part in {one.part for one, other in zip(first, second)
-                     if one.name in SIZE_ITEMS and one.value != other.value}:
-            for run, fields in enumerate((first, second)):
-                own = [field for field in fields if field.part == part]
-                values = {field.name: field.value for field in own}
-                if not self.is_told(run, own[0].identity, values.get('size'), values.get('nlink')):
+        if one.name not in BY_CHANGES and one.name not in KEPT_ITEMS:
+            raise Unexplained
+        found = self.otherwise((one.identity, TIMES if one.name in BY_CHANGES else one.name))
+        if one.name in KEPT_ITEMS:
+            for reply, field in zip(self.both, (one, other)):
+                handle = reply.changes.handles_of(field.identity)[0]
+                if not reply.changes.allows(reply.at, handle, field.name, field.value,
+                                            field.part.endswith('before')):
                     raise Unexplained
-
-    def is_told(self, run: int, identity: int, size: Optional[str], nlink: Optional[str]) -> bool:
-        """Whether another answer has a size and a count of links, or a WRITE the size."""
-        others = [fact.attributes for number, facts in enumerate(self.facts)
-                  for fact in facts.facts_of(identity)
-                  if (number, fact.at) != (run, self.pair[run])]
-        if any(size in (None, one.size) and nlink in (None, one.nlink) for one in others):
-            return True
-        return (size is not None
-                and int(size) <= self.changes.runs[run].end_of_writes(self.pair[run], identity)
-                and (nlink is None or any(nlink == one.nlink for one in others)))
+        return found
 
     # --- Folders ---
 
@@ -231,6 +205,9 @@ class Doubt:
             for key in (key for key in own if key not in its):
                 found += self.of_alone(key)
                 reply.check_alone(reply.object_in(own[key]))
+        for run, reply in enumerate(self.both):
+            if self.changes.wrong_names(run, reply.at):
+                raise Unexplained
         common = [key for key in ours if key in theirs]
         if [key for key in common if isinstance(key, str)] != [
                 key for key in theirs if key in ours and isinstance(key, str)]:
@@ -260,5 +237,5 @@ class Doubt:
     def of_alone(self, key: str | int) -> list[Change]:
         """Returns the changes of a name that stand otherwise. There have to be some."""
         if isinstance(key, int):
-            raise Unexplained
-        return self.otherwise((self.both[0].folder, key))
+            return self.otherwise((key, TIMES))
+        return self.otherwise((self.both[0].folder, key), is_name=True)

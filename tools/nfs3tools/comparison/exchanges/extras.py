@@ -11,9 +11,8 @@ from collections.abc import Container, Iterable
 
 from ...exchanges.in_words import LISTINGS, short
 from ...exchanges.listing import Message
-from ...exchanges.searches import names_in
-from .changes import ANY_OBJECT, GONE, BothChanges
-from .facts import ACCESS, DONE, LOOKUP, NO_ENTRY, is_silly
+from .changes import GONE, BothChanges
+from .facts import ACCESS, DONE, LOOKUP, NO_ENTRY, RESULTS
 
 FEW, SHARE = 10, 10  # so many calls of a procedure, or one of so many
 Question = tuple[str, int, tuple[str, ...]]  # the procedure, the object, and the name
@@ -52,13 +51,13 @@ class Extras:
 
     def wrong(self, at: int, other: 'Extras') -> str:
         """Returns why a call is no matter of caches, or nothing."""
-        call, replies = self.facts.messages[at]
+        _, replies = self.facts.messages[at]
         if len(replies) != 1:
             return 'it has no reply' if not replies else 'it has several replies'
         status = replies[0].value_of('status')
         if status is None:
             return '' if replies[0].value_of('accept_stat') == DONE else 'it is not accepted'
-        if status not in (DONE, NO_ENTRY):
+        if status != DONE and (status, self.outlines.procedure_of(at)) != (NO_ENTRY, LOOKUP):
             return 'it has failed'
         folder = self.outlines.object_of(at)
         if self.outlines.folders[at] not in self.shared and folder not in other.objects:
@@ -66,9 +65,9 @@ class Extras:
         names = [(folder, name) for name in self.facts.names.get(at, ())]
         if not other.names.issuperset(names):
             return 'the other run does not know the name'
-        return (self.wrong_attributes(at, replies[0])
-                or self.wrong_access(at) or self.wrong_lead(at, status)
-                or self.wrong_entries(at, call.value_of('cookie') or '', replies[0].text, other))
+        return (self.wrong_attributes(at, replies[0]) or self.wrong_results(at, other)
+                or self.wrong_access(at, other) or self.wrong_lead(at, status)
+                or self.wrong_entries(at))
 
     def wrong_attributes(self, at: int, reply: Message) -> str:
         if at in self.facts.odd:
@@ -77,13 +76,32 @@ class Extras:
                  for one in self.facts.said_in(at, reply).statements)
         return next(filter(None, found), '')
 
-    def wrong_access(self, at: int) -> str:
+    def wrong_results(self, at: int, other: 'Extras') -> str:
+        """Returns why its results are not those of the same question, or nothing."""
+        procedure = self.outlines.procedure_of(at)
+        if procedure not in RESULTS:
+            return ''
+        said = dict(self.facts.results[procedure, self.outlines.folders[at]])
+        own = said.pop(at)
+        others = {*said.values()} or {
+            text for handle in other.changes.handles_of(self.outlines.object_of(at))
+            for _, text in other.facts.results.get((procedure, handle), ())}
+        return '' if own in others else 'no other answer has its results'
+
+    def wrong_access(self, at: int, other: 'Extras') -> str:
+        """Returns why it grants what others of its object do not, bit by bit, or nothing."""
         if self.outlines.procedure_of(at) != ACCESS:
             return ''
-        some = self.facts.bits[self.outlines.folders[at], self.facts.asked_bits[at]]
-        own, others = ({bits for one, bits in some if (one == at) is is_own}
-                       for is_own in (True, False))
-        return '' if not others or own <= others else 'it grants something else'
+        asked, handle = self.facts.asked_bits[at], self.outlines.folders[at]
+        own = next((bits for one, _, bits in self.facts.bits[handle] if one == at), 0)
+        told = [(mask, bits) for run, handles in (
+                    (self, (handle,)), (other, other.changes.handles_of(self.changes.known_as(handle))))
+                for its in handles for one, mask, bits in run.facts.bits.get(its, ())
+                if (run, one) != (self, at)]
+        differs = (bit for bit in (1 << place for place in range(32))
+                   if asked & bit and own & bit not in {
+                       bits & bit for mask, bits in told if mask & bit})
+        return 'it grants something else' if any(differs) else ''
 
     def wrong_lead(self, at: int, status: str) -> str:
         """Returns why a LOOKUP leads elsewhere than the changes of its run say, or nothing."""
@@ -91,29 +109,13 @@ class Extras:
             return ''
         name = self.outlines.object_of(at), self.facts.names[at][0]
         handle = self.outlines.found[at]
-        to = self.outlines.identities[handle] if status == DONE else GONE
-        pair = (at, -1) if self.run == 0 else (-1, at)
-        leads = self.changes.leads(at, name) or self.both.beginning(pair, name) or {to}
-        return '' if to in leads or ANY_OBJECT in leads else 'the name leads elsewhere'
+        to = self.changes.known_as(handle) if status == DONE and handle else GONE
+        return '' if self.both.leads(self.run, at, name, to) else 'the name leads elsewhere'
 
-    # --- Folders ---
-
-    def wrong_entries(self, at: int, cookie: str, text: str, other: 'Extras') -> str:
-        """Returns why a listing has not the names that the changes of its run leave, or nothing."""
+    def wrong_entries(self, at: int) -> str:
         if self.outlines.procedure_of(at) not in LISTINGS or not self.changes.turns:
             return ''
-        folder, names = self.outlines.object_of(at), set(names_in(text))
-        leads = {key[1]: self.changes.leads(at, key) for key in self.changes.of_key
-                 if not isinstance(key, int) and key[0] == folder}
-        if any(leads.get(name) == {GONE} for name in names):
-            return 'it has a name that is gone'
-        own = self.facts.entries_of(folder, at)
-        if names - leads.keys() - own - other.facts.entries_of(folder, -1):
-            return 'it has a name that no other answer has'
-        stay = {name for name, some in leads.items() if some and not some & {GONE, ANY_OBJECT}}
-        wanted = {name for name in stay | own - leads.keys() if not is_silly(name)}
-        is_whole = cookie == '0' and text.endswith(' eof=1')
-        return 'it lacks a name' if is_whole and wanted - names else ''
+        return self.both.wrong_names(self.run, at)
 
 
 def refused(first: Extras, second: Extras) -> ReasonsOfCalls:

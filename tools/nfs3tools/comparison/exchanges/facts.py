@@ -14,13 +14,14 @@ from ...exchanges.in_words import LISTINGS
 from ...exchanges.listing import Line, Message
 from ...exchanges.objects import MAKING
 from ...exchanges.searches import (
-    ReplyPart, SpelledAttributes, access_in, end_of_write_in, names_in, parts_in, settings_in)
-from ..values.classes import CLASSES
-from .outlines import CHANGING, Outlines
+    ReplyPart, SpelledAttributes, access_in, names_in, parts_in, settings_in,
+    results_in, written_in)
+from .outlines import CHANGING, SILLY, Outlines
 
 LOOKUP, ACCESS, LINK = 'NFSPROC3_LOOKUP', 'NFSPROC3_ACCESS', 'NFSPROC3_LINK'
 DONE, NO_ENTRY = '0', '2'
-SILLY = next(one for one in CLASSES if one.name == 'sillynames')
+# Questions of which the same results are expected each time
+RESULTS = frozenset(f'NFSPROC3_{name}' for name in ('READLINK', 'FSSTAT', 'FSINFO', 'PATHCONF'))
 
 
 class Statement(NamedTuple):
@@ -106,9 +107,9 @@ class Facts:
     leads: by folders and names, to what a name leads, with the exchange that says it
     names: those of each call that has some
     sets: what a SETATTR or a call that makes something sets
-    ends: where a WRITE ends
+    writes: where a WRITE begins and ends
     changing: the calls that changed something
-    bits: by handles and what was asked, what ACCESS grants
+    bits: by handles, exchanges of ACCESS with what was asked and what is granted
     messages: some exchanges, taken apart
     """
 
@@ -119,15 +120,20 @@ class Facts:
         self.outlines, self.wanted, self.objects = outlines, wanted, objects
         self.statements = defaultdict[int, list[Fact]](list)
         self.leads = defaultdict[tuple[int, str], list[tuple[int, int]]](list)
-        self.names, self.sets = dict[int, tuple[str, ...]](), dict[int, frozenset[str]]()
-        self.ends, self.changing = dict[int, int](), list[int]()
-        self.bits = defaultdict[tuple[int, str], list[tuple[int, str]]](list)
+        self.names, self.sets = dict[int, tuple[str, ...]](), dict[int, dict[str, str]]()
+        self.writes, self.changing = dict[int, tuple[int, int]](), list[int]()
+        self.bits = defaultdict[int, list[tuple[int, int, int]]](list)
         self.messages = dict[int, tuple[Message, list[Message]]]()
         self.votes = defaultdict[Known, Counter[Id]](Counter)
         self.tellers = defaultdict[tuple[Known, Id], list[int]](list)
         # By folders and names of entries, two exchanges that say them.
         self.entries = dict[tuple[int, str], tuple[int, ...]]()
-        self.asked_bits = dict[int, str]()
+        self.asked_bits = dict[int, int]()
+        # By folders, the longest listings, and those that do not begin at the beginning; by
+        # questions, the results but for attributes
+        self.parts = set[int]()
+        self.orders = defaultdict[int, list[tuple[int, list[str]]]](list)
+        self.results = defaultdict[tuple[str, int], list[tuple[int, str]]](list)
         for at, line in outlines.located(lines):
             (self.take_call if line.is_call else self.take_reply)(at, line)
 
@@ -138,13 +144,15 @@ class Facts:
         names = names_in(text)
         if names:
             self.names[at] = tuple(names)
+        if line.procedure in LISTINGS and ' cookie=0 ' not in text:
+            self.parts.add(at)
         if line.procedure == ACCESS:
-            self.asked_bits[at] = text[text.rfind('='):]
+            self.asked_bits[at] = int(text[text.rfind('=') + 1:])
         if line.procedure in CHANGING and at not in self.outlines.unmade:
             self.changing.append(at)
-            end, settings = end_of_write_in(text), settings_in(text)
-            if end is not None:
-                self.ends[at] = end
+            written, settings = written_in(text), settings_in(text)
+            if written:
+                self.writes[at] = written
             elif settings:
                 self.sets[at] = settings
 
@@ -160,13 +168,18 @@ class Facts:
             self.take_told(at, one)
         for folder, name, handle in answer.leads:
             self.leads[folder, name].append((at, handle))
+        if line.procedure in RESULTS and handles:
+            self.results[line.procedure, handles[0]].append((at, results_in(line.text)))
         if line.procedure in LISTINGS and handles:
-            for name in names_in(line.text):
+            listed = names_in(line.text)
+            self.orders[handles[0]] = sorted(
+                [*self.orders[handles[0]], (at, listed)], key=lambda one: -len(one[1]))[:4]
+            for name in listed:
                 self.entries[handles[0], name] = (at, *self.entries.get((handles[0], name), ()))[:2]
         if line.procedure == ACCESS and handles:
             granted = access_in(line.text)
             if granted is not None:
-                self.bits[handles[0], self.asked_bits[at]].append((at, granted))
+                self.bits[handles[0]].append((at, self.asked_bits[at], int(granted)))
 
     def said_in(self, at: int, reply: Line | Message) -> ReplyFacts:
         """Returns what a reply of an exchange says."""
@@ -204,15 +217,21 @@ class Facts:
                 out[identity].append(handle)
         return out
 
+    def later(self, folder: int, but: int, name: str) -> set[str]:
+        """Returns the names that other listings of a folder have after one, or in a part that is
+        not its beginning."""
+        out = set[str]()
+        for at, listed in self.orders.get(folder, ()):
+            if at != but:
+                out.update(listed if at in self.parts else
+                           listed[listed.index(name) + 1:] if name in listed else ())
+        return out
+
     def entries_of(self, folder: int, but: int) -> set[str]:
         """Returns the names that listings of a folder have, other than one."""
         handles = set(self.handles.get(folder, ()))
         return {name for (handle, name), some in self.entries.items()
                 if handle in handles and any(at != but for at in some)}
-
-    def facts_of(self, identity: int) -> Iterator[Fact]:
-        return (fact for handle in self.handles.get(identity, ())
-                for fact in self.statements.get(handle, ()))
 
 
 def is_silly(name: str) -> bool:

@@ -27,6 +27,7 @@ from ..values.classes import CLASSES, Mask, Way
 CHANGING = frozenset(f'NFSPROC3_{name}' for name in (
     'SETATTR', 'WRITE', 'CREATE', 'MKDIR', 'SYMLINK', 'MKNOD', 'REMOVE', 'RMDIR', 'RENAME', 'LINK'))
 NAMING = MAKING | {'MOUNTPROC3_MNT'}  # calls whose answers have the handle of a name
+SILLY = next(one for one in CLASSES if one.name == 'sillynames')
 DOT_HASHES = hash('.'), hash('..')  # the folder itself, and the one above it
 UNSEEN, SEEN, MADE = range(3)  # how well it is known where an object is
 
@@ -122,6 +123,7 @@ class Outlines:
         self.further: dict[int, list[int]] = {}  # the records of further replies
         # The records of retransmissions, and of replies to these that say the same again
         self.again, self.repeated = dict[int, list[int]](), dict[int, set[int]]()
+        self.removed = dict[int, list[int]]()  # handles of removed files in listings
         self.unmade = set[int]()  # calls that would have changed something, and failed
         self.objects = HandleOrigins()
         pattern = renamed_values(mask)
@@ -194,6 +196,8 @@ class Outlines:
         elif procedure == LISTING:
             for entry, handle in entries_in(rest):
                 self.objects.learn(handle, folder, hash(entry), SEEN, at)
+                if SILLY.has_value(f'"{entry}"'):
+                    self.removed.setdefault(at, []).append(handle)
 
     def ask_of_objects(self, when: Callable[[int], int]) -> None:
         """In what a call asks, objects take the place of handles, which each run numbers anew."""
@@ -206,6 +210,9 @@ class Outlines:
             second = identities[self.seconds[at]] if at in self.seconds else 0
             self.asked[at] = asked = hash((asked, identities[folder], second))
             self.said[at] = hash((said, asked, identities[found]))
+        for at, handles in self.removed.items():
+            self.said[at] = hash((self.said[at], *(
+                identities[handle] for handle in handles if handle < len(identities))))
         self.identities = identities
 
     def procedure_of(self, at: int) -> str:
