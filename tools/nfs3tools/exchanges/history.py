@@ -200,11 +200,19 @@ class Links(Timeline):
     """A number of links: that of another answer, and what the changes between both add."""
 
     def allows(self, asked: Sight) -> Optional[bool]:
-        some = [(one.begin - one.end, *self.counted(one, asked)) for one in self.around(asked)]
-        width = min((most - least for _, least, most in some), default=0)
+        """The answers before it have to allow it, and those after it."""
+        others = self.around(asked)
+        before = [one for one in others if one.end < asked.begin]
+        after = [one for one in others if one.begin > asked.end]
+        groups = [some for some in (before, after) if some] or [others] * bool(others)
+        return all(self.is_counted(some, asked) for some in groups) if groups else None
+
+    def is_counted(self, some: Sequence[Sight], asked: Sight) -> bool:
+        """Whether one of the answers that say most allows it."""
+        ranges = [self.counted(one, asked) for one in some]
+        width = min(most - least for least, most in ranges)
         value = int(str(asked.value))
-        return None if not some else any(least <= value <= most for _, least, most in some
-                                         if most - least == width)
+        return any(least <= value <= most for least, most in ranges if most - least == width)
 
     def counted(self, one: Sight, asked: Sight) -> tuple[int, int]:
         """Returns the least and the largest number by another answer."""

@@ -121,6 +121,7 @@ def all_of(pattern: str) -> Callable[[str], list[Any]]:
 
 
 first_name_in = first_of(r' (?:name|dirpath)="([^"]*)"')  # or the path of a MNT
+count_in = first_of(r' count=(\d+)')  # how many bytes were written
 access_in = first_of(r' access=(\d+)')  # what an ACCESS grants
 verifier_in = first_of(r' createverf=([^ ]+)')  # of an exclusive CREATE
 cookies_in = all_of(r' cookie=(\d+)')

@@ -143,8 +143,8 @@ class Changes:
             self.take_names(at, procedure, objects)
         if made:
             for item in SET_ITEMS:
-                value = sets.get(at, {}).get(item)
-                self.of_item[made, item][at] = Sets(frozenset((value,) if value else ()))
+                asked = [sets[at][item]] if item in sets.get(at, {}) else []
+                self.of_item[made, item][at] = Sets(frozenset(asked))
 
     def take_names(self, at: int, procedure: str, objects: list[int]) -> None:
         names = self.names_of(at)
@@ -154,7 +154,8 @@ class Changes:
             self.of_item[objects[0], 'nlink'][at] = Adds(1, 1)
         elif procedure == LINK:
             self.of_item[objects[0], 'nlink'][at] = Adds(1, 1)
-        elif procedure == RENAMING:
+        elif procedure == RENAMING and not self.is_file(
+                self.led(at, names[0])):
             for folder in objects:
                 self.of_item[folder, 'nlink'][at] = Adds(-1, len(set(objects)) - 1)
         elif procedure == 'NFSPROC3_RMDIR':
@@ -175,6 +176,11 @@ class Changes:
         in entries of folders alone."""
         identities = self.outlines.identities
         return identities[handle] if handle < len(identities) else 0
+
+    def is_file(self, known: int) -> bool:
+        """Whether an object is known, and no folder."""
+        return any(fact.attributes.type != FOLDER for handle in self.handles_of(known)
+                   for fact in self.facts.statements.get(handle, ())[:1])
 
     def known_as(self, handle: int) -> int:
         """Returns what an object is called in both runs, or else in its own."""
@@ -239,9 +245,23 @@ class Changes:
             sights = [Sight(*self.frames_of(at), at, self.known_as(handle) if handle else GONE)
                       for folder in self.handles_of(name[0])
                       for at, handle in self.facts.leads.get((folder, name[1]), ())]
+            sights += [Sight(*self.frames_of(at), at, GONE) for folder in self.handles_of(name[0])
+                       for at in self.without(folder, name[1])]
             self.timelines[name, True] = Timeline(self.changes_of(self.of_name.get(name, {})),
                                                   sights)
         return self.timelines[name, True]
+
+    def without(self, folder: int, name: str) -> Iterator[int]:
+        """Iterates over exchanges that say that a name is not in a folder: MKDIR of the folder, and
+        whole listings."""
+        outlines = self.outlines
+        if folder < len(outlines.objects.known) and outlines.objects.known[folder]:
+            at = outlines.objects.origins[folder]
+            if outlines.procedure_of(at) == MAKING_FOLDER:
+                yield at
+        for at, listed in self.facts.orders.get(folder, ()):
+            if at in self.facts.wholes and name not in listed:
+                yield at
 
     def led_to(self, at: int, name: ItemKey) -> tuple[set[Hashable], bool]:
         """Returns to what a name may lead when a question is asked, and whether that is all."""

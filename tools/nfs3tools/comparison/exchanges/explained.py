@@ -209,8 +209,8 @@ class Doubt:
             if self.changes.wrong_names(run, reply.at):
                 raise Unexplained
         common = [key for key in ours if key in theirs]
-        if [key for key in common if isinstance(key, str)] != [
-                key for key in theirs if key in ours and isinstance(key, str)]:
+        if [key for key in common if self.has_a_place(key)] != [
+                key for key in theirs if key in ours and self.has_a_place(key)]:
             raise Unexplained
         for key in common:
             found += self.of_entry(key, ours[key], theirs[key])
@@ -220,6 +220,11 @@ class Doubt:
         """Returns the name of an entry, or the object of one whose name is masked."""
         name = (reply.message.value_of('name', entry) or '').strip('"')
         return reply.object_in(entry) if 'sillynames' in self.mask and is_silly(name) else name
+
+    def has_a_place(self, key: str | int) -> bool:
+        """Whether an entry was there all the time: others come where the server puts them."""
+        return isinstance(key, str) and not any(
+            (self.both[0].folder, key) in run.of_name for run in self.changes.runs)
 
     def of_entry(self, key: str | int, first: range, second: range) -> list[Change]:
         both = list(zip(self.both, (first, second)))

@@ -14,7 +14,7 @@ from ...exchanges.in_words import LISTINGS
 from ...exchanges.listing import Line, Message
 from ...exchanges.objects import MAKING
 from ...exchanges.searches import (
-    ReplyPart, SpelledAttributes, access_in, names_in, parts_in, settings_in,
+    ReplyPart, SpelledAttributes, access_in, count_in, names_in, parts_in, settings_in,
     results_in, written_in)
 from .outlines import CHANGING, SILLY, Outlines
 
@@ -131,7 +131,7 @@ class Facts:
         self.asked_bits = dict[int, int]()
         # By folders, the longest listings, and those that do not begin at the beginning; by
         # questions, the results but for attributes
-        self.parts = set[int]()
+        self.parts, self.wholes = set[int](), set[int]()
         self.orders = defaultdict[int, list[tuple[int, list[str]]]](list)
         self.results = defaultdict[tuple[str, int], list[tuple[int, str]]](list)
         for at, line in outlines.located(lines):
@@ -159,6 +159,10 @@ class Facts:
     def take_reply(self, at: int, line: Line) -> None:
         if at in self.wanted:
             self.messages[at][1].append(line.message())
+        if at in self.writes:
+            first, count = self.writes[at][0], count_in(line.text)
+            if count is not None:
+                self.writes[at] = first, first + int(count)
         handles = self.outlines.objects_of(at)
         if self.objects is not None and line.procedure not in LISTINGS and not any(
                 handle in self.objects for handle in (*handles, self.outlines.found[at])):
@@ -172,6 +176,8 @@ class Facts:
             self.results[line.procedure, handles[0]].append((at, results_in(line.text)))
         if line.procedure in LISTINGS and handles:
             listed = names_in(line.text)
+            if at not in self.parts and line.text.endswith(' eof=1'):
+                self.wholes.add(at)
             self.orders[handles[0]] = sorted(
                 [*self.orders[handles[0]], (at, listed)], key=lambda one: -len(one[1]))[:4]
             for name in listed:
