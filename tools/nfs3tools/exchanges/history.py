@@ -8,8 +8,10 @@ rules, and what nobody says is not known.
 """
 from __future__ import annotations
 
+from bisect import bisect_left, bisect_right
 from collections.abc import Hashable, Iterable, Iterator, Sequence
-from typing import NamedTuple, Optional, Union
+from itertools import accumulate
+from typing import NamedTuple, Optional, TypeVar, Union
 
 NEAREST = 8  # so many answers before a question, and after it, count links
 
@@ -60,12 +62,48 @@ def latest(some: Sequence[Change]) -> list[Change]:
     return [one for one in some if one.end >= begin]
 
 
+Spanned = TypeVar('Spanned', bound=Union[Change, Sight])
+
+
+class Ordered(list[Spanned]):
+    """Changes or answers in the order of their begins, of which some are found without looking at
+    all."""
+
+    def __init__(self, some: Iterable[Spanned]) -> None:
+        super().__init__(sorted(some, key=lambda one: one.begin))
+        self.begins = [one.begin for one in self]
+        # The last end up to each
+        ends: Iterator[int] = accumulate((one.end for one in self), max)
+        self.last_ends = list(ends)
+        self.ended = sorted(self, key=lambda one: one.end)
+        self.ends = [one.end for one in self.ended]
+
+    def before(self, begin: int, most: int) -> list[Spanned]:
+        """Returns the last ones that ended before a frame."""
+        at = bisect_left(self.ends, begin)
+        return self.ended[max(at - most, 0):at]
+
+    def after(self, end: int, most: int) -> list[Spanned]:
+        """Returns the first ones that begin after a frame."""
+        at = bisect_right(self.begins, end)
+        return self[at:at + most]
+
+    def between(self, begin: int, end: int) -> list[Spanned]:
+        """Returns those of which a part is between two frames."""
+        out, at = list[Spanned](), bisect_right(self.begins, end)
+        while at and self.last_ends[at - 1] >= begin:
+            at -= 1
+            if self[at].end >= begin:
+                out.append(self[at])
+        return out[::-1]
+
+
 class Timeline:
     """A value that changes set, each to what it says."""
 
     def __init__(self, changes: Iterable[Change], sights: Iterable[Sight]) -> None:
-        self.changes = sorted(changes, key=lambda one: one.begin)
-        self.sights = sorted(sights, key=lambda one: one.begin)
+        self.changes = Ordered(changes)
+        self.sights = Ordered(sights)
 
     def setters(self) -> list[Change]:
         return [one for one in self.changes if isinstance(one.effect, Sets)]
@@ -117,11 +155,10 @@ class Timeline:
 
     def around(self, asked: Sight) -> list[Sight]:
         """Returns some answers before a question, all that overlap it, and some after it."""
-        others = [one for one in self.sights if one.source != asked.source]
-        before = sorted((one for one in others if one.end < asked.begin),
-                        key=lambda one: one.end)[-NEAREST:]
-        over = [one for one in others if one.end >= asked.begin and one.begin <= asked.end]
-        return before + over + [one for one in others if one.begin > asked.end][:NEAREST]
+        return [one for one in (*self.sights.before(asked.begin, NEAREST),
+                                *self.sights.between(asked.begin, asked.end),
+                                *self.sights.after(asked.end, NEAREST))
+                if one.source != asked.source]
 
     def passed(self, one: Sight, asked: Sight) -> tuple[list[Change], list[Change]]:
         """Returns the changes that were carried out between two answers, and those that may have
@@ -129,7 +166,7 @@ class Timeline:
         first, second = (one, asked) if one.end < asked.begin else (asked, one)
         is_apart = first.end < second.begin
         surely, maybe = list[Change](), list[Change]()
-        for change in self.changes:
+        for change in self.changes.between(first.begin, max(first.end, second.end)):
             if change.source in (one.source, asked.source):
                 its = one if change.source == one.source else asked
                 if not is_apart:
