@@ -237,19 +237,10 @@ class Links(Timeline):
     """A number of links: that of another answer, and what the changes between both add."""
 
     def allows(self, asked: Sight) -> Optional[bool]:
-        """The answers before it have to allow it, and those after it."""
-        others = self.around(asked)
-        before = [one for one in others if one.end < asked.begin]
-        after = [one for one in others if one.begin > asked.end]
-        groups = [some for some in (before, after) if some] or [others] * bool(others)
-        return all(self.is_counted(some, asked) for some in groups) if groups else None
-
-    def is_counted(self, some: Sequence[Sight], asked: Sight) -> bool:
-        """Whether one of the answers that say most allows it."""
-        ranges = [self.counted(one, asked) for one in some]
-        width = min(most - least for least, most in ranges)
+        """All answers near it have to allow it."""
+        ranges = [self.counted(one, asked) for one in self.around(asked)]
         value = int(str(asked.value))
-        return any(least <= value <= most for least, most in ranges if most - least == width)
+        return all(least <= value <= most for least, most in ranges) if ranges else None
 
     def counted(self, one: Sight, asked: Sight) -> tuple[int, int]:
         """Returns the least and the largest number by another answer."""
