@@ -38,7 +38,7 @@ class Adds(NamedTuple):
 Effect = Union[Sets, Grows, Adds]
 
 
-class Change(NamedTuple):
+class TimedChange(NamedTuple):
     """A change: the frames between which it was carried out, its exchange, and what it does."""
     begin: int
     end: int
@@ -46,7 +46,7 @@ class Change(NamedTuple):
     effect: Effect
 
 
-class Sight(NamedTuple):
+class Sighting(NamedTuple):
     """What an answer says: the frames between which it was true, the exchange, and the value. That
     of a change is of what was after it, or before."""
     begin: int
@@ -56,13 +56,13 @@ class Sight(NamedTuple):
     is_before: bool = False
 
 
-def latest(some: Sequence[Change]) -> list[Change]:
+def latest(some: Sequence[TimedChange]) -> list[TimedChange]:
     """Returns those after which no other one begins."""
     begin = max((one.begin for one in some), default=0)
     return [one for one in some if one.end >= begin]
 
 
-Spanned = TypeVar('Spanned', bound=Union[Change, Sight])
+Spanned = TypeVar('Spanned', bound=Union[TimedChange, Sighting])
 
 
 class Ordered(list[Spanned]):
@@ -101,19 +101,19 @@ class Ordered(list[Spanned]):
 class Timeline:
     """A value that changes set, each to what it says."""
 
-    def __init__(self, changes: Iterable[Change], sights: Iterable[Sight]) -> None:
+    def __init__(self, changes: Iterable[TimedChange], sights: Iterable[Sighting]) -> None:
         self.changes = Ordered(changes)
         self.sights = Ordered(sights)
 
-    def setters(self) -> list[Change]:
+    def setters(self) -> list[TimedChange]:
         return [one for one in self.changes if isinstance(one.effect, Sets)]
 
-    def allows(self, asked: Sight) -> Optional[bool]:
-        """Returns whether the value is one of those that the run allows, None if it does not say."""
+    def allows(self, asked: Sighting) -> Optional[bool]:
+        """Returns whether the run allows the value, None if it does not say."""
         values, is_all = self.values(asked)
         return True if asked.value in values else False if is_all else None
 
-    def values(self, asked: Sight) -> tuple[set[Hashable], bool]:
+    def values(self, asked: Sighting) -> tuple[set[Hashable], bool]:
         """Returns the values that an answer may have, and whether they are all."""
         near, over = self.met(asked)
         left = [self.left(one, asked) for one in (*near, *over)]
@@ -125,7 +125,7 @@ class Timeline:
         same = {one.value for one in self.around(asked) if not any(self.passed(one, asked))}
         return values | same, not near and not over and bool(same)
 
-    def met(self, asked: Sight) -> tuple[list[Change], list[Change]]:
+    def met(self, asked: Sighting) -> tuple[list[TimedChange], list[TimedChange]]:
         """Returns the last changes before an answer, and those that overlap it. A change is before
         its own answer."""
         others = [one for one in self.setters() if one.source != asked.source]
@@ -133,7 +133,7 @@ class Timeline:
         over = [one for one in others if one.begin <= asked.end and one.end >= asked.begin]
         return own or latest([one for one in others if one.end < asked.begin]), over
 
-    def left(self, change: Change, asked: Sight) -> set[Hashable]:
+    def left(self, change: TimedChange, asked: Sighting) -> set[Hashable]:
         """Returns what a change left: as it was asked, and as answers say."""
         assert isinstance(change.effect, Sets)
         told = {one.value for one in self.sights
@@ -143,7 +143,7 @@ class Timeline:
             and one.begin > change.end and latest([
                 other for other in self.setters() if other.begin <= one.end]) == [change]}
 
-    def initial(self, asked: Sight | None = None) -> set[Hashable]:
+    def initial(self, asked: Sighting | None = None) -> set[Hashable]:
         """Returns the value before all changes, as other answers say, or the first change."""
         setters, source = self.setters(), asked.source if asked else None
         end = min((one.end for one in setters), default=0)
@@ -153,19 +153,19 @@ class Timeline:
                 *(one.effect.found for one in setters
                   if isinstance(one.effect, Sets) and one.begin <= end and one.source != source))
 
-    def around(self, asked: Sight) -> list[Sight]:
+    def around(self, asked: Sighting) -> list[Sighting]:
         """Returns some answers before a question, all that overlap it, and some after it."""
         return [one for one in (*self.sights.before(asked.begin, NEAREST),
                                 *self.sights.between(asked.begin, asked.end),
                                 *self.sights.after(asked.end, NEAREST))
                 if one.source != asked.source]
 
-    def passed(self, one: Sight, asked: Sight) -> tuple[list[Change], list[Change]]:
+    def passed(self, one: Sighting, asked: Sighting) -> tuple[list[TimedChange], list[TimedChange]]:
         """Returns the changes that were carried out between two answers, and those that may have
         been."""
         first, second = (one, asked) if one.end < asked.begin else (asked, one)
         is_apart = first.end < second.begin
-        surely, maybe = list[Change](), list[Change]()
+        surely, maybe = list[TimedChange](), list[TimedChange]()
         for change in self.changes.between(first.begin, max(first.end, second.end)):
             if change.source in (one.source, asked.source):
                 its = one if change.source == one.source else asked
@@ -183,11 +183,11 @@ class Timeline:
         return surely, maybe
 
 
-class Size(Timeline):
+class FileSize(Timeline):
     """The size of a file: what was set, or the end of a WRITE, of which a part may be done while it
     is carried out."""
 
-    def allows(self, asked: Sight) -> Optional[bool]:
+    def allows(self, asked: Sighting) -> Optional[bool]:
         bases, is_all = list(self.bases(asked)), True
         own, value = asked.source, int(str(asked.value))
         for begin, end, size in bases:
@@ -210,7 +210,7 @@ class Size(Timeline):
                 return True
         return False if bases and is_all else self.later(asked)
 
-    def bases(self, asked: Sight) -> Iterator[tuple[int, int, Hashable]]:
+    def bases(self, asked: Sighting) -> Iterator[tuple[int, int, Hashable]]:
         """Iterates over sizes that are known before, each with the frames between which it was so,
         and None for one that is not known."""
         near, over = self.met(asked)
@@ -227,22 +227,22 @@ class Size(Timeline):
                 if one.end >= begin:
                     yield one.begin, one.end, one.value
 
-    def later(self, asked: Sight) -> Optional[bool]:
+    def later(self, asked: Sighting) -> Optional[bool]:
         """Returns whether answers have the same size if no change is between."""
         same = {one.value for one in self.around(asked) if not any(self.passed(one, asked))}
         return asked.value in same if same else None
 
 
-class Links(Timeline):
+class LinkCount(Timeline):
     """A number of links: that of another answer, and what the changes between both add."""
 
-    def allows(self, asked: Sight) -> Optional[bool]:
+    def allows(self, asked: Sighting) -> Optional[bool]:
         """All answers near it have to allow it."""
         ranges = [self.counted(one, asked) for one in self.around(asked)]
         value = int(str(asked.value))
         return all(least <= value <= most for least, most in ranges) if ranges else None
 
-    def counted(self, one: Sight, asked: Sight) -> tuple[int, int]:
+    def counted(self, one: Sighting, asked: Sighting) -> tuple[int, int]:
         """Returns the least and the largest number by another answer."""
         surely, maybe = ([change.effect for change in some if isinstance(change.effect, Adds)]
                          for some in self.passed(one, asked))
@@ -256,11 +256,11 @@ class Links(Timeline):
         return value + min(least, -most), value + max(most, -least)
 
 
-class Rough(Timeline):
+class FolderSize(Timeline):
     """The size of a folder, of which servers make what they want: between those of the answers
     next to it. Without a change between, it is equal."""
 
-    def allows(self, asked: Sight) -> Optional[bool]:
+    def allows(self, asked: Sighting) -> Optional[bool]:
         others = self.around(asked)
         before = [one for one in others if one.end < asked.begin]
         after = [one for one in others if one.begin > asked.end]

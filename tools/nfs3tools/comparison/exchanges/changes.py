@@ -21,7 +21,7 @@ from itertools import accumulate
 from typing import NamedTuple, Optional
 
 from ...exchanges import history
-from ...exchanges.history import Adds, Effect, Grows, Sets, Sight, Timeline
+from ...exchanges.history import Adds, Effect, Grows, Sets, Sighting, Timeline
 from ...exchanges.listing import Message
 from ...exchanges.objects import DOTS, MAKING, RENAMING
 from ...recordings.taken import Taken
@@ -34,9 +34,9 @@ NOTHING_ELSE = 'no other answer has attributes of the object'
 GONE, ANY_OBJECT = 0, -1  # what a name leads to after a removal, and if that is not known
 REMOVING = frozenset(('NFSPROC3_REMOVE', 'NFSPROC3_RMDIR'))
 NEVER_ANSWERED = 1 << 62  # when a call is answered that has no reply
-WRITE, SETATTR, MAKING_FOLDER = 'NFSPROC3_WRITE', 'NFSPROC3_SETATTR', 'NFSPROC3_MKDIR'
+WRITING, SETATTR, MAKING_FOLDER = 'NFSPROC3_WRITE', 'NFSPROC3_SETATTR', 'NFSPROC3_MKDIR'
 FOLDER = '2'
-SET_ITEMS, TIMES = ('mode', 'uid', 'gid', 'size'), 'times'
+SET_ITEMS, OTHER_ITEMS = ('mode', 'uid', 'gid', 'size'), 'times'
 LASTING_ITEMS = 'type', 'rdev1', 'rdev2'
 KEPT_ITEMS = ('mode', 'uid', 'gid', 'size', 'nlink')  # of which there is a history
 # What a change is of: an item of an object by its identity, or a name in a folder. Both are the
@@ -133,8 +133,8 @@ class Changes:
         objects = [self.known_as(handle) for handle in outlines.objects_of(at)]
         made = self.known_as(outlines.found[at]) if outlines.found[at] else 0
         for own in filter(None, (*objects, made)):
-            self.of_item[own, TIMES][at] = Sets()
-        if procedure == WRITE:
+            self.of_item[own, OTHER_ITEMS][at] = Sets()
+        if procedure == WRITING:
             self.of_item[objects[0], 'size'][at] = Grows(*self.facts.writes[at])
         elif procedure == SETATTR:
             for item, value in sets.get(at, {}).items():
@@ -166,7 +166,7 @@ class Changes:
             left = {self.left_by(at, name)} - {ANY_OBJECT}
             self.of_name[name][at] = Sets(frozenset(left), frozenset(found))
             for own in led if procedure in REMOVING | {RENAMING} else ():
-                self.of_item[own, TIMES][at] = Sets()
+                self.of_item[own, OTHER_ITEMS][at] = Sets()
                 if procedure in REMOVING or number:
                     self.of_item[own, 'nlink'][at] = (
                         Adds(-1, -1) if procedure == 'NFSPROC3_REMOVE' else Adds(-2, 0))
@@ -242,10 +242,10 @@ class Changes:
     def name_line(self, name: ItemKey) -> Timeline:
         """Returns to what a name leads when."""
         if (name, True) not in self.timelines:
-            sights = [Sight(*self.frames_of(at), at, self.known_as(handle) if handle else GONE)
+            sights = [Sighting(*self.frames_of(at), at, self.known_as(handle) if handle else GONE)
                       for folder in self.handles_of(name[0])
                       for at, handle in self.facts.leads.get((folder, name[1]), ())]
-            sights += [Sight(*self.frames_of(at), at, GONE) for folder in self.handles_of(name[0])
+            sights += [Sighting(*self.frames_of(at), at, GONE) for folder in self.handles_of(name[0])
                        for at in self.without(folder, name[1])]
             self.timelines[name, True] = Timeline(self.changes_of(self.of_name.get(name, {})),
                                                   sights)
@@ -265,7 +265,7 @@ class Changes:
 
     def led_to(self, at: int, name: ItemKey) -> tuple[set[Hashable], bool]:
         """Returns to what a name may lead when a question is asked, and whether that is all."""
-        return self.name_line(name).values(Sight(*self.frames_of(at), at, None))
+        return self.name_line(name).values(Sighting(*self.frames_of(at), at, None))
 
     def names_of_folder(self, folder: int) -> set[str]:
         """Returns the names of a folder that changes have."""
@@ -277,8 +277,9 @@ class Changes:
         return [((reply.value_of('name', entry) or '').strip('"'),
                  int(reply.value_of('fh', entry) or '0', 16)) for entry in entries]
 
-    def changes_of(self, effects: dict[int, Effect]) -> Iterator[history.Change]:
-        return (history.Change(*self.frames_of(at), at, effect) for at, effect in effects.items())
+    def changes_of(self, effects: dict[int, Effect]) -> Iterator[history.TimedChange]:
+        return (history.TimedChange(*self.frames_of(at), at, effect)
+                for at, effect in effects.items())
 
     def item_line(self, handle: int, item: str) -> Timeline:
         """Returns what an item of an object was when."""
@@ -286,10 +287,10 @@ class Changes:
         if own not in self.timelines:
             facts = [fact for one in self.handles_of(own[0][0])
                      for fact in self.facts.statements.get(one, ())]
-            sights = [Sight(*self.frames_of(fact.at), fact.at, getattr(fact.attributes, item))
+            sights = [Sighting(*self.frames_of(fact.at), fact.at, getattr(fact.attributes, item))
                       for fact in facts]
             is_folder = bool(facts) and facts[0].attributes.type == FOLDER
-            kinds = {'size': history.Rough if is_folder else history.Size, 'nlink': history.Links}
+            kinds = {'size': history.FolderSize if is_folder else history.FileSize, 'nlink': history.LinkCount}
             kind = kinds.get(item, Timeline) if self.turns else Timeline
             self.timelines[own] = kind(self.changes_of(self.of_item.get(own[0], {})),
                                        sights)
@@ -299,7 +300,7 @@ class Changes:
                is_before: bool = False) -> Optional[bool]:
         """Returns whether an answer may have a value of an object, None if nothing says that."""
         return self.item_line(handle, item).allows(
-            Sight(*self.frames_of(at), at, value, is_before))
+            Sighting(*self.frames_of(at), at, value, is_before))
 
     def disagrees(self, at: int, told: Statement) -> str:
         """Returns why the attributes in an answer are not those of its run, or nothing."""
@@ -333,7 +334,7 @@ class BothChanges:
         """Returns whether a name may lead to an object, or to none, as an answer says. Before all
         changes it leads where it does in the other run."""
         own, other = (self.runs[one].name_line(name) for one in (run, 1 - run))
-        asked = Sight(*self.runs[run].frames_of(at), at, to)
+        asked = Sighting(*self.runs[run].frames_of(at), at, to)
         is_allowed = own.allows(asked)
         if is_allowed is None and not own.met(asked)[0]:
             initial = other.initial()

@@ -20,7 +20,7 @@ from ...exchanges.in_words import LISTINGS
 from ...exchanges.objects import MAKING
 from ...exchanges.whose import Labels
 from ..values.classes import CLASSES, Mask, Way
-from .changes import GONE, KEPT_ITEMS, TIMES, BothChanges, Change, Changes, ItemKey
+from .changes import GONE, KEPT_ITEMS, OTHER_ITEMS, BothChanges, Change, Changes, ItemKey
 from .facts import DONE, LOOKUP, NO_ENTRY, is_silly
 from .matching import Pair
 
@@ -182,7 +182,7 @@ class Doubt:
             return []
         if one.name not in BY_CHANGES and one.name not in KEPT_ITEMS:
             raise Unexplained
-        found = self.otherwise((one.identity, TIMES if one.name in BY_CHANGES else one.name))
+        found = self.otherwise((one.identity, OTHER_ITEMS if one.name in BY_CHANGES else one.name))
         if one.name in KEPT_ITEMS:
             for reply, field in zip(self.both, (one, other)):
                 handle = reply.changes.handles_of(field.identity)[0]
@@ -242,5 +242,5 @@ class Doubt:
     def of_alone(self, key: str | int) -> list[Change]:
         """Returns the changes of a name that stand otherwise. There have to be some."""
         if isinstance(key, int):
-            return self.otherwise((key, TIMES))
+            return self.otherwise((key, OTHER_ITEMS))
         return self.otherwise((self.both[0].folder, key), is_name=True)

@@ -12,7 +12,7 @@ from collections.abc import Container, Iterable
 from ...exchanges.in_words import LISTINGS, short
 from ...exchanges.listing import Message
 from .changes import GONE, BothChanges
-from .facts import ACCESS, DONE, LOOKUP, NO_ENTRY, RESULTS
+from .facts import ACCESS, DONE, LOOKUP, NO_ENTRY, STEADY
 
 FEW, SHARE = 10, 10  # so many calls of a procedure, or one of so many
 Question = tuple[str, int, tuple[str, ...]]  # the procedure, the object, and the name
@@ -79,7 +79,7 @@ class Extras:
     def wrong_results(self, at: int, other: 'Extras') -> str:
         """Returns why its results are not those of the same question, or nothing."""
         procedure = self.outlines.procedure_of(at)
-        if procedure not in RESULTS:
+        if procedure not in STEADY:
             return ''
         said = dict(self.facts.results[procedure, self.outlines.folders[at]])
         own = said.pop(at)
@@ -94,8 +94,8 @@ class Extras:
             return ''
         asked, handle = self.facts.asked_bits[at], self.outlines.folders[at]
         own = next((bits for one, _, bits in self.facts.bits[handle] if one == at), 0)
-        told = [(mask, bits) for run, handles in (
-                    (self, (handle,)), (other, other.changes.handles_of(self.changes.known_as(handle))))
+        its_handles = other.changes.handles_of(self.changes.known_as(handle))
+        told = [(mask, bits) for run, handles in ((self, (handle,)), (other, its_handles))
                 for its in handles for one, mask, bits in run.facts.bits.get(its, ())
                 if (run, one) != (self, at)]
         differs = (bit for bit in (1 << place for place in range(32))

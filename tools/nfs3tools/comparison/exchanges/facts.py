@@ -21,7 +21,7 @@ from .outlines import CHANGING, SILLY, Outlines
 LOOKUP, ACCESS, LINK = 'NFSPROC3_LOOKUP', 'NFSPROC3_ACCESS', 'NFSPROC3_LINK'
 DONE, NO_ENTRY = '0', '2'
 # Questions of which the same results are expected each time
-RESULTS = frozenset(f'NFSPROC3_{name}' for name in ('READLINK', 'FSSTAT', 'FSINFO', 'PATHCONF'))
+STEADY = frozenset(f'NFSPROC3_{name}' for name in ('READLINK', 'FSSTAT', 'FSINFO', 'PATHCONF'))
 
 
 class Statement(NamedTuple):
@@ -172,7 +172,7 @@ class Facts:
             self.take_told(at, one)
         for folder, name, handle in answer.leads:
             self.leads[folder, name].append((at, handle))
-        if line.procedure in RESULTS and handles:
+        if line.procedure in STEADY and handles:
             self.results[line.procedure, handles[0]].append((at, results_in(line.text)))
         if line.procedure in LISTINGS and handles:
             listed = names_in(line.text)
