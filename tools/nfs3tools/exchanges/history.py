@@ -1,279 +1,355 @@
-"""What an answer may say, by the changes and the other answers of its own run.
+"""What the answers of a run may say, by its changes and by its other answers.
 
-A timeline is of one value: the mode, an owner, the size or the number of links of an object, or to
-what a name leads. It has the changes of the value, and what answers say of it, each between two
-frames. An answer is allowed if it says what the last change before it left, or one that overlaps
-it; before all changes, what other answers say that come before them, too. So these are the only
-rules, and what nobody says is not known.
+    history = History(known_as)
+    for exchange in exchanges:
+        history.take(exchange)
+    history.settle()
+    history.allows(Claim((folder, '/a name'), GONE), asked)     # True, False, or None: not known
+
+A change is a call that changes objects or names, and was answered OK or not at all. Its effects are
+those of `effects_of`, by objects and items, and by folders and names. What an answer says are its
+claims. `timelines` says which of these a run allows.
 """
 from __future__ import annotations
 
-from bisect import bisect_left, bisect_right
-from collections.abc import Hashable, Iterable, Iterator, Sequence
-from itertools import accumulate
-from typing import NamedTuple, Optional, TypeVar, Union
+from bisect import bisect_left
+from collections import defaultdict
+from collections.abc import Callable, Hashable, Iterator
+from functools import cached_property
+from operator import itemgetter
+from typing import NamedTuple, Optional
 
-NEAREST = 8  # so many answers before a question, and after it, count links
+from .procedures import (
+    ACCESS, CREATE, DONE, FOLDER_TYPE, FREE_ITEMS, LINK, LISTINGS, LOOKUP, MAKING, MKDIR, NO_ENTRY,
+    REMOVE, REMOVING, RENAME, RMDIR, SETATTR, STEADY, WRITE)
+from .statements import Statement, names_in_call, statements_in
+from .timelines import (
+    Adds, Clears, Effect, FileSize, FolderSize, Grows, LinkCount, Mode, SaidValues, Sets, Sighting,
+    Timeline, ValueChange)
+from .values import Values
 
-
-class Sets(NamedTuple):
-    """A change that leaves one of these values. If there are none, answers say which. `found` are
-    the values before, if it says them."""
-    values: frozenset[Hashable] = frozenset()
-    found: frozenset[Hashable] = frozenset()
-
-
-class Grows(NamedTuple):
-    """A WRITE of bytes up to an end, which leaves no smaller size."""
-    first: int
-    end: int
-
-
-class Adds(NamedTuple):
-    """A change that adds between two numbers of links."""
-    least: int
-    most: int
-
-
-Effect = Union[Sets, Grows, Adds]
+STILL = 1 << 62  # when a call ends that may still be carried out
+GONE, ANY_OBJECT = 'no object', 'any object'  # to what a name leads, if not to one that is known
+SETTABLE = ('mode', 'uid', 'gid', 'size')
+# Items of which there is a history; those that never change; and all others, which are one.
+KEPT_ITEMS, LASTING_ITEMS, TIMES_ITEM = (*SETTABLE, 'nlink'), ('type', 'rdev1', 'rdev2'), 'times'
+SHOWN_ITEMS = (*KEPT_ITEMS, *LASTING_ITEMS)
+LISTINGS_AT_MOST = 4  # of a folder, whose order is kept
+# What a history is asked of: an object and an item, or a folder and a name after a slash.
+HistoryKey = tuple[Hashable, str]
 
 
-class TimedChange(NamedTuple):
-    """A change: the frames between which it was carried out, its exchange, and what it does."""
-    begin: int
-    end: int
+def name_key(folder: Hashable, name: str) -> HistoryKey:
+    return folder, f'/{name}'
+
+
+class CarriedOut(NamedTuple):
+    """An exchange of a run.
+
+    source: its number
+    begin, answered: the frames of its call and of its first reply
+    end: the frame after which it is not carried out any more, or STILL
+    status, reply: None and nothing if the call was not accepted, or has no reply
+    is_change: whether it changed something, or may have
+    """
     source: int
-    effect: Effect
-
-
-class Sighting(NamedTuple):
-    """What an answer says: the frames between which it was true, the exchange, and the value. That
-    of a change is of what was after it, or before."""
     begin: int
+    answered: int
     end: int
-    source: int
+    procedure: str
+    call: Values
+    status: Optional[int]
+    reply: Values
+    is_change: bool = False
+
+    @property
+    def handle(self) -> str:
+        """The first handle of the call."""
+        return next((str(value) for name, value in self.call.items()
+                     if name.rpartition('.')[2] == 'fh'), '')
+
+
+class Claim(NamedTuple):
+    """What an answer says of a value."""
+    key: HistoryKey
     value: Hashable
     is_before: bool = False
 
 
-def latest(some: Sequence[TimedChange]) -> list[TimedChange]:
-    """Returns those after which no other one begins."""
-    begin = max((one.begin for one in some), default=0)
-    return [one for one in some if one.end >= begin]
+class Listed(NamedTuple):
+    """The names of a listing, each with its turn, and whether it begins and ends as its folder."""
+    source: int
+    names: dict[str, int]
+    is_first: bool
+    is_last: bool
 
 
-Spanned = TypeVar('Spanned', bound=Union[TimedChange, Sighting])
+class History:
+    """The changes of a run, and what its answers say.
 
+    known_as: what the object of a handle is called
+    has_frames: whether it is known when exchanges were carried out; if not, a value has to be one
+        that another answer has
+    changes: by keys
+    shown: by objects, what answers say: exchanges and items
+    leads: by folders and names, to what these lead, by exchanges
+    names: the names of each folder
+    listings: the longest ones of each folder
+    results: by procedures and objects, what is said the same each time; of ACCESS what was asked
+        and granted
+    """
 
-class Ordered(list[Spanned]):
-    """Changes or answers in the order of their begins, of which some are found without looking at
-    all."""
+    def __init__(self, known_as: Callable[[str], Hashable], has_frames: bool = True) -> None:
+        self.known_as, self.has_frames = known_as, has_frames
+        self.frames = dict[int, tuple[int, int]]()
+        self.waiting = list[CarriedOut]()
+        self.changes = defaultdict[HistoryKey, list[ValueChange]](list)
+        self.shown = defaultdict[Hashable, list[tuple[int, tuple[int, ...]]]](list)
+        self.leads = defaultdict[HistoryKey, list[tuple[int, Hashable]]](list)
+        self.names = defaultdict[Hashable, dict[str, None]](dict)
+        self.listings = defaultdict[Hashable, list[Listed]](list)
+        self.results = defaultdict[tuple[str, Hashable], SaidValues](SaidValues)
+        self.equal = dict[tuple[int, ...], tuple[int, ...]]()
+        self.timelines = dict[HistoryKey, Timeline]()
+        self.made = defaultdict[Hashable, list[int]](list)  # by folders that MKDIR made
 
-    def __init__(self, some: Iterable[Spanned]) -> None:
-        super().__init__(sorted(some, key=lambda one: one.begin))
-        self.begins = [one.begin for one in self]
-        # The last end up to each
-        ends: Iterator[int] = accumulate((one.end for one in self), max)
-        self.last_ends = list(ends)
-        self.ended = sorted(self, key=lambda one: one.end)
-        self.ends = [one.end for one in self.ended]
+    # --- What answers say ---
 
-    def before(self, begin: int, most: int) -> list[Spanned]:
-        """Returns the last ones that ended before a frame."""
-        at = bisect_left(self.ends, begin)
-        return self.ended[max(at - most, 0):at]
+    def take(self, one: CarriedOut) -> None:
+        """Takes an exchange, and what it says."""
+        self.frames[one.source] = one.begin, one.answered
+        if one.is_change:
+            self.waiting.append(one)
+        if one.status is None:
+            return
+        for statement in statements_in(one.procedure, one.call, one.reply):
+            if statement.has('type') and not statement.name:
+                items = shown_items(statement)
+                self.shown[self.known_as(statement.handle)].append(
+                    (one.source, self.equal.setdefault(items, items)))
+        for claim in self.names_claimed(one):
+            self.leads[claim.key].append((one.source, claim.value))
+            self.names[claim.key[0]][claim.key[1][1:]] = None
+        if one.status == DONE:
+            self.take_results(one)
 
-    def after(self, end: int, most: int) -> list[Spanned]:
-        """Returns the first ones that begin after a frame."""
-        at = bisect_right(self.begins, end)
-        return self[at:at + most]
+    def take_results(self, one: CarriedOut) -> None:
+        own = self.known_as(one.handle)
+        if one.procedure in LISTINGS:
+            some = [*self.listings[own], listed_in(one)]
+            some.sort(key=lambda listed: -len(listed.names))
+            self.listings[own] = some[:LISTINGS_AT_MOST]
+        elif one.procedure in STEADY or one.procedure == ACCESS:
+            self.results[one.procedure, own].take(one.source, results_in(one))
+        elif one.procedure == MKDIR and 'fh' in one.reply:
+            self.made[self.known_as(one.reply['fh'])].append(one.source)
 
-    def between(self, begin: int, end: int) -> list[Spanned]:
-        """Returns those of which a part is between two frames."""
-        out, at = list[Spanned](), bisect_right(self.begins, end)
-        while at and self.last_ends[at - 1] >= begin:
-            at -= 1
-            if self[at].end >= begin:
-                out.append(self[at])
-        return out[::-1]
+    def names_claimed(self, one: CarriedOut) -> Iterator[Claim]:
+        """Iterates over the names of which an answer says to what they lead."""
+        is_done = one.status == DONE
+        if one.procedure in LISTINGS and is_done:
+            folder = self.known_as(one.call['fh'])
+            for entry in one.reply['entries']:
+                handle = entry.get('fh')
+                yield Claim(name_key(folder, entry['name']),
+                            self.known_as(handle) if handle else ANY_OBJECT)
+        elif one.procedure == LOOKUP and (is_done or one.status == NO_ENTRY) or (
+                one.procedure in MAKING and 'fh' in one.reply):
+            yield Claim(name_key(self.known_as(one.call['fh']), one.call['name']),
+                        self.known_as(one.reply['fh']) if is_done else GONE)
 
+    def claims_of(self, one: CarriedOut) -> Iterator[Claim]:
+        """Iterates over what an answer says of objects and of names."""
+        for statement in statements_in(one.procedure, one.call, one.reply):
+            yield from self.claims_in(statement)
+        yield from self.names_claimed(one)
 
-class Timeline:
-    """A value that changes set, each to what it says."""
+    def claims_in(self, statement: Statement) -> Iterator[Claim]:
+        """Iterates over what a statement says of an object that has a handle."""
+        if statement.handle and not statement.name:
+            own = self.known_as(statement.handle)
+            for item in SHOWN_ITEMS:
+                if statement.has(item):
+                    yield Claim((own, item), statement.value(item), statement.is_before)
 
-    def __init__(self, changes: Iterable[TimedChange], sights: Iterable[Sighting]) -> None:
-        self.changes = Ordered(changes)
-        self.sights = Ordered(sights)
+    # --- What changes do ---
 
-    def setters(self) -> list[TimedChange]:
-        return [one for one in self.changes if isinstance(one.effect, Sets)]
+    def settle(self) -> None:
+        """Notes what changes do, after all was taken. To what a name led is known by those that
+        ended before."""
+        self.waiting.sort(key=lambda one: one.end)
+        self.led_by = defaultdict[HistoryKey, list[tuple[int, Hashable]]](list)
+        for one in self.waiting:
+            for key, effect in self.effects_of(one):
+                self.changes[key].append(ValueChange(one.begin, one.end, one.source, effect))
+                if key[1][0] == '/' and isinstance(effect, Sets):
+                    self.names[key[0]][key[1][1:]] = None
+                    self.led_by[key] += ((one.end, value) for value in effect.values)
+        self.waiting = []
 
-    def allows(self, asked: Sighting) -> Optional[bool]:
-        """Returns whether the run allows the value, None if it does not say."""
-        values, is_all = self.values(asked)
-        return True if asked.value in values else False if is_all else None
+    def effects_of(self, one: CarriedOut) -> Iterator[tuple[HistoryKey, Effect]]:
+        """Iterates over what a change does: to each object of its call and to what it makes, and
+        to names and what these led to."""
+        names = [name_key(self.known_as(folder), name)
+                 for folder, name in names_in_call(one.procedure, one.call)]
+        folders = dict.fromkeys(folder for folder, _ in names)
+        for folder in folders:
+            yield (folder, TIMES_ITEM), Sets()
+            yield (folder, 'size'), Sets()
+        if one.procedure in MAKING:
+            yield from self.effects_of_making(one, names[0])
+        elif one.procedure in REMOVING:
+            yield from self.effects_of_removing(one, names[0])
+        elif one.procedure == RENAME:
+            yield from self.effects_of_rename(one, *names)
+        elif one.procedure == LINK:
+            own = self.known_as(one.call['file.fh'])
+            yield (own, TIMES_ITEM), Sets()
+            yield (own, 'nlink'), Adds(1, 1)
+            yield names[0], Sets(frozenset((own,)), frozenset((GONE,)))
+        else:
+            yield from self.effects_on_file(one, self.known_as(one.call['fh']))
 
-    def values(self, asked: Sighting) -> tuple[set[Hashable], bool]:
-        """Returns the values that an answer may have, and whether they are all."""
-        near, over = self.met(asked)
-        left = [self.left(one, asked) for one in (*near, *over)]
-        if not near:
-            left.append(self.initial(asked))
-        values = set[Hashable]().union(*left)
-        if all(left):
-            return values, True
-        same = {one.value for one in self.around(asked) if not any(self.passed(one, asked))}
-        return values | same, not near and not over and bool(same)
+    def effects_on_file(self, one: CarriedOut,
+                        own: Hashable) -> Iterator[tuple[HistoryKey, Effect]]:
+        """WRITE and SETATTR. A server clears bits of the mode if it finds that right."""
+        yield (own, TIMES_ITEM), Sets()
+        if one.procedure == WRITE:
+            first, count = one.call['offset'], one.reply.get('count', one.call['count'])
+            yield (own, 'size'), Grows(first, first + count)
+        asked = {item: one.call[f'set.{item}'] for item in SETTABLE if f'set.{item}' in one.call}
+        for item, value in asked.items():
+            yield (own, item), Sets(frozenset((value,)))
+        if one.procedure == WRITE or asked.keys() - {'mode'} and 'mode' not in asked:
+            yield (own, 'mode'), Clears()
 
-    def met(self, asked: Sighting) -> tuple[list[TimedChange], list[TimedChange]]:
-        """Returns the last changes before an answer, and those that overlap it. A change is before
-        its own answer."""
-        others = [one for one in self.setters() if one.source != asked.source]
-        own = [one for one in self.setters() if one.source == asked.source and not asked.is_before]
-        over = [one for one in others if one.begin <= asked.end and one.end >= asked.begin]
-        return own or latest([one for one in others if one.end < asked.begin]), over
+    def effects_of_making(self, one: CarriedOut,
+                          name: HistoryKey) -> Iterator[tuple[HistoryKey, Effect]]:
+        if one.procedure == MKDIR:
+            yield (name[0], 'nlink'), Adds(1, 1)
+        handle = one.reply.get('fh')
+        made = frozenset((self.known_as(handle),)) if handle else frozenset[Hashable]()
+        yield name, Sets(made, frozenset((GONE,)))
+        for own in made:
+            yield (own, TIMES_ITEM), Sets()
+            for item in SETTABLE:
+                asked = one.call.get(f'set.{item}')
+                yield (own, item), Sets(frozenset() if asked is None else frozenset((asked,)))
 
-    def left(self, change: TimedChange, asked: Sighting) -> set[Hashable]:
-        """Returns what a change left: as it was asked, and as answers say."""
-        assert isinstance(change.effect, Sets)
-        told = {one.value for one in self.sights
-                if one.source == change.source != asked.source and not one.is_before}
-        return {*change.effect.values, *told} or {
-            one.value for one in self.sights if one.source != asked.source
-            and one.begin > change.end and latest([
-                other for other in self.setters() if other.begin <= one.end]) == [change]}
+    def effects_of_removing(self, one: CarriedOut,
+                            name: HistoryKey) -> Iterator[tuple[HistoryKey, Effect]]:
+        if one.procedure == RMDIR:
+            yield (name[0], 'nlink'), Adds(-1, -1)
+        led = self.led(name, one.begin)
+        yield name, Sets(frozenset((GONE,)), led)
+        for own in led:
+            yield (own, TIMES_ITEM), Sets()
+            yield (own, 'nlink'), Adds(-1, -1) if one.procedure == REMOVE else Adds(-2, 0)
 
-    def initial(self, asked: Sighting | None = None) -> set[Hashable]:
-        """Returns the value before all changes, as other answers say, or the first change."""
-        setters, source = self.setters(), asked.source if asked else None
-        end = min((one.end for one in setters), default=0)
-        begin = setters[0].begin if setters else 0
-        return {one.value for one in self.sights if one.source != source and (
-            not setters or one.end < begin)}.union(
-                *(one.effect.found for one in setters
-                  if isinstance(one.effect, Sets) and one.begin <= end and one.source != source))
+    def effects_of_rename(self, one: CarriedOut, source: HistoryKey,
+                          target: HistoryKey) -> Iterator[tuple[HistoryKey, Effect]]:
+        moved = self.led(source, one.begin)
+        if not any(self.is_file(own) for own in moved):
+            for folder in {source[0], target[0]}:
+                yield (folder, 'nlink'), Adds(-1, 0 if source[0] == target[0] else 1)
+        for own in moved:
+            yield (own, TIMES_ITEM), Sets()
+        if source == target:
+            yield source, Sets(moved, moved)
+            return
+        replaced = self.led(target, one.begin)
+        yield source, Sets(frozenset((GONE,)), moved)
+        yield target, Sets(moved, replaced)
+        for own in replaced - moved:
+            yield (own, TIMES_ITEM), Sets()
+            yield (own, 'nlink'), Adds(-2, 0)
 
-    def around(self, asked: Sighting) -> list[Sighting]:
-        """Returns some answers before a question, all that overlap it, and some after it."""
-        return [one for one in (*self.sights.before(asked.begin, NEAREST),
-                                *self.sights.between(asked.begin, asked.end),
-                                *self.sights.after(asked.end, NEAREST))
-                if one.source != asked.source]
+    def led(self, name: HistoryKey, begin: int) -> frozenset[Hashable]:
+        """Returns to which object a name led before a frame, by earlier changes and answers, or
+        nothing if that is not known."""
+        changed, said = self.led_by.get(name, []), self.said_of_names.get(name, [])
+        last = max((some[at - 1] for some in (changed, said)
+                    if (at := bisect_left(some, (begin,)))), key=itemgetter(0), default=(0, GONE))
+        return frozenset() if last[1] in (GONE, ANY_OBJECT) else frozenset((last[1],))
 
-    def passed(self, one: Sighting, asked: Sighting) -> tuple[list[TimedChange], list[TimedChange]]:
-        """Returns the changes that were carried out between two answers, and those that may have
-        been."""
-        first, second = (one, asked) if one.end < asked.begin else (asked, one)
-        is_apart = first.end < second.begin
-        surely, maybe = list[TimedChange](), list[TimedChange]()
-        for change in self.changes.between(first.begin, max(first.end, second.end)):
-            if change.source in (one.source, asked.source):
-                its = one if change.source == one.source else asked
-                if not is_apart:
-                    maybe.append(change)
-                elif its.is_before is (its is first):
-                    surely.append(change)
-            elif change.end < first.begin and change.end < second.begin or (
-                    change.begin > first.end and change.begin > second.end):
-                continue
-            elif is_apart and change.begin > first.end and change.end < second.begin:
-                surely.append(change)
-            else:
-                maybe.append(change)
-        return surely, maybe
+    @cached_property
+    def said_of_names(self) -> dict[HistoryKey, list[tuple[int, Hashable]]]:
+        """By folders and names, the objects to which they lead, after the frames of the answers."""
+        return {key: sorted(((self.frames[source][1], value) for source, value in some
+                             if value not in (GONE, ANY_OBJECT)), key=itemgetter(0))
+                for key, some in self.leads.items()}
 
+    def is_file(self, own: Hashable) -> bool:
+        """Whether an object is known, and no folder."""
+        shown = self.shown.get(own)
+        return shown is not None and type_of(shown) != FOLDER_TYPE
 
-class FileSize(Timeline):
-    """The size of a file: what was set, or the end of a WRITE, of which a part may be done while it
-    is carried out."""
+    # --- What an answer may say ---
 
-    def allows(self, asked: Sighting) -> Optional[bool]:
-        bases, is_all = list(self.bases(asked)), True
-        own, value = asked.source, int(str(asked.value))
-        for begin, end, size in bases:
-            if size is None:
-                is_all = False
-                continue
-            grown, maybe = int(str(size)), list[Grows]()
-            for change in self.changes:
-                if not isinstance(change.effect, Grows) or change.end < begin or (
-                        change.begin > asked.end):
-                    continue
-                if change.source == own:
-                    grown = grown if asked.is_before else max(grown, change.effect.end)
-                elif change.begin > end and change.end < asked.begin:
-                    grown = max(grown, change.effect.end)
-                else:
-                    maybe.append(change.effect)
-            if value == grown or value > grown and any(
-                    one.first < value <= one.end for one in maybe):
+    def asked(self, source: int, claim: Claim) -> Sighting:
+        return Sighting(*self.frames[source], source, claim.value, claim.is_before)
+
+    def allows(self, source: int, claim: Claim) -> Optional[bool]:
+        """Returns whether an answer may say this, None if nothing says that."""
+        is_name = claim.key[1][0] == '/'
+        is_allowed = self.timeline(claim.key).allows(self.asked(source, claim))
+        if is_name and not is_allowed and claim.value != GONE:
+            values, _ = self.values(source, claim.key)
+            # (a listing may say of a name that it is there, and not to what it leads)
+            if values and (claim.value == ANY_OBJECT and values != {GONE}
+                           or ANY_OBJECT in values and values <= {ANY_OBJECT, GONE}):
                 return True
-        return False if bases and is_all else self.later(asked)
+        return is_allowed
 
-    def bases(self, asked: Sighting) -> Iterator[tuple[int, int, Hashable]]:
-        """Iterates over sizes that are known before, each with the frames between which it was so,
-        and None for one that is not known."""
-        near, over = self.met(asked)
-        for change in (*near, *over):
-            for size in self.left(change, asked) or {None}:
-                yield change.begin, change.end, size
-        if not near:
-            setters = self.setters()
-            first = min((one.begin for one in setters), default=asked.begin)
-            before = [one for one in self.sights if one.source != asked.source
-                      and one.end < min(first, asked.begin)]
-            begin = max((one.begin for one in before), default=0)
-            for one in before:
-                if one.end >= begin:
-                    yield one.begin, one.end, one.value
+    def values(self, source: int, key: HistoryKey) -> tuple[set[Hashable], bool]:
+        """Returns what an answer may say of a key, and whether that is all."""
+        return self.timeline(key).values(self.asked(source, Claim(key, None)))
 
-    def later(self, asked: Sighting) -> Optional[bool]:
-        """Returns whether answers have the same size if no change is between."""
-        same = {one.value for one in self.around(asked) if not any(self.passed(one, asked))}
-        return asked.value in same if same else None
+    def timeline(self, key: HistoryKey) -> Timeline:
+        if key not in self.timelines:
+            self.timelines[key] = (self.name_line if key[1][0] == '/' else self.item_line)(key)
+        return self.timelines[key]
 
+    def name_line(self, key: HistoryKey) -> Timeline:
+        """Returns to what a name leads when. MKDIR of the folder and whole listings say of names
+        that they are not there."""
+        name, without = key[1][1:], list(self.made.get(key[0], ()))
+        without += (one.source for one in self.listings.get(key[0], ())
+                    if one.is_first and one.is_last and name not in one.names)
+        said = (*self.leads.get(key, ()), *((source, GONE) for source in without))
+        return Timeline(self.changes.get(key, ()),
+                        [Sighting(*self.frames[source], source, value) for source, value in said])
 
-class LinkCount(Timeline):
-    """A number of links: that of another answer, and what the changes between both add."""
-
-    def allows(self, asked: Sighting) -> Optional[bool]:
-        """All answers near it have to allow it."""
-        ranges = [self.counted(one, asked) for one in self.around(asked)]
-        value = int(str(asked.value))
-        return all(least <= value <= most for least, most in ranges) if ranges else None
-
-    def counted(self, one: Sighting, asked: Sighting) -> tuple[int, int]:
-        """Returns the least and the largest number by another answer."""
-        surely, maybe = ([change.effect for change in some if isinstance(change.effect, Adds)]
-                         for some in self.passed(one, asked))
-        value = int(str(one.value))
-        least = sum(it.least for it in surely) + sum(min(it.least, 0) for it in maybe)
-        most = sum(it.most for it in surely) + sum(max(it.most, 0) for it in maybe)
-        if one.end < asked.begin:
-            return value + least, value + most
-        if one.begin > asked.end:
-            return value - most, value - least
-        return value + min(least, -most), value + max(most, -least)
+    def item_line(self, key: HistoryKey) -> Timeline:
+        """Returns what an item of an object was when."""
+        own, item = key
+        shown, at = self.shown.get(own, []), SHOWN_ITEMS.index(item)
+        sights = [Sighting(*self.frames[source], source, items[at]) for source, items in shown]
+        is_folder = bool(shown) and type_of(shown) == FOLDER_TYPE
+        kinds: dict[str, type[Timeline]] = {
+            'mode': Mode, 'nlink': LinkCount, 'size': FolderSize if is_folder else FileSize}
+        kind: type[Timeline] = kinds.get(item, Timeline) if self.has_frames else Timeline
+        return kind(self.changes.get(key, ()), sights)
 
 
-class FolderSize(Timeline):
-    """The size of a folder, of which servers make what they want: between those of the answers
-    next to it. Without a change between, it is equal."""
+def shown_items(statement: Statement) -> tuple[int, ...]:
+    return tuple(statement.value(item) for item in SHOWN_ITEMS)
 
-    def allows(self, asked: Sighting) -> Optional[bool]:
-        others = self.around(asked)
-        before = [one for one in others if one.end < asked.begin]
-        after = [one for one in others if one.begin > asked.end]
-        begin = max((one.begin for one in before), default=0)
-        end = min((one.end for one in after), default=0)
-        near = [one for one in others if one not in before and one not in after
-                or one in before and one.end >= begin or one in after and one.begin <= end]
-        same = {one.value for one in near if not any(self.passed(one, asked))}
-        if same:
-            return asked.value in same
-        sizes = {int(str(one.value)) for one in near}
-        if int(str(asked.value)) in sizes:
-            return True
-        if not before or not after:
-            return None
-        return min(sizes) <= int(str(asked.value)) <= max(sizes)
+
+def type_of(shown: list[tuple[int, tuple[int, ...]]]) -> int:
+    return shown[0][1][SHOWN_ITEMS.index('type')]
+
+
+def listed_in(one: CarriedOut) -> Listed:
+    names = (entry['name'] for entry in one.reply['entries'])
+    return Listed(one.source, {name: turn for turn, name in enumerate(names)},
+                  one.call['cookie'] == 0, bool(one.reply['eof']))
+
+
+def results_in(one: CarriedOut) -> tuple[Hashable, ...]:
+    """Returns what an answer says beside attributes and free space; of ACCESS also what was
+    asked."""
+    if one.procedure == ACCESS:
+        return one.call['access'], one.reply['access']
+    return tuple(value for name, value in one.reply.items()
+                 if '.' not in name and name not in FREE_ITEMS)

@@ -1,18 +1,20 @@
 """Calls of one run alone that only ask, and whether they may be left out.
 
-A client's caches decide how often it asks. So such a call is no difference if it has one answer, OK
-or NOENT; if what it asks about is known in the other run; if the other run has no such call alone,
-too; if they are few; and if what it says agrees with other answers of its run.
+A client's caches decide how often it asks. So such a call is no difference if it has one answer
+that the history of its run allows (`explained`), if what it asks about is known in the other run,
+if that has no such call alone, too, and if they are few.
 """
 from __future__ import annotations
 
 from collections import Counter
-from collections.abc import Container, Iterable
+from collections.abc import Container, Iterable, Sequence
+from typing import Any
 
-from ...exchanges.in_words import LISTINGS, short
-from ...exchanges.listing import Message
-from .changes import GONE, BothChanges
-from .facts import ACCESS, DONE, LOOKUP, NO_ENTRY, STEADY
+from ...exchanges.history import results_in
+from ...exchanges.in_words import short
+from ...exchanges.procedures import ACCESS, DONE, LOOKUP, NO_ENTRY, STEADY
+from ...exchanges.timelines import SaidValues
+from .explained import OrderRule
 
 FEW, SHARE = 10, 10  # so many calls of a procedure, or one of so many
 Question = tuple[str, int, tuple[str, ...]]  # the procedure, the object, and the name
@@ -22,11 +24,11 @@ ReasonsOfCalls = tuple[dict[int, str], dict[int, str]]  # calls of both runs, ea
 class Extras:
     """The calls of a run that the other run does not have, and only ask."""
 
-    def __init__(self, both: BothChanges, run: int, some: Iterable[int],
+    def __init__(self, rule: OrderRule, run: int, some: Iterable[int],
                  paired: Container[int]) -> None:
         """`paired` are the exchanges that the other run has, too."""
-        self.both, self.run, self.some, self.changes = both, run, sorted(some), both.runs[run]
-        self.facts, self.outlines = self.changes.facts, self.changes.outlines
+        self.rule, self.run, self.some, self.facts = rule, run, sorted(some), rule.facts[run]
+        self.outlines, self.history = self.facts.outlines, self.facts.history
         self.objects = set(self.outlines.identities) - {0}
         own = set(self.some)
         # Handles of calls that the other run has, too: it knows what they are.
@@ -51,13 +53,13 @@ class Extras:
 
     def wrong(self, at: int, other: 'Extras') -> str:
         """Returns why a call is no matter of caches, or nothing."""
-        _, replies = self.facts.messages[at]
+        replies = self.facts.messages[at]
         if len(replies) != 1:
             return 'it has no reply' if not replies else 'it has several replies'
-        status = replies[0].value_of('status')
-        if status is None:
-            return '' if replies[0].value_of('accept_stat') == DONE else 'it is not accepted'
-        if status != DONE and (status, self.outlines.procedure_of(at)) != (NO_ENTRY, LOOKUP):
+        one = replies[0][1]
+        if one.status is None:
+            return 'it is not accepted'
+        if one.status != DONE and (one.status, one.procedure) != (NO_ENTRY, LOOKUP):
             return 'it has failed'
         folder = self.outlines.object_of(at)
         if self.outlines.folders[at] not in self.shared and folder not in other.objects:
@@ -65,57 +67,26 @@ class Extras:
         names = [(folder, name) for name in self.facts.names.get(at, ())]
         if not other.names.issuperset(names):
             return 'the other run does not know the name'
-        return (self.wrong_attributes(at, replies[0]) or self.wrong_results(at, other)
-                or self.wrong_access(at, other) or self.wrong_lead(at, status)
-                or self.wrong_entries(at))
-
-    def wrong_attributes(self, at: int, reply: Message) -> str:
-        if at in self.facts.odd:
-            return 'it has another file id than its run elsewhere'
-        found = (self.changes.disagrees(at, one)
-                 for one in self.facts.said_in(at, reply).statements)
-        return next(filter(None, found), '')
+        return self.rule.wrong_answer(self.run, at) or self.wrong_results(at, other)
 
     def wrong_results(self, at: int, other: 'Extras') -> str:
-        """Returns why its results are not those of the same question, or nothing."""
-        procedure = self.outlines.procedure_of(at)
-        if procedure not in STEADY:
-            return ''
-        said = dict(self.facts.results[procedure, self.outlines.folders[at]])
-        own = said.pop(at)
-        others = {*said.values()} or {
-            text for handle in other.changes.handles_of(self.outlines.object_of(at))
-            for _, text in other.facts.results.get((procedure, handle), ())}
-        return '' if own in others else 'no other answer has its results'
+        """Returns why its results are not those of the same question, or nothing. Of ACCESS each
+        bit has to be that of another answer."""
+        one = self.facts.messages[at][0][1]
+        key = one.procedure, self.facts.known_as(one.handle)
+        own, others = (run.history.results.get(key, SaidValues()).but(source)
+                       for run, source in ((self, at), (other, -1)))
+        if one.procedure == ACCESS:
+            return '' if grants_as(results_in(one), own | others) else 'it grants something else'
+        is_told = one.procedure not in STEADY or results_in(one) in (own or others)
+        return '' if is_told else 'no other answer has its results'
 
-    def wrong_access(self, at: int, other: 'Extras') -> str:
-        """Returns why it grants what others of its object do not, bit by bit, or nothing."""
-        if self.outlines.procedure_of(at) != ACCESS:
-            return ''
-        asked, handle = self.facts.asked_bits[at], self.outlines.folders[at]
-        own = next((bits for one, _, bits in self.facts.bits[handle] if one == at), 0)
-        its_handles = other.changes.handles_of(self.changes.known_as(handle))
-        told = [(mask, bits) for run, handles in ((self, (handle,)), (other, its_handles))
-                for its in handles for one, mask, bits in run.facts.bits.get(its, ())
-                if (run, one) != (self, at)]
-        differs = (bit for bit in (1 << place for place in range(32))
-                   if asked & bit and own & bit not in {
-                       bits & bit for mask, bits in told if mask & bit})
-        return 'it grants something else' if any(differs) else ''
 
-    def wrong_lead(self, at: int, status: str) -> str:
-        """Returns why a LOOKUP leads elsewhere than the changes of its run say, or nothing."""
-        if self.outlines.procedure_of(at) != LOOKUP or not self.changes.turns:
-            return ''
-        name = self.outlines.object_of(at), self.facts.names[at][0]
-        handle = self.outlines.found[at]
-        to = self.changes.known_as(handle) if status == DONE and handle else GONE
-        return '' if self.both.leads(self.run, at, name, to) else 'the name leads elsewhere'
-
-    def wrong_entries(self, at: int) -> str:
-        if self.outlines.procedure_of(at) not in LISTINGS or not self.changes.turns:
-            return ''
-        return self.both.wrong_names(self.run, at)
+def grants_as(own: Sequence[Any], others: Iterable[Any]) -> bool:
+    """Whether each bit for which an ACCESS asks is as another one has it."""
+    (asked, granted), told = own, list(others)
+    return all(any(mask & bit and bits & bit == granted & bit for mask, bits in told)
+               for place in range(asked.bit_length()) if asked & (bit := 1 << place))
 
 
 def refused(first: Extras, second: Extras) -> ReasonsOfCalls:

@@ -15,18 +15,16 @@ from functools import cache
 from itertools import groupby
 from operator import attrgetter
 
-from ...exchanges.answering import Answering
+from ...exchanges.answering import REPLY_STATUS, Answering
 from ...exchanges.listing import Line, LinePlace, Message, line_of, place_of
-from ...exchanges.objects import LISTING, MAKING
+from ...exchanges.objects import GIVING_HANDLES
+from ...exchanges.procedures import CHANGING, LOOKUP, READDIRPLUS
 from ...exchanges.searches import (
     alike_in, entries_in, first_handle_in, first_name_in, handles_in, pattern_of_items)
 from ..values.bindings import RENAMED
 from ..values.classes import CLASSES, Mask, Way
 
-# Calls that change what others are answered.
-CHANGING = frozenset(f'NFSPROC3_{name}' for name in (
-    'SETATTR', 'WRITE', 'CREATE', 'MKDIR', 'SYMLINK', 'MKNOD', 'REMOVE', 'RMDIR', 'RENAME', 'LINK'))
-NAMING = MAKING | {'MOUNTPROC3_MNT'}  # calls whose answers have the handle of a name
+NAMING = GIVING_HANDLES | {'MOUNTPROC3_MNT'}  # calls whose answers have the handle of a name
 SILLY = next(one for one in CLASSES if one.name == 'sillynames')
 DOT_HASHES = hash('.'), hash('..')  # the folder itself, and the one above it
 UNSEEN, SEEN, MADE = range(3)  # how well it is known where an object is
@@ -41,6 +39,12 @@ def classes_of_items(mask: Mask) -> dict[str, str]:
 def renamed_values(mask: Mask) -> re.Pattern[str]:
     """Returns what finds the names and values of renamed items in a line."""
     return pattern_of_items(classes_of_items(mask))
+
+
+def is_done(text: str) -> bool:
+    """Whether a reply says that its call was carried out."""
+    found = REPLY_STATUS.match(text)
+    return found is not None and found[2] == '0'
 
 
 # When a call was sent, by its connection and record: a number that grows
@@ -161,7 +165,7 @@ class Outlines:
                     continue
                 said_before[at].add(own)
             self.add_reply(at, line.record, said)
-            if line.procedure in CHANGING and ' status=0' not in line.text:
+            if line.procedure in CHANGING and not is_done(line.text):
                 self.unmade.add(at)
             self.learn(at, line.procedure, line.text, named.get(at, 0))
 
@@ -191,9 +195,9 @@ class Outlines:
             found = first_handle_in(rest)
             if found:
                 self.found[at] = found
-                known = SEEN if procedure == 'NFSPROC3_LOOKUP' else MADE
+                known = SEEN if procedure == LOOKUP else MADE
                 self.objects.learn(found, folder, name, known, at)
-        elif procedure == LISTING:
+        elif procedure == READDIRPLUS:
             for entry, handle in entries_in(rest):
                 self.objects.learn(handle, folder, hash(entry), SEEN, at)
                 if SILLY.has_value(f'"{entry}"'):

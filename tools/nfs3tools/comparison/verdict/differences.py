@@ -7,6 +7,7 @@ from dataclasses import dataclass
 from typing import NamedTuple
 
 from ...exchanges.listing import Message
+from ...exchanges.procedures import LISTINGS, READ, WRITE
 from ...exchanges.stored import Value, spelled
 from ...exchanges.whose import Labels
 from ..values.bindings import RENAMED, Bindings
@@ -15,8 +16,6 @@ from ..values.long_values import Parting, content_of, is_long, parting_between
 
 # After one of these the rest of a reply has another layout.
 DECIDING = ('reply_stat', 'reject_stat', 'accept_stat', 'status')
-# Calls and replies whose data is of a file, from the offset of the call on.
-WRITE, READ = 'NFSPROC3_WRITE', 'NFSPROC3_READ'
 LAST_OF_HEAD = 'verf_body'  # RFC 5531, section 9
 # Words that say whether a value follows, which is there or not.
 CHOICES = frozenset(('set_mode', 'set_uid', 'set_gid', 'set_size', 'check'))
@@ -176,7 +175,7 @@ class Comparison:
         is. Entries of a directory are brought together by their names, and those of one name by
         turn."""
         here, there = RunMessage(first, call), RunMessage(second, other)
-        if first.is_call or first.procedure not in ('NFSPROC3_READDIR', 'NFSPROC3_READDIRPLUS'):
+        if first.is_call or first.procedure not in LISTINGS:
             return self.of_items(here.items(range(len(first.items))),
                                  there.items(range(len(second.items))))
         head, entries, tail = first.entries()

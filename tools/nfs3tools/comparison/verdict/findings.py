@@ -188,7 +188,8 @@ class Explaining:
     def __init__(self, runs: Sequence[Run], pairing: Pairing, leaves_out: frozenset[str],
                  explanation: Explanation) -> None:
         """Pairs that are explained were taken apart again, and are left out."""
-        self.pairing, self.by_order = pairing, explanation.pairs
+        self.pairing, self.by_order, self.remarks = (
+            pairing, explanation.pairs, explanation.remarks)
         first, second = (OneOfTwo(number, run, pairing, leaves_out, explanation)
                          for number, run in enumerate(runs))
         self.runs = first, second
@@ -258,8 +259,14 @@ class Explaining:
             found = list(of_pair(here.apart.exchanges[at], there.apart.exchanges[to],
                                  here.apart.path(at), comparison))
             if turn in unequal:
-                yield from (((at, to), replace(finding, differences=tuple(
-                    map(self.with_paths, finding.differences)))) for finding in found)
+                yield from (((at, to), self.with_remark(replace(finding, differences=tuple(
+                    map(self.with_paths, finding.differences))), (at, to))) for finding in found)
+
+    def with_remark(self, finding: Finding, pair: Pair) -> Finding:
+        """Returns a finding about a reply with the reason why no order explains it."""
+        is_told = finding.kind == 'changed' and not finding.message.is_call and not all(
+            one.is_equal for one in finding.differences)
+        return replace(finding, remark=self.remarks.get(pair, '')) if is_told else finding
 
     def with_paths(self, one: Difference) -> Difference:
         """Returns a difference with the paths of both values if they are file handles."""

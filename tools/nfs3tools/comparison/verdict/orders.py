@@ -162,6 +162,7 @@ class Orders:
         self.explanation = self.two.explanation(mask)
         if self.explanation.pairs or any(self.explanation.counted):
             self.take(self.two.pairing, self.explanation)
+        self.explaining.remarks = self.explanation.remarks
 
     def follow(self, classes: frozenset[str]) -> None:
         """Takes the second run with the first run's values of some classes."""
