@@ -9,7 +9,7 @@ come before them. These are the only rules, and what nobody says is not known.
 from __future__ import annotations
 
 from bisect import bisect_left, bisect_right
-from collections import defaultdict
+from collections import Counter, defaultdict
 from collections.abc import Hashable, Iterable, Iterator, Sequence
 from functools import cached_property
 from itertools import accumulate, chain
@@ -255,7 +255,8 @@ class Timeline:
         first, second = (one, asked) if one.end < asked.begin else (asked, one)
         is_apart = first.end < second.begin
         surely, maybe = list[ValueChange](), list[ValueChange]()
-        for change in self.changes.between(first.begin, max(first.end, second.end)):
+        begin, end = min(first.begin, second.begin), max(first.end, second.end)
+        for change in self.changes.between(begin, end):
             if change.source in (one.source, asked.source):
                 own = one if change.source == one.source else asked
                 if not is_apart:
@@ -264,7 +265,7 @@ class Timeline:
                     surely.append(change)
             elif is_apart and change.begin > first.end and change.end < second.begin:
                 surely.append(change)
-            elif change.end >= min(first.begin, second.begin):
+            else:
                 maybe.append(change)
         return surely, maybe
 
@@ -380,29 +381,35 @@ class LinkCount(Timeline):
 
 
 class FolderSize(Timeline):
-    """The size of a folder, of which servers make what they want: between those of the answers
-    next to it. Without a change between, it is equal."""
+    """The size of a folder, of which servers make what they want. Without a change between, it is
+    that of the answers next to it; else between those of them, or what one of the last changes
+    shows. If these do not show it, it differs from an answer as much as others of the run do."""
 
     def allows(self, asked: Sighting) -> Optional[bool]:
-        before = self.others(self.sights.latest(asked.begin), asked)
-        after = self.others(self.first_after(asked.end), asked)
-        over = self.others(self.sights.between(asked.begin, asked.end), asked)
-        same = {one.value for one in (*before, *over, *after)
-                if not any(self.passed(one, asked))}
+        near = [one for one in (*self.sights.latest(asked.begin), *self.first_after(asked.end),
+                                *self.sights.between(asked.begin, asked.end))
+                if one.source != asked.source]
+        same = {one.value for one in near if not any(self.passed(one, asked))}
         if same:
             return asked.value in same
-        sizes = [int(str(one.value)) for one in (*before, *over, *after)]
-        if int(str(asked.value)) in sizes:
+        sizes, value = [int(str(one.value)) for one in near], int(str(asked.value))
+        if sizes and min(sizes) <= value <= max(sizes):
             return True
-        if not before or not after:
-            return None
-        return min(sizes) <= int(str(asked.value)) <= max(sizes)
-
-    def others(self, some: Iterable[Sighting], asked: Sighting) -> list[Sighting]:
-        return [one for one in some if one.source != asked.source]
+        is_allowed = super().allows(asked)
+        if is_allowed is None and sizes:
+            return any(abs(value - size) in self.steps for size in sizes)
+        return is_allowed
 
     def first_after(self, end: int) -> list[Sighting]:
         """Returns the answers that begin after a frame and before the first of them ends."""
         near = self.sights.after(end, NEAREST)
         first = min((one.end for one in near), default=0)
         return [one for one in near if one.begin <= first]
+
+    @cached_property
+    def steps(self) -> set[int]:
+        """How much answers that follow one another differ, if several pairs of them do so."""
+        sizes = [int(str(one.value)) for one in self.sights.ended]
+        counts = Counter(abs(size - after) for size, after in zip(sizes, sizes[1:]))
+        # (a wrong answer differs from the one before it and from the one after it)
+        return {step for step, number in counts.items() if number > 2}
