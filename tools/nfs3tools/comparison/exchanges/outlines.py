@@ -11,7 +11,7 @@ from array import array
 from bisect import bisect_left, bisect_right
 from collections import defaultdict
 from collections.abc import Callable, Iterable, Iterator
-from functools import cache
+from functools import cache, cached_property
 from itertools import groupby
 from operator import attrgetter
 
@@ -136,7 +136,8 @@ class Outlines:
             self.starts.append(len(self))
             self.take_connection(some, pattern)
         self.names = list(self.procedures)
-        self.ask_of_objects(lambda at: when(*self.record_of(at)) if when else at)
+        self.turn_of: Callable[[int], int] = lambda at: when(*self.record_of(at)) if when else at
+        self.ask_of_objects(self.turn_of)
 
     def __len__(self) -> int:
         return len(self.asked)
@@ -302,6 +303,20 @@ class Outlines:
     def objects_of(self, at: int) -> list[int]:
         """Returns the handles of a call."""
         return [handle for handle in (self.folders[at], self.seconds.get(at, 0)) if handle]
+
+    @cached_property
+    def first_turns(self) -> dict[int, int]:
+        """When each handle was first found, or asked for."""
+        out = dict[int, int]()
+        for at in range(len(self)):
+            turn = self.turn_of(at)
+            for handle in (self.folders[at], self.seconds.get(at, 0), self.found[at]):
+                out[handle] = min(out.get(handle, turn), turn)
+        return out
+
+    def is_new(self, at: int) -> bool:
+        """Whether no call before an exchange knows the object that it finds."""
+        return self.turn_of(at) <= self.first_turns[self.found[at]]
 
     def calls_alike(self, lines: Iterable[str], wanted: set[int]) -> dict[int, tuple[object, ...]]:
         """Returns of some exchanges what alike calls have in common: procedure, objects, names and
