@@ -253,10 +253,11 @@ class Client:
 def recorded(chance: random.Random, server: Server, scripts: list[list[Step]]) -> bytes:
     """A recording of clients whose calls are carried out in a random order. The first one makes
     what is shared before the others begin."""
+    asked = [*(Step(ACCESS, name) for name in SHARED), Step(READDIRPLUS)]
     clients = [Client(number, [Step(LOOKUP, b'w'), *(
-        Step(LOOKUP if number else CREATE, name, 0o644) for name in SHARED), *(
-        Step(ACCESS, name) for name in SHARED), *script]) for number, script in enumerate(scripts)]
-    said, alone = list[tuple[int, int, bytes]](), len(scripts[0]) + len(SHARED)
+        Step(LOOKUP if number else CREATE, name, 0o644) for name in SHARED), *asked, *script])
+        for number, script in enumerate(scripts)]
+    said, alone = list[tuple[int, int, bytes]](), len(scripts[0])
     while ready := [one for one in clients if one.script or one.waiting]:
         first = clients[0]
         is_made = len(first.script) < alone or len(first.script) == alone and not first.waiting

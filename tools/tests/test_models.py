@@ -22,11 +22,10 @@ def scripts_of(seed: int) -> tuple[list[list[Step]], list[list[Step]]]:
     scripts = [model.script_of(chance, number, clients) for number in range(clients)]
     first, second = [*map(list, scripts)], [*map(list, scripts)]
     names = [*SHARED, *(step.name for script in scripts for step in script if step.name)]
-    for some in (first, second):
-        for script in some:
-            if chance.random() < 0.3:
-                asked = model.question(chance, chance.choice(names))
-                script.insert(chance.randrange(len(script) + 1), asked)
+    for both in zip(first, second):
+        script, asked = chance.choice(both), model.question(chance, chance.choice(names))
+        if chance.random() < 0.6:
+            script.insert(chance.randrange(len(script) + 1), asked)
     return first, second
 
 

@@ -35,6 +35,7 @@ SETTABLE = ('mode', 'uid', 'gid', 'size')
 KEPT_ITEMS, LASTING_ITEMS, TIMES_ITEM = (*SETTABLE, 'nlink'), ('type', 'rdev1', 'rdev2'), 'times'
 SHOWN_ITEMS = (*KEPT_ITEMS, *LASTING_ITEMS)
 LISTINGS_AT_MOST = 4  # of a folder, whose order is kept
+WHOLE_AT_MOST = 2  # that say which names were not there at first
 # What a history is asked of: an object and an item, or a folder and a name after a slash.
 HistoryKey = tuple[Hashable, str]
 
@@ -94,7 +95,7 @@ class History:
     shown: by objects, what answers say: exchanges and items
     leads: by folders and names, to what these lead, by exchanges
     names: the names of each folder
-    listings: the longest ones of each folder
+    listings, wholes: the longest ones of each folder, and the first that have all of its names
     results: by procedures and objects, what is said the same each time; of ACCESS what was asked
         and granted
     """
@@ -108,6 +109,7 @@ class History:
         self.leads = defaultdict[HistoryKey, list[tuple[int, Hashable]]](list)
         self.names = defaultdict[Hashable, dict[str, None]](dict)
         self.listings = defaultdict[Hashable, list[Listed]](list)
+        self.wholes = defaultdict[Hashable, list[Listed]](list)
         self.results = defaultdict[tuple[str, Hashable], SaidValues](SaidValues)
         self.equal = dict[tuple[int, ...], tuple[int, ...]]()
         self.timelines = dict[HistoryKey, Timeline]()
@@ -136,13 +138,20 @@ class History:
     def take_results(self, one: CarriedOut) -> None:
         own = self.known_as(one.handle)
         if one.procedure in LISTINGS:
-            some = [*self.listings[own], listed_in(one)]
-            some.sort(key=lambda listed: -len(listed.names))
-            self.listings[own] = some[:LISTINGS_AT_MOST]
+            self.take_listing(own, listed_in(one))
         elif one.procedure in STEADY or one.procedure == ACCESS:
             self.results[one.procedure, own].take(one.source, results_in(one))
         elif one.procedure == MKDIR and 'fh' in one.reply:
             self.made[self.known_as(one.reply['fh'])].append(one.source)
+
+    def take_listing(self, folder: Hashable, listed: Listed) -> None:
+        """Keeps the longest listings of a folder, and the first whole ones."""
+        some = sorted([*self.listings[folder], listed], key=lambda other: -len(other.names))
+        self.listings[folder] = some[:LISTINGS_AT_MOST]
+        if listed.is_first and listed.is_last:
+            some = sorted([*self.wholes[folder], listed],
+                          key=lambda other: self.frames[other.source])
+            self.wholes[folder] = some[:WHOLE_AT_MOST]
 
     def names_claimed(self, one: CarriedOut) -> Iterator[Claim]:
         """Iterates over the names of which an answer says to what they lead."""
@@ -314,8 +323,7 @@ class History:
         """Returns to what a name leads when. MKDIR of the folder and whole listings say of names
         that they are not there."""
         name, without = key[1][1:], list(self.made.get(key[0], ()))
-        without += (one.source for one in self.listings.get(key[0], ())
-                    if one.is_first and one.is_last and name not in one.names)
+        without += (one.source for one in self.wholes.get(key[0], ()) if name not in one.names)
         said = (*self.leads.get(key, ()), *((source, GONE) for source in without))
         return Timeline(self.changes.get(key, ()),
                         [Sighting(*self.frames[source], source, value) for source, value in said])
