@@ -18,11 +18,11 @@ class Presence(NamedTuple):
 
 
 class Present:
-    """The names of a folder, and when each is there for sure."""
+    """The names of a folder, and when each is there for sure, as all answers say but one."""
 
-    def __init__(self, history: History, folder: Hashable) -> None:
+    def __init__(self, history: History, folder: Hashable, but: int) -> None:
         self.history, self.folder = history, folder
-        self.times = {name: list(times_of(name, history.timeline(name_key(folder, name))))
+        self.times = {name: list(times_of(name, history.timeline(name_key(folder, name)), but))
                       for name in history.names.get(folder, ())}
         self.all = sorted(time for times in self.times.values() for time in times)
         self.begins = [time.begin for time in self.all]
@@ -64,17 +64,23 @@ class Present:
         return out
 
 
-def times_of(name: str, line: Timeline) -> Iterator[Presence]:
+def witness_but(history: History, folder: Hashable, source: int) -> int:
+    """Returns a listing if it is one of those that say which names are not there, or -1: it is no
+    witness of itself."""
+    return source if any(one.source == source for one in history.wholes.get(folder, ())) else -1
+
+
+def times_of(name: str, line: Timeline, but: int) -> Iterator[Presence]:
     """Iterates over the times at which a name is there for sure: between changes that leave it, and
     before all of them if answers say so."""
     setters = line.setters
     begins = [*setters.begins, STILL]
-    if is_there(line.initial()):
+    if is_there(line.initial(but)):
         yield Presence(-1, begins[0], name)
     highest: Iterator[int] = accumulate((change.end for change in setters.begun), max)
     for end, following in zip(highest, begins[1:]):
         if end < following:
-            left = [line.left(change, -1) for change in setters.latest(following)]
+            left = [line.left(change, but) for change in setters.latest(following)]
             if all(map(is_there, left)):
                 yield Presence(end, following, name)
 

@@ -18,7 +18,7 @@ from ...exchanges.history import (
     ANY_OBJECT, GONE, KEPT_ITEMS, LASTING_ITEMS, TIMES_ITEM, Claim, HistoryKey,
     listed_in, name_key)
 from ...exchanges.objects import DOTS
-from ...exchanges.presence import Present
+from ...exchanges.presence import Present, witness_but
 from ...exchanges.procedures import DONE, LISTINGS, LOOKUP, NO_ENTRY
 from ...exchanges.statements import BEFORE, owners_in, statements_in, statements_of_entry
 from ...exchanges.values import Values
@@ -116,7 +116,7 @@ class OrderRule:
         self.histories = [own.history for own in facts]
         turns = [own.turns for own in facts if own.turns]
         self.otherwise = Otherwise(pairing, self.histories, turns)
-        self.present = dict[tuple[int, object], Present]()
+        self.present = dict[tuple[int, object, int], Present]()
 
     # --- Two answers ---
 
@@ -277,9 +277,9 @@ class OrderRule:
                     return 'it has a name that no other answer has'
         if not names or not listed.is_first:
             return ''
-        own = reply.run, reply.folder
+        own = reply.run, reply.folder, witness_but(reply.history, reply.folder, reply.at)
         if own not in self.present:
-            self.present[own] = Present(reply.history, reply.folder)
+            self.present[own] = Present(reply.history, *own[1:])
         return 'it lacks a name' if self.present[own].lacking(listed) else ''
 
     # --- An answer of one run alone ---
