@@ -172,7 +172,8 @@ class OneOfTwo:
         finding = Finding(kind, one.call, None, path, remark=remark)
         if mask is not None:
             finding = replace(finding, arguments=tuple(arguments_of(one.call, mask)),
-                              statuses=(statuses_of(one), ''), results=tuple(self.results(at, mask)))
+                              statuses=(statuses_of(one), ''),
+                              results=tuple(self.results(at, mask)))
         return finding if self.number == 0 else replace(
             finding, first=None, second=one.call, statuses=finding.statuses[::-1])
 
