@@ -50,7 +50,6 @@ for tool in nfs3-compare
     complete -c $tool -l ignore -x -d 'fields that are left out of the explanation'
     complete -c $tool -l accept -r -d 'takes a file of accepted findings, which do not count'
     complete -c $tool -l accept-new -r -d 'writes a file that accepts the findings of this comparison'
-    complete -c $tool -l marks -x -d 'compares the parts that begin at calls of LOOKUP, CREATE and MKDIR whose name fits a pattern of the shell'
     complete -c $tool -l all -d 'prints each finding by itself'
     complete -c $tool -l brief -d 'prints a line for each finding'
     complete -c $tool -l html -r -d 'writes a page for a browser with what differs and the calls around it'

@@ -18,8 +18,8 @@ ROW = re.compile(r'^\| `(\w+)` \|', re.M)
 COLUMNS = re.compile(r'^line-length = (\d+)$', re.M)
 # From the lowest to the highest.
 ROOMS = ('shared', 'recordings', 'captures', 'exchanges', 'comparison.values',
-         'comparison.exchanges', 'comparison.verdict',
-         'comparison.parts', 'reporting', 'judgement', 'pages', 'meaning', 'commands')
+         'comparison.exchanges', 'comparison.verdict', 'reporting', 'judgement', 'pages', 'meaning',
+         'commands')
 # Each module of `commands` defines these: they are how it is run.
 ENTRY_POINTS = frozenset(('main', 'command'))
 

@@ -4,17 +4,20 @@ import re
 from typing import Any
 
 from examples.messages import (
-    NFS, REG, call, dirop, fattr, fh, guard, ok, post_op_attr, sattr, success, wcc, word)
+    NFS, REG, call, dirop, fattr, fh, guard, hyper, made, ok, opaque, post_op_attr, sattr, success,
+    wcc, word)
 from examples.packets import pcap
 
 from .comparisons import Comparisons, Conversation, conversation_of
 from .scripts import connection_of
 
-FOLDER, SETATTR = b'folder', 2
+FOLDER, SETATTR, WRITE, CREATE = b'folder', 2, 7, 8
 NLINK = {'procedure': 'NFSPROC3_GETATTR', 'path': '?/f1', 'field': 'obj.nlink', 'first': '1',
          'second': '2'}
 ONLY = {'procedure': 'NFSPROC3_SETATTR', 'path': '?/f0', 'only': 'second', 'asks': ['set.mode=416'],
-        'status': '0'}
+        'status': '0', 'says': []}
+ATTRIBUTES = ['obj.type=1', 'obj.mode=420', 'obj.nlink=1', 'obj.uid=1000', 'obj.gid=1000',
+              'obj.size=0', 'obj.rdev1=0', 'obj.rdev2=0']
 
 
 def run(*nlinks: int, more: int = 0, names: tuple[int, ...] = ()) -> Conversation:
@@ -103,6 +106,28 @@ def a_call_of_one_run_alone_is_accepted_by_its_side(place: Comparisons) -> None:
     place.want('no field', compared(place, '--accept', 'known')[:2], (1, 'differ'))
 
 
+def a_call_of_one_run_alone_is_accepted_with_its_answer(place: Comparisons) -> None:
+    """Another count, another mode, or the handle of another file is another finding."""
+    def answered(count: int, handle: bytes, mode: int = 0o600) -> Conversation:
+        attributes = fattr(REG, 9, size=4, mode=mode)
+        return conversation_of([
+            *((3, dirop(FOLDER, name), ok(fh(name), post_op_attr(), post_op_attr()))
+              for name in (b'f0', b'f1')),
+            (WRITE, fh(b'f0') + hyper(0) + word(4) + word(2) + opaque(b'data'),
+             ok(wcc(None, fattr(REG, 1, size=4)), word(count), word(2), bytes(8))),
+            (CREATE, dirop(FOLDER, b'new') + word(0) + sattr(mode=0o600),
+             ok(made(handle, attributes, wcc())))])
+    first = answered(4, b'handle')
+    place.put('a', tuple(some[:2] for some in first))
+    place.put('b', first)
+    place.want('written', compared(place, '--accept-new', 'new')[0], 1)
+    place.want('the same', compared(place, '--accept', 'new')[0], 0)
+    for what, other in (('count', answered(1, b'handle')), ('handle', answered(4, b'f1')),
+                        ('mode', answered(4, b'handle', 0o777))):
+        place.put('b', other)
+        place.want(what, compared(place, '--accept', 'new')[:2], (1, 'differ'))
+
+
 def other_orders_stay_what_they_are(place: Comparisons) -> None:
     """An accepted field changes nothing of what an order means."""
     place.put_both(run(1, 1, 1), run(1, 2, 1, names=(2, 1, 0)))
@@ -123,7 +148,8 @@ def nothing_else_becomes_green(place: Comparisons) -> None:
     everything = [{'procedure': '*', 'field': 'obj.nlink', 'times': 9},
                   {**ONLY, 'only': 'first', 'times': 9}, {**ONLY, 'times': 9},
                   {'procedure': '*', 'kind': 'moved', 'times': 9},
-                  {'procedure': '*', 'kind': 'replies', 'first': '0', 'second': '0, 0', 'times': 9}]
+                  {'procedure': '*', 'kind': 'replies', 'first': '0', 'second': '0, 0',
+                   'says': ATTRIBUTES, 'times': 9}]
     accepts(place, *everything)
     place.put('a', run(1, 1))
     place.put('b', run(1, 2), run(1, 1, more=1))
@@ -188,7 +214,7 @@ def files_are_written_and_read_with_care(place: Comparisons) -> None:
     accepts(place, NLINK)
     for words in (('--accept-new', 'a'), ('--accept-new', 'c'),
                   ('--accept', 'known', '--json', 'known'),
-                  ('--accept-new', 'x', '--html', 'x'), ('--accept', 'known', '--marks', 'x')):
+                  ('--accept-new', 'x', '--html', 'x')):
         before = {name: place.read(name) for name in ('a', 'b', 'c', 'known')}
         place.want(' '.join(words), place.compare(*words, 'a', 'b')[0], 2)
         place.want('kept', {name: place.read(name) for name in before}, before)
@@ -254,18 +280,21 @@ def many_entries_cost_little(place: Comparisons) -> None:
 
 
 def replies_are_accepted_by_their_statuses(place: Comparisons) -> None:
-    """A second reply is accepted with its status, and no other one."""
-    def answered(*statuses: int) -> Conversation:
+    """A second reply is accepted with its status and its values, and no other one."""
+    def answered(*statuses: int, mode: int = 0o644) -> Conversation:
         calls, replies = run(1, 1)
         last = len(calls)
-        return calls, [*replies[:-1], *(success(last, ok(fattr(REG, 2))) if not status
-                                        else success(last, word(status))
-                                        for status in statuses)]
+        modes = [0o644] + [mode] * len(statuses)
+        return calls, [*replies[:-1], *(
+            success(last, ok(fattr(REG, 2, mode=own)) if not status else word(status))
+            for own, status in zip(modes, statuses))]
     place.put_both(answered(0), answered(0, 0))
     place.want('written', compared(place, '--accept-new', 'new')[0], 1)
     place.want('entry', place.json('new')['accepted'][0], {
         'procedure': 'NFSPROC3_GETATTR', 'path': '[?]/f1', 'kind': 'replies', 'first': '0',
-        'second': '0, 0'})
+        'second': '0, 0', 'says': ATTRIBUTES})
     place.want('accepted', compared(place, '--accept', 'new')[0], 0)
+    place.put('b', answered(0, 0, mode=0o777))
+    place.want('another mode', compared(place, '--accept', 'new')[:2], (1, 'differ'))
     place.put('b', answered(0, 5))
     place.want('another', compared(place, '--accept', 'new')[:2], (1, 'differ'))

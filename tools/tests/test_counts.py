@@ -160,21 +160,19 @@ RUNS: list[tuple[Sequence[str], Sequence[str]]] = [
 
 
 def the_counts_in_each_form(place: Covers) -> None:
-    """The counts stand in text, JSON, JUnit and on the page, also with --marks."""
+    """The counts stand in text, JSON, JUnit and on the page."""
     for first, second in RUNS:
         wanted = [place.put('a', first), place.put('b', second)]
-        for words in ([], ['--mask', 'none', '--order', 'any'], ['--marks', 'x']):
-            page = [] if '--marks' in words else ['--html', 'out.html']
+        for words in ([], ['--mask', 'none', '--order', 'any']):
             what = f'{first} {second} {words}'
-            status, out, error = place.compare(*words, *page, '--json', 'out.json', '--junit',
-                                               'out.xml', 'a', 'b')
+            status, out, error = place.compare(*words, '--html', 'out.html', '--json', 'out.json',
+                                               '--junit', 'out.xml', 'a', 'b')
             place.want(f'{what}: status', (status in (0, 1, 2), 'Traceback' in error),
                        (True, False))
             place.want(f'{what}: text', in_text(out), wanted)
             place.want(f'{what}: JSON', place.of_json(), wanted)
             place.want(f'{what}: JUnit', place.junit(), wanted)
-            if page:
-                place.want(f'{what}: page', place.page(), wanted)
+            place.want(f'{what}: page', place.page(), wanted)
 
 
 def words_and_statuses(place: Covers) -> None:
@@ -203,10 +201,6 @@ def words_and_statuses(place: Covers) -> None:
             errors = [tag for tags in cases.values() for tag in tags if tag == 'error']
             place.want(f'{what}: JUnit', (cases['the runs are the same'], errors),
                        (['failure'] if wanted else [], ['error'] * (2 if kind == 'refused' else 0)))
-            if allowed != others:
-                marked, out, _ = place.compare(*allowed, '--marks', 'x', 'a', 'b')
-                is_said = any(line.startswith('compared in part: ') for line in out)
-                place.want(f'{what}: parts', (marked, is_said), (wanted, not is_whole))
 
 
 def what_is_not_compared(place: Covers) -> None:
@@ -234,7 +228,7 @@ def positions_beside_refused_connections(place: Covers) -> None:
                   (asked, [*replies[:2], success(3, ok(fattr(1, 5, mode=mode)))])]
         place.write(name, pcap(frame for port, both in enumerate(bodies, 700)
                                for frame in connection_of(*both, port=port)))
-    for words in ([], ['--order', 'strict'], ['--order', 'any'], ['--marks', 'x']):
+    for words in ([], ['--order', 'strict'], ['--order', 'any']):
         status, out, _ = place.compare(*words, 'a', 'b')
         found = [line for line in out if line.startswith('NFSPROC3')]
         where = 'connection 3 server record 3 (frame 19)'

@@ -345,7 +345,8 @@ def options_that_are_gone(tools: Tools) -> None:
     tools.write('a.pcap', pcap(good()))
     for words, instead in ((['verdicts', '--follow', '-'], 'watch -n 10'),
                            (['verdicts', '--filter', 'tcp', 'a.pcap'], 'tshark -r'),
-                           (['from_pcap', '--filter', 'tcp', 'a.pcap', 'out'], 'tshark -r')):
+                           (['from_pcap', '--filter', 'tcp', 'a.pcap', 'out'], 'tshark -r'),
+                           (['compare', '--marks=x', 'a.pcap', 'a.pcap'], 'editcap -A')):
         status, out, error = tools.tool(*words)
         tools.want(' '.join(words), (status, out, error.count('\n'), instead in error),
                    (2, '', 1, True))

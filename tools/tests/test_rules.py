@@ -365,20 +365,3 @@ def silly_names(place: Comparisons) -> None:
     hidden = [b'.nfs%024x' % number for number in (5, 6)]
     said = any_order(place, run([*hidden, b'x']), run([hidden[1], b'x', hidden[0]]))
     place.want('same', said.status, 0)
-
-
-def parts_by_the_same_rules(place: Comparisons) -> None:
-    """Each part of a run is compared by the same rules."""
-    def part(number: int, ids: int, is_first: bool) -> list[Step]:
-        name, handle = b'new %d' % number, b'handle %d' % number
-        new, found = created(name, handle, ids, client=1), looked(name, handle, ids)
-        steps = [new, found] if is_first else [not_found(name), new]
-        return [not_found(b'test_%d' % number), ROOT, *steps, got(handle, ids), F]
-    first = [*part(1, 20, False), *part(2, 21, False)]
-    for what, second, wanted in (('same', [*part(1, 20, True), *part(2, 30, True)], 0),
-                                 ('mode', [*part(1, 20, True), *part(2, 30, True)[:-1], G], 1)):
-        place.write('a', recorded(first))
-        place.write('b', recorded(second))
-        status, lines, error = place.compare('--order', 'any', '--marks', 'test_*', 'a', 'b')
-        place.want(what, (status, error), (wanted, ''))
-        place.want(f'{what}: explained', '1 answer explained by order' in lines[1], True)

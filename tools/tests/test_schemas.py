@@ -90,7 +90,7 @@ def verdicts_fit(tools: Tools) -> None:
 
 
 def comparisons_fit(tools: Tools) -> None:
-    """What compare writes fits, of runs of all kinds and of parts."""
+    """What compare writes fits, of runs of all kinds."""
     place = Comparisons(tools.program, tools.folder)
     accepts(place, NLINK)
     place.put('a', run(1, 1, 1))
@@ -100,10 +100,6 @@ def comparisons_fit(tools: Tools) -> None:
         place.put('b', run(*nlinks, names=names, more=nlinks[1] - 1))
         value = fits(tools, 'compare.json', written(tools, 'compare', *words, 'a', 'b'))
         tools.want('version', value['version'], 1)
-    place.put('b', run(1, 2, 3, more=1))
-    for words in (('--marks', 'f*'), ('--marks', 'f1')):
-        value = fits(tools, 'compare.json', written(tools, 'compare', *words, 'a', 'b'))
-        tools.want('parts', (value['version'], len(value['parts']) > 0), (1, True))
     tools.write('lost.pcap', pcap(whole()[:4] + whole()[5:]))
     fits(tools, 'compare.json', written(tools, 'compare', *RUNS))
     fits(tools, 'compare.json', written(tools, 'compare', 'lost.pcap', 'lost.pcap'))

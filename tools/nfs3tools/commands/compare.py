@@ -2,8 +2,8 @@
 differs.
 
     tools/compare [--mask CLASS,..] [--order strict|any] [--ignore PROCEDURE.FIELD,..]
-                  [--accept FILE] [--accept-new FILE] [--marks PATTERN] [--all] [--brief]
-                  [--html FILE] [--json FILE] [--junit FILE] A B
+                  [--accept FILE] [--accept-new FILE] [--all] [--brief] [--html FILE]
+                  [--json FILE] [--junit FILE] A B
 
 The manual page, tools/man/compare.1, has the rest.
 
@@ -19,7 +19,7 @@ import re
 import sys
 import tempfile
 from collections import Counter
-from collections.abc import Iterator, Sequence
+from collections.abc import Sequence
 from contextlib import ExitStack
 from dataclasses import replace
 from functools import partial
@@ -27,7 +27,6 @@ from pathlib import Path
 from typing import NamedTuple
 
 from ..comparison.exchanges.pairing import ASKING
-from ..comparison.parts.part_by_part import PartByPart
 from ..comparison.values.classes import CLASSES, following, in_any_order, mask_text, mask_word
 from ..comparison.verdict import summary
 from ..comparison.verdict.accepted import accepted_of, file_of
@@ -46,9 +45,9 @@ from ..recordings.selection import Options
 from ..recordings.taken import NotTaken, Taken, take
 from ..reporting import telling
 from ..reporting.messages import (
-    REFUSED, add_judging, advice_on, allowed_of, ended, options_of, parser_of, recording_lines, run)
-from ..reporting.reports import (
-    json_of_comparison, json_of_parts, junit_of_comparison, junit_of_error, junit_of_parts)
+    REFUSED, add_gone, add_judging, advice_on, allowed_of, ended, options_of, parser_of,
+    recording_lines, run)
+from ..reporting.reports import json_of_comparison, junit_of_comparison, junit_of_error
 from ..shared.outputs import check_output, held, printed_beside, try_outputs, write_file
 from ..shared.printed import escaped
 from ..shared.programs import program_path
@@ -81,8 +80,8 @@ def command_line_of_compare(words: list[str]) -> argparse.Namespace:
                         help='takes a file of accepted findings, which do not count')
     parser.add_argument('--accept-new', metavar='FILE',
                         help='writes a file that accepts the findings of this comparison')
-    parser.add_argument('--marks', metavar='PATTERN', help='compares the parts that begin at calls '
-                        'of LOOKUP, CREATE and MKDIR whose name fits a pattern of the shell')
+    add_gone(parser, '--marks', 'cut each recording with `editcap -A TIME -B TIME`, and compare the '
+             'parts')
     parser.add_argument('--all', action='store_true', help='prints each finding by itself; by '
                         f'default, equal ones are one, and {FINDINGS_AT_MOST} are printed')
     parser.add_argument('--brief', action='store_true', help='prints a line for each finding')
@@ -96,12 +95,7 @@ def command_line_of_compare(words: list[str]) -> argparse.Namespace:
     add_judging(parser)
     parser.add_argument('first', metavar='A')
     parser.add_argument('second', metavar='B')
-    chosen = parser.parse_args(words)
-    if chosen.marks is not None and chosen.html:
-        parser.error('--html is not for parts: --marks has --json and --junit')
-    if chosen.marks is not None and (chosen.accept or chosen.accept_new):
-        parser.error('--accept and --accept-new are not for parts')
-    return chosen
+    return parser.parse_args(words)
 
 
 class Whole(NamedTuple):
@@ -165,8 +159,7 @@ def compared_runs(words: argparse.Namespace, stack: ExitStack) -> int:
     choices = Choices(words.order, masks, following(words.mask),
                       frozenset() if words.extra == 'none' else ASKING,
                       AROUND if words.html else None, words.accept)
-    is_same = (compared_whole if words.marks is None
-               else compared_by_parts)(words, whole, choices, losses_of(whole.covers, RUNS))
+    is_same = compared_whole(words, whole, choices)
     if any(cover.is_refused for cover in whole.covers):
         return REFUSED
     return SAME if is_same else DIFFERENT
@@ -195,12 +188,13 @@ def whole_of(program: str, folder: Path, names: list[str], inputs: list[str],
                  [run_of(trial, *one) for one in zip(trial.runs, trial.captures, names)])
 
 
-def compared_whole(words: argparse.Namespace, whole: Whole, choices: Choices, losses: str) -> bool:
-    """Compares the runs as wholes. Returns whether they are the same."""
+def compared_whole(words: argparse.Namespace, whole: Whole, choices: Choices) -> bool:
+    """Compares the runs. Returns whether they are the same."""
     with whole.trial.progress.line():
         report = judged_runs(whole.trial, whole.runs, whole.names, whole.sizes, choices,
                              whole.covers)
-    line, is_good = report.line(losses), report.is_same and whole.is_good(allowed_of(words))
+    line = report.line(losses_of(whole.covers, RUNS))
+    is_good = report.is_same and whole.is_good(allowed_of(words))
     print(screen_of(words.color).painted(line, colour_of_word(report.word(), is_good)),
           *lines_of_counts(whole.covers, RUNS), sep='\n', flush=True)
     if words.accept_new:
@@ -263,35 +257,6 @@ def coloured(line: str, screen: Screen) -> str:
     """Returns a line of a finding, as `diff` colours it."""
     sign = SIGN.match(line)
     return screen.painted(line, SIGN_COLOURS[sign[1]]) if sign else line
-
-
-def compared_by_parts(words: argparse.Namespace, whole: Whole, choices: Choices,
-                      losses: str) -> bool:
-    """Compares the parts that begin at marks. Returns whether all are the same."""
-    with whole.trial.progress.line():
-        parts = PartByPart(whole.trial, whole.names, whole.runs, words.marks,
-                           choices).reports(words.ignore)
-    is_good, screen = whole.is_good(allowed_of(words)), screen_of(words.color)
-    for part in parts:
-        print(screen.painted(part.line(), colour_of_word(part.word(), is_good and part.is_good)))
-    if words.junit:
-        counting = '' if is_good else losses
-        write_file(words.junit,
-                   [junit_of_parts(whole.names, whole.covers, counting, parts, whole.framings())],
-                   whole.inputs)
-    if words.json:
-        write_file(words.json, json_of_parts(words.marks, whole.covers, parts, whole.framings()),
-                   whole.inputs)
-    for part in parts:
-        if part.report and part.report.verdict != 'same' and (
-                part.compared.silent or is_told(words, part.report)):
-            print(part.name)
-            print_comparison(words, whole, part.report, part.compared, part.left_out)
-    if losses:
-        print(f'compared in part: {losses}')
-    print(*lines_of_counts(whole.covers, RUNS),
-          summary.of_parts([part.word() for part in parts]), sep='\n')
-    return is_good and all(part.is_good for part in parts)
 
 
 def write_error(words: argparse.Namespace, message: str) -> None:

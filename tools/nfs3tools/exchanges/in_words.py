@@ -15,6 +15,7 @@ from typing import NamedTuple, Optional
 from ..shared.layouts import RAW, VALUES, meaning_of
 from .answering import error_in
 from .listing import ITEM
+from .procedures import LISTINGS
 
 LONGEST_TEXT = 1_000  # characters of a name or a text
 TEXTS_KEPT_AT_MOST = 1_024  # texts that are made once
@@ -42,7 +43,6 @@ RESULTS = {'NFSPROC3_GETATTR': (re.compile(r' (type)=(\d+) (mode)=(\d+) nlink=\d
            'NFSPROC3_WRITE': (re.compile(r' (count)=(\d+) (committed)=(\d)'),
                               '{count} {committed}')}
 OF_TWO = ('NFSPROC3_RENAME', 'NFSPROC3_LINK')
-LISTINGS = frozenset(('NFSPROC3_READDIR', 'NFSPROC3_READDIRPLUS'))
 SPLIT = re.compile(r'\\(?:x[0-9a-f]?)?$')  # the beginning of a byte that is spelled by its digits
 NAMED = {'access', 'committed', 'how', 'mode', 'stable', 'type'}  # items whose numbers have names
 NOT_READ = 'accepted'  # what is said of results that are not read

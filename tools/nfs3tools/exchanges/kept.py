@@ -21,7 +21,8 @@ from ..recordings.taken import Completion, TakenConnection
 from .answering import Answering, error_in
 from .in_words import Asked, answer_in, asked_in, short
 from .listing import ITEM, Item, is_call, listed_of, name_of_call
-from .objects import LISTING, MAKING, RENAMING, TEACHING, UNKNOWN, Move, Paths, below
+from .objects import GIVING_HANDLES, TEACHING, UNKNOWN, Move, Paths, below
+from .procedures import READDIRPLUS, RENAME
 from .stored import LongValues, Texts, without_long
 
 UNTIMED = -1 << 63  # means no latency
@@ -119,7 +120,7 @@ class KeptExchange:
     def made(self) -> str | None:
         """The handle that a reply gave of a name in a folder."""
         replies = self.kept.replies_of(self.at)
-        if not replies or self.errors or self.kept.listed_name(self.at) not in MAKING:
+        if not replies or self.errors or self.kept.listed_name(self.at) not in GIVING_HANDLES:
             return None
         found = HANDLE_ITEM.search(self.kept.answering[replies[0]])
         return found[2] if found else None
@@ -445,10 +446,10 @@ class Reading:
     def learn(self, at: int, procedure: str, text: str, frame: int) -> None:
         """Learns from a reply which paths handles have."""
         asked = asked_in(procedure, self.kept.asking[at])
-        if procedure == RENAMING:
+        if procedure == RENAME:
             self.paths.moves.append(Move(frame, asked.handle or '', asked.entry or '',
                                          asked.other or '', asked.other_entry or ''))
             return
-        found = ITEM.findall(text) if procedure == LISTING else HANDLE_ITEM.findall(text)[:1]
+        found = ITEM.findall(text) if procedure == READDIRPLUS else HANDLE_ITEM.findall(text)[:1]
         items: Sequence[Item] = [Item(*item) for item in found if item[0] in ('name', 'fh')]
         self.paths.take_reply(procedure, asked.handle or '', asked.entry or '', items, frame)

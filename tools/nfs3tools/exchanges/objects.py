@@ -12,11 +12,12 @@ from functools import cached_property
 from typing import NamedTuple
 
 from .listing import Exchange, Item
+from .procedures import LOOKUP, MAKING, READDIRPLUS, RENAME
 
-MOUNTING, LISTING, RENAMING = 'MOUNTPROC3_MNT', 'NFSPROC3_READDIRPLUS', 'NFSPROC3_RENAME'
-MAKING = {
-    'NFSPROC3_LOOKUP', 'NFSPROC3_CREATE', 'NFSPROC3_MKDIR', 'NFSPROC3_SYMLINK', 'NFSPROC3_MKNOD'}
-TEACHING = {*MAKING, MOUNTING, LISTING, RENAMING}  # whose replies say of handles what they are
+MOUNTING = 'MOUNTPROC3_MNT'
+GIVING_HANDLES = {LOOKUP, *MAKING}  # calls of a name whose replies have its handle
+# Calls whose replies say of handles what they are
+TEACHING = {*GIVING_HANDLES, MOUNTING, READDIRPLUS, RENAME}
 DOTS = ('.', '..')  # the folder itself, and the one above it
 UNKNOWN = '?'  # a folder whose path is not known
 # Paths are cut in their middle, so that many deep ones take no more memory than their names do.
@@ -133,15 +134,15 @@ class Paths:
         if procedure not in TEACHING:
             return
         own = None if procedure == MOUNTING else folder
-        name, is_made = ('.', False) if procedure == LISTING else (
-            name, procedure != 'NFSPROC3_LOOKUP')
+        name, is_made = ('.', False) if procedure == READDIRPLUS else (
+            name, procedure != LOOKUP)
         for item in items:
             # (in a listing each handle comes after the name of its entry)
-            if item.name == 'name' and procedure == LISTING:
+            if item.name == 'name' and procedure == READDIRPLUS:
                 name = str(item.value).strip('"')
             elif item.name == 'fh':
                 self.learn(str(item.value), Origin(own, name, is_made), frame)
-                if procedure != LISTING:
+                if procedure != READDIRPLUS:
                     break
 
 

@@ -6,7 +6,6 @@ from collections import Counter
 from collections.abc import Iterable, Iterator, Sequence
 from typing import Any
 
-from ..comparison.parts.part_by_part import PartReport
 from ..comparison.values.classes import Mask
 from ..comparison.verdict.accepted import Split
 from ..comparison.verdict.cover import Cover
@@ -14,7 +13,6 @@ from ..comparison.verdict.decision import Report
 from ..comparison.verdict.differences import Difference
 from ..comparison.verdict.findings import RUNS, Compared, Finding, Framing
 from ..exchanges.in_words import short
-from ..exchanges.listing import Message
 from ..exchanges.stored import Long, Value
 from ..shared.printed import escaped, printable
 from . import telling
@@ -72,24 +70,6 @@ def cover_members(cover: Cover) -> dict[str, Any]:
     as a whole."""
     return {'missing': cover.missing, 'counts': cover.counts().members(),
             'not_judged': [{**row._asdict(), 'ends': row.ends or None} for row in cover.rows()]}
-
-
-def json_of_parts(marks: str, covers: Sequence[Cover], parts: Sequence[PartReport],
-                  framings: Sequence[Framing]) -> Iterator[bytes]:
-    """The comparison of parts, in pieces: an object with a list of the parts. What is said of a
-    part is an object as of whole runs."""
-    head = {'version': REPORT_VERSION, 'marks': escaped(marks),
-            'runs': [*map(cover_members, covers)]}
-    return json_with_list(head, 'parts', (json_of_part(part, framings) for part in parts))
-
-
-def json_of_part(part: PartReport, framings: Sequence[Framing]) -> Iterator[bytes]:
-    head = {'name': part.name.plain, 'number': part.name.number, 'verdict': part.word(),
-            'only': part.only}
-    yield json.dumps(head).removesuffix('}').encode() + b', "comparison": '
-    yield from json_of_comparison(part.report, part.compared, part.left_out,
-                                  framings) if part.report else [b'null\n']
-    yield b'}'
 
 
 def ways_by_class(mask: Mask) -> dict[str, str]:
@@ -213,26 +193,6 @@ def case_name(group: Sequence[Finding]) -> str:
     words = ' '.join(filter(None, [name, path, telling.up_to(FIELDS_IN_CASE_NAME, fields)]))
     kind = KIND_WORDS.get(finding.kind)
     return f'{only}{words}' + (f': {kind}' if kind else '')
-
-
-def junit_of_parts(names: Sequence[str], covers: Sequence[Cover], losses: str,
-                   parts: Sequence[PartReport],
-                   framings: Sequence[Framing]) -> bytes:
-    """A case for each part, which passed if the part is good, with what differs. Before them one
-    for what is missing, if that counts."""
-    cases = Cases(names, covers)
-    if losses:
-        cases.add('the runs are whole', 'failure', losses, type='same in part')
-    for part in parts:
-        silent = list(of_silent(part.compared, framings, CASES_AT_MOST))
-        if part.is_good:
-            cases.add(str(part.name), text=[part.line(), *silent])
-        else:
-            groups = groups_alike(part.compared.findings)
-            texts = [line for group in groups[:CASES_AT_MOST] for line in of_group(group, framings)]
-            cases.add(str(part.name), 'failure', part.line(),
-                      [*texts, *silent, *more_than_cases(groups)], type=part.word())
-    return cases.written()
 
 
 def junit_of_error(names: Sequence[str], message: str) -> bytes:

@@ -2,20 +2,19 @@
 that may be left out."""
 from __future__ import annotations
 
-from collections.abc import Callable, Iterable, Sequence
+from collections.abc import Callable, Sequence
 from dataclasses import dataclass, field
 from functools import cached_property
 
-from ...exchanges.in_words import LISTINGS
+from ...exchanges.procedures import LISTINGS
 from ...recordings.taken import Taken
 from ..values.classes import Mask
-from .changes import BothChanges, Change, Changes, Turns, is_quiet
-from .explained import Doubt, free_items
+from .changes import Change, Turns, is_quiet
+from .explained import OrderRule, Unexplained
 from .extras import Extras, ReasonsOfCalls, refused
 from .facts import Facts
 from .followed import Followed, partners_of, with_values
 from .matching import Pair
-from .outlines import Outlines
 from .pairing import Listing, Pairing
 
 
@@ -26,9 +25,11 @@ class Explanation:
     pairs: those whose answers differ, with the changes that explain it
     counted: calls of the first and of the second run alone that only ask and count all the same,
         each with the reason
+    remarks: why answers of others are not explained, if it is not for want of a change
     """
     pairs: dict[Pair, list[Change]] = field(default_factory=dict)
     counted: ReasonsOfCalls = field(default_factory=lambda: (dict[int, str](), dict[int, str]()))
+    remarks: dict[Pair, str] = field(default_factory=dict)
 
 
 class TwoRuns:
@@ -60,43 +61,44 @@ class TwoRuns:
             procedure_of(pair[0]) in LISTINGS or not is_quiet(turns, pair))]
 
     @cached_property
-    def changes(self) -> BothChanges:
-        """The changes of both runs, and what their answers say about the objects of what differs,
-        which is read once it is asked for."""
-        first, second = (self.changes_of(run, {pair[run] for pair in self.doubtful}.union(some))
+    def facts(self) -> tuple[Facts, Facts]:
+        """What both runs say about the objects of what differs, which is read once it is asked
+        for."""
+        first, second = (self.facts_of(run, {pair[run] for pair in self.doubtful}.union(some))
                          for run, some in enumerate(self.extras))
-        return BothChanges(first, second)
+        return first, second
 
-    def changes_of(self, run: int, wanted: set[int]) -> Changes:
-        """Returns the changes of a run, of which some exchanges may be left out."""
+    def facts_of(self, run: int, wanted: set[int]) -> Facts:
+        """Reads a run, of which some exchanges may be left out."""
         outlines, turns = self.pairing.runs[run], self.turns
         # (what lists folders may have any handles)
         handles = None if any(outlines.procedure_of(at) in LISTINGS for at in wanted) else {
             handle for at in wanted for handle in (*outlines.objects_of(at), outlines.found[at])
             if handle}
-        facts = Facts(outlines, self.listings()[run](), wanted, handles)
-        return Changes(self.pairing, run, facts, turns[run] if turns else None)
+        return Facts(outlines, self.listings()[run](), turns[run] if turns else None, wanted,
+                     handles)
 
     def explanation(self, mask: Mask) -> Explanation:
         out = Explanation()
         if self.unequal or any(self.extras):
             identify(self.pairing)
-        if self.doubtful:
-            free = free_items(mask)
-            found = ((pair, Doubt(self.changes, pair, mask, free).explained())
-                     for pair in self.doubtful)
-            out.pairs = {pair: changes for pair, changes in found if changes is not None}
+        if not self.doubtful and not any(self.extras):
+            return out
+        rule = OrderRule(self.pairing, self.facts, mask)
+        for pair in self.doubtful:
+            try:
+                out.pairs[pair] = rule.explained(pair)
+            except Unexplained as why:
+                out.remarks[pair] = str(why)
         if any(self.extras):
-            out.counted = refused(*(
-                Extras(self.changes, run, some, set(self.pairing.matched(run)))
-                for run, some in enumerate(self.extras)))
+            out.counted = refused(*(Extras(rule, run, some, set(self.pairing.matched(run)))
+                                    for run, some in enumerate(self.extras)))
         return out
 
     def followed(self, classes: frozenset[str]) -> Taken:
         """Returns the second run with the first run's values of these classes."""
         listings = self.listings()
-        facts = [Facts(own, listing()) for own, listing in zip(self.pairing.runs, listings)]
-        values = Followed(self.pairing, listings, facts, classes).values
+        values = Followed(self.pairing, listings, classes).values
         return with_values(self.taken[1], values, listings[1]())
 
 

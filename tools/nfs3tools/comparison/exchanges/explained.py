@@ -1,264 +1,312 @@
-"""Pairs of exchanges whose answers differ by nothing but what an order explains.
+"""The rule: which answers of two runs may differ, and which calls of one run alone are left out.
 
-Both have to ask the same, of the same user and the same objects. They may differ in
+A difference between two answers to one question is explained if
 
-    LOOKUP                 found or not, and which object, as changes of the name leave it
-    READDIR, READDIRPLUS   entries whose names changes made, took or renamed; their places follow
-    attributes, anywhere   size, nlink, used and times by changes of the object; also mode and
-                           owners by a SETATTR that sets them
+- a change of this very value stands otherwise to the question in both runs (`changes`), and
+- each of both answers is one that the history of its own run allows at that time (`history`).
 
-Each difference needs a change of that name or object that stands otherwise (`changes`). A size or a
-count of links is also one that another answer of either run says of the object, or, of a size, at
-most the end of a WRITE that was sent before. All ids are those that the run says elsewhere.
+What a history does not know must be equal. A call of one run alone is left out if it only asks, and
+if the history of its run allows all of its answer. compare.1 has the same in more words.
 """
 from __future__ import annotations
 
-from collections.abc import Sequence
-from typing import NamedTuple, Optional
+from collections.abc import Iterator, Mapping, Sequence
+from itertools import chain
+from typing import Any, NamedTuple, Optional
 
-from ...exchanges.in_words import LISTINGS
-from ...exchanges.objects import MAKING
-from ...exchanges.whose import Labels
+from ...exchanges.history import (
+    ANY_OBJECT, GONE, KEPT_ITEMS, LASTING_ITEMS, TIMES_ITEM, Claim, HistoryKey,
+    listed_in, name_key)
+from ...exchanges.objects import DOTS
+from ...exchanges.presence import Present, witness_but
+from ...exchanges.procedures import DONE, LISTINGS, LOOKUP, NO_ENTRY
+from ...exchanges.statements import BEFORE, owners_in, statements_in, statements_of_entry
+from ...exchanges.values import Values
 from ..values.classes import CLASSES, Mask, Way
-from .changes import ANY_OBJECT, GONE, NOTHING_ELSE, BothChanges, Change, ChangeKey, Changes
-from .facts import DONE, LOOKUP, NO_ENTRY, is_silly
+from .changes import Change, Otherwise
+from .facts import Facts, is_silly
 from .matching import Pair
+from .pairing import Pairing
 
-SIZE_ITEMS = frozenset(('size', 'nlink'))
-BY_CHANGES = SIZE_ITEMS | {'used', 'atime_sec', 'atime_nsec', 'mtime_sec', 'mtime_nsec',
-                           'ctime_sec', 'ctime_nsec'}
-BY_SETTING = frozenset(('mode', 'uid', 'gid'))
+TIMES_OF_FILES = frozenset(('atime', 'mtime', 'ctime', 'used'))
 # Values that follow their objects and entries.
 FOLLOWING_ITEMS = {'fileid': 'ids', 'fsid': 'fsids', 'cookie': 'cookies',
                    'cookieverf': 'cookieverfs'}
-SETATTR = 'NFSPROC3_SETATTR'
-# The objects of which a call has the handles, by the words of labels: the folder of a LINK and the
-# target of a RENAME are second.
-SECOND_HANDLES = frozenset((('NFSPROC3_LINK', 'dir'), ('NFSPROC3_RENAME', 'to-dir')))
+NOT_KNOWN, NOT_ALLOWED = (
+    'not known: no change and no other answer of the {} run says what it was',
+    'the changes and the other answers of the {} run do not allow it')
+RUN_WORDS = ('first', 'second')
+EntryKey = object  # the name of an entry, or the object of one whose name is masked
 
 
 class Unexplained(Exception):
-    """A difference that no order explains."""
+    """A difference that no order explains. The text says why, if it is not that no change stands
+    otherwise."""
 
 
 class Field(NamedTuple):
-    """An item of a reply: its name and value, the word of the part that it is in, with that of the
-    part inside it, and the object of which it is, 0 if that is not known."""
-    name: str
-    value: str
-    part: str
-    identity: int
+    """An item of a reply: its value, and what of a history it is, if it is of one."""
+    item: str
+    value: Any
+    key: Optional[HistoryKey] = None
+    is_before: bool = False
 
 
-class Reply:
-    """The only reply of one exchange of a pair, with what it asks."""
-
-    def __init__(self, changes: Changes, at: int) -> None:
-        self.changes, self.facts, self.outlines, self.at = (
-            changes, changes.facts, changes.outlines, at)
-        _, (self.message,) = self.facts.messages[at]
-        self.labels = Labels(self.message)
-        self.procedure = self.message.procedure
-        self.status = self.message.value_of('status')
-        # The object of the first handle of the call, and that which is found, or made
-        self.folder, found = self.outlines.object_of(at), self.outlines.found[at]
-        self.found = self.outlines.identities[found] if found else 0
-
-    def identity_of(self, handle: str) -> int:
-        return self.changes.identity(int(handle, 16)) if 0 < len(handle) <= 8 else 0
-
-    def owner_of(self, word: str) -> int:
-        if word == 'obj' and self.procedure in MAKING:
-            return self.found
-        if (self.procedure, word) in SECOND_HANDLES:
-            return self.outlines.identities[self.outlines.seconds[self.at]]
-        return self.folder
-
-    def fields(self, some: range | None = None, entry: int | None = None) -> list[Field]:
-        """Returns all items, or some. `entry` is the object of the entry in which they are."""
-        out = list[Field]()
-        for at in range(len(self.message.items)) if some is None else some:
-            owners, item = self.labels.slots[at].owners, self.message.items[at]
-            identity = (self.identity_of(str(item.value)) if item.name == 'fh'
-                        else self.owner_of(owners[0].word if owners else '') if entry is None
-                        else entry)
-            out.append(Field(item.name, str(item.value), ' '.join(one.word for one in owners),
-                             identity))
-        return out
-
-    def object_in(self, entry: range) -> int:
-        return self.identity_of(self.message.value_of('fh', entry) or '')
-
-    def check_alone(self, identity: int) -> None:
-        """Raises `Unexplained` if it disagrees with its run on an object that it alone shows."""
-        why = {self.changes.disagrees(self.at, one)
-               for one in self.facts.said_in(self.at, self.message).statements
-               if one.handle and self.changes.identity(one.handle) == identity}
-        if why - {'', NOTHING_ELSE}:
-            raise Unexplained
+FieldsOfReply = Mapping[str, Field]  # by labels
 
 
 def free_items(mask: Mask) -> frozenset[str]:
     """Returns the names of the items that may differ under a mask."""
-    return frozenset(name for one in CLASSES for name in one.items
-                     if mask.get(one.name) is Way.ZERO and not one.is_of_changes
-                     and not one.has_names) | {
+    masked = {name for one in CLASSES for name in one.items if mask.get(one.name) is Way.ZERO
+              and not one.is_of_changes and not one.has_names}
+    # (a time is one value)
+    return frozenset(name.removesuffix('_sec') for name in masked) | {
         name for name, way in FOLLOWING_ITEMS.items() if way in mask}
 
 
-class Doubt:
-    """A pair of answers that differ, and what explains it. Items that are `free` may differ."""
+class Reply:
+    """The only reply of an exchange of a run, 0 or 1."""
 
-    def __init__(self, changes: BothChanges, pair: Pair, mask: Mask, free: frozenset[str]) -> None:
-        self.changes, self.pair, self.mask, self.free = changes, pair, mask, free
-        self.facts = [run.facts for run in changes.runs]
-        self.found = dict[ChangeKey, list[Change]]()
-        self.both = list[Reply]()
+    def __init__(self, facts: Facts, run: int, at: int) -> None:
+        self.facts, self.history, self.run, self.at = facts, facts.history, run, at
+        ((self.head, self.one),) = facts.messages[at]
+        self.reply = self.one.reply
+        self.owners = {owner: self.shared(handle) for owner, handle in owners_in(
+            self.one.procedure, self.one.call, self.reply)}
 
-    def explained(self) -> list[Change] | None:
-        """Returns the changes that explain how the answers differ, or None if something else does.
-        There are none if only places of masked names differ."""
-        runs = list(zip(self.changes.runs, self.pair))
-        asked = {(run.outlines.asked[at], *map(run.identity, run.outlines.objects_of(at)))
-                 for run, at in runs}
-        if len(asked) > 1 or any(at in run.facts.odd or len(run.facts.messages[at][1]) != 1
-                                 for run, at in runs):
-            return None
+    def shared(self, handle: str) -> object:
+        """Returns what an object is called in both runs, None if that is not known."""
+        return self.facts.identity(handle) or None
+
+    @property
+    def folder(self) -> object:
+        """The folder of a listing or of a name."""
+        return self.facts.known_as(self.one.call['fh'])
+
+    def fields(self, values: Values | None = None, own: object = None) -> dict[str, Field]:
+        """Returns the items of the reply, or those of an entry of an object."""
+        return {name: self.field(name, value, own)
+                for name, value in (self.reply if values is None else values).items()
+                if name != 'entries'}
+
+    def field(self, name: str, value: Any, own: object) -> Field:
+        owner, _, item = name.rpartition('.')
+        own = self.owners.get(owner.partition('.')[0], own)
+        if item == 'fh':
+            return Field(item, self.shared(value))
+        kept = (TIMES_ITEM if item in TIMES_OF_FILES else
+                item if item in KEPT_ITEMS or item in LASTING_ITEMS else '')
+        return Field(item, value, (own, kept) if kept and own is not None else None,
+                     f'{owner}.'.endswith(BEFORE))
+
+    def object_in(self, entry: Values) -> object:
+        return self.shared(entry['fh']) if 'fh' in entry else None
+
+    def entries(self, mask: Mask) -> dict[EntryKey, Values]:
+        """Returns the entries of a listing by their names, or by objects if these are masked."""
+        return {self.object_in(entry) if 'sillynames' in mask and is_silly(entry['name'])
+                else entry['name']: entry for entry in self.reply.get('entries', ())}
+
+
+class OrderRule:
+    """The rule for two runs. Items that are `free` may differ."""
+
+    def __init__(self, pairing: Pairing, facts: tuple[Facts, Facts], mask: Mask) -> None:
+        self.facts, self.mask, self.free = facts, mask, free_items(mask)
+        self.histories = [own.history for own in facts]
+        turns = [own.turns for own in facts if own.turns]
+        self.otherwise = Otherwise(pairing, self.histories, turns)
+        self.present = dict[tuple[int, object, int], Present]()
+
+    # --- Two answers ---
+
+    def explained(self, pair: Pair) -> list[Change]:
+        """Returns changes that explain how two answers differ: none if only places of masked names
+        do. Raises `Unexplained` if something else does."""
+        runs = list(zip(self.facts, pair))
+        asked = {(own.outlines.asked[at], *map(own.outlines.identities.__getitem__,
+                                               own.outlines.objects_of(at))) for own, at in runs}
+        if len(asked) > 1 or any(at in own.ids.odd or len(own.messages[at]) != 1
+                                 for own, at in runs):
+            raise Unexplained
+        first, second = (Reply(own, run, at) for run, (own, at) in enumerate(runs))
+        if first.head.partition(' status=')[0] != second.head.partition(' status=')[0]:
+            raise Unexplained
         # (both ask from the beginning of a folder, or neither does)
-        if len({run.facts.messages[at][0].value_of('cookie') == '0' for run, at in runs}) > 1:
-            return None
-        self.both = [Reply(run, at) for run, at in runs]
-        try:
-            return list(dict.fromkeys(self.of_replies()))
-        except Unexplained:
-            return None
-
-    def of_replies(self) -> list[Change]:
-        first, second = self.both
-        if first.procedure == LOOKUP and (first.status, first.found) != (
-                second.status, second.found):
-            return self.of_lookup()
-        if first.status != second.status:
+        if len({reply.one.call.get('cookie') == 0 for reply in (first, second)}) > 1:
             raise Unexplained
-        if first.procedure in LISTINGS and first.status == DONE:
-            return self.of_listing()
-        return self.of_fields(first.fields(), second.fields())
+        return list(dict.fromkeys(self.of_replies(first, second)))
 
-    def otherwise(self, key: ChangeKey) -> list[Change]:
-        """Returns the changes that stand otherwise to the pair. There has to be one."""
-        if key and key not in self.found:
-            self.found[key] = self.changes.otherwise(self.pair, key)
-        if not key or not self.found[key]:
+    def of_replies(self, first: Reply, second: Reply) -> Iterator[Change]:
+        if first.one.procedure == LOOKUP and found_in(first) != found_in(second):
+            return self.of_lookup(first, second)
+        if first.one.status != second.one.status:
             raise Unexplained
-        return self.found[key]
+        if first.one.procedure in LISTINGS and first.one.status == DONE:
+            return self.of_listing(first, second)
+        return self.of_fields((first, second), (first.fields(), second.fields()))
 
-    def of_lookup(self) -> list[Change]:
+    def change(self, both: Sequence[Reply], key: HistoryKey | None) -> Change:
+        """Returns a change of a key that stands otherwise. There has to be one."""
+        first, second = both
+        change = key and self.otherwise.change((first.at, second.at), key)
+        if not change:
+            raise Unexplained
+        return change
+
+    def check(self, reply: Reply, claim: Claim, label: str) -> None:
+        """Raises `Unexplained` if a run does not allow what its answer says."""
+        is_allowed = self.allows(reply.run, reply.at, claim)
+        if not is_allowed:
+            why = NOT_KNOWN if is_allowed is None else NOT_ALLOWED
+            raise Unexplained(f'{label}: {why.format(RUN_WORDS[reply.run])}')
+
+    def allows(self, run: int, at: int, claim: Claim) -> bool | None:
+        """Returns whether a run allows what an answer says. Before all changes of a name it leads
+        where it does in the other run."""
+        own, other = self.histories[run], self.histories[1 - run]
+        is_allowed = own.allows(at, claim)
+        if is_allowed is None and claim.key[1][0] == '/' and not (
+                own.timeline(claim.key).met(own.asked(at, claim))[0]):
+            initial = other.timeline(claim.key).initial()
+            return claim.value in initial or ANY_OBJECT in initial and claim.value != GONE if (
+                initial) else None
+        return is_allowed
+
+    def of_fields(self, both: Sequence[Reply], fields: Sequence[FieldsOfReply]) -> Iterator[Change]:
+        """Iterates over changes that explain how items of one layout differ."""
+        first, second = fields
+        if first.keys() != second.keys():
+            raise Unexplained
+        for label, field in first.items():
+            if field.value != second[label].value and field.item not in self.free:
+                yield self.of_field(both, label, (field, second[label]))
+
+    def of_field(self, both: Sequence[Reply], label: str, fields: Sequence[Field]) -> Change:
+        first, second = fields
+        if first.key != second.key:
+            raise Unexplained
+        change = self.change(both, first.key)
+        for reply, field in zip(both, fields):
+            if field.key and field.key[1] != TIMES_ITEM:
+                self.check(reply, Claim(field.key, field.value, field.is_before), label)
+        return change
+
+    def of_lookup(self, first: Reply, second: Reply) -> Iterator[Change]:
         """Each answer is as changes of the name leave it."""
-        name = self.both[0].folder, self.facts[0].names[self.pair[0]][0]
-        found = self.otherwise(name)
-        for reply in self.both:
-            if reply.status not in (DONE, NO_ENTRY):
+        both, key = (first, second), name_key(first.folder, first.one.call['name'])
+        yield self.change(both, key)
+        for reply in both:
+            if reply.one.status not in (DONE, NO_ENTRY):
                 raise Unexplained
-            to = reply.found if reply.status == DONE else GONE
-            leads = reply.changes.leads(reply.at, name) or self.changes.beginning(
-                self.pair, name) or {to}
-            if to not in leads and ANY_OBJECT not in leads:
-                raise Unexplained
-        for reply in self.both:
-            if reply.found:
-                reply.check_alone(reply.found)
-        folders = [[field for field in reply.fields() if field.part == 'dir']
-                   for reply in self.both]
-        return found + self.of_fields(*folders)
-
-    def of_fields(self, first: Sequence[Field], second: Sequence[Field]) -> list[Change]:
-        """Returns the changes that explain how items of one layout differ."""
-        if [one[::2] for one in first] != [other[::2] for other in second]:
-            raise Unexplained
-        found = list[Change]()
-        for one, other in zip(first, second):
-            if one.value != other.value and one.name not in self.free:
-                found += self.of_field(one, other)
-        self.check_sizes(first, second)
-        return found
-
-    def of_field(self, one: Field, other: Field) -> list[Change]:
-        if one.identity != other.identity:
-            raise Unexplained
-        if one.name == 'fh':
-            return []
-        if one.name in BY_CHANGES:
-            return self.otherwise(one.identity)
-        if one.name in BY_SETTING:
-            some = [change for change in self.otherwise(one.identity)
-                    if one.name in self.facts[change.run].sets.get(change.at, ())]
-            if some:
-                return some
-        raise Unexplained
-
-    def check_sizes(self, first: Sequence[Field], second: Sequence[Field]) -> None:
-        """Raises `Unexplained` if a size or a count of links differs that no other answer has."""
-        for part in {one.part for one, other in zip(first, second)
-                     if one.name in SIZE_ITEMS and one.value != other.value}:
-            for run, fields in enumerate((first, second)):
-                own = [field for field in fields if field.part == part]
-                values = {field.name: field.value for field in own}
-                if not self.is_told(run, own[0].identity, values.get('size'), values.get('nlink')):
-                    raise Unexplained
-
-    def is_told(self, run: int, identity: int, size: Optional[str], nlink: Optional[str]) -> bool:
-        """Whether another answer has a size and a count of links, or a WRITE the size."""
-        others = [fact.attributes for number, facts in enumerate(self.facts)
-                  for fact in facts.facts_of(identity)
-                  if (number, fact.at) != (run, self.pair[run])]
-        if any(size in (None, one.size) and nlink in (None, one.nlink) for one in others):
-            return True
-        return (size is not None
-                and int(size) <= self.changes.runs[run].end_of_writes(self.pair[run], identity)
-                and (nlink is None or any(nlink == one.nlink for one in others)))
+            self.check(reply, Claim(key, found_in(reply)), 'name')
+            for claim in reply.history.claims_of(reply.one):
+                if claim.key[0] == found_in(reply):
+                    self.check(reply, claim, f'obj.{claim.key[1]}')
+        yield from self.of_fields(both, [
+            {label: field for label, field in reply.fields().items() if label.startswith('dir.')}
+            for reply in both])
 
     # --- Folders ---
 
-    def of_listing(self) -> list[Change]:
+    def of_listing(self, first: Reply, second: Reply) -> Iterator[Change]:
         """Entries may differ whose names were changed otherwise. All others are in one order."""
-        parts = [reply.message.entries() for reply in self.both]
-        found = list[Change]()
-        for some in ([head for head, _, _ in parts], [tail for _, _, tail in parts]):
-            found += self.of_fields(*(one.fields(part) for one, part in zip(self.both, some)))
-        ours, theirs = ({self.key_of(reply, entry): entry for entry in entries}
-                        for reply, (_, entries, _) in zip(self.both, parts))
-        for reply, own, its in ((self.both[0], ours, theirs), (self.both[1], theirs, ours)):
-            for key in (key for key in own if key not in its):
-                found += self.of_alone(key)
-                reply.check_alone(reply.object_in(own[key]))
-        common = [key for key in ours if key in theirs]
-        if [key for key in common if isinstance(key, str)] != [
-                key for key in theirs if key in ours and isinstance(key, str)]:
+        both = first, second
+        yield from self.of_fields(both, (first.fields(), second.fields()))
+        entries = [reply.entries(self.mask) for reply in both]
+        for reply, own, others in zip(both, entries, reversed(entries)):
+            for key in (key for key in own if key not in others):
+                yield self.of_alone(both, key)
+                self.check_entry(reply, own[key])
+        for reply in both:
+            wrong = self.wrong_names(reply)
+            if wrong:
+                raise Unexplained(f'{wrong} in the {RUN_WORDS[reply.run]} run')
+        common = [[key for key in own if key in others and self.has_a_place(first, key)]
+                  for own, others in zip(entries, reversed(entries))]
+        if common[0] != common[1]:
             raise Unexplained
-        for key in common:
-            found += self.of_entry(key, ours[key], theirs[key])
-        return found
+        for key, entry in entries[0].items():
+            if key in entries[1]:
+                yield from self.of_entry(both, key, (entry, entries[1][key]))
 
-    def key_of(self, reply: Reply, entry: range) -> str | int:
-        """Returns the name of an entry, or the object of one whose name is masked."""
-        name = (reply.message.value_of('name', entry) or '').strip('"')
-        return reply.object_in(entry) if 'sillynames' in self.mask and is_silly(name) else name
+    def has_a_place(self, reply: Reply, key: EntryKey) -> bool:
+        """Whether an entry was there all the time: others come where the server puts them."""
+        if not isinstance(key, str):
+            return False
+        name = name_key(reply.folder, key)
+        return not any(name in history.changes for history in self.histories)
 
-    def of_entry(self, key: str | int, first: range, second: range) -> list[Change]:
-        both = list(zip(self.both, (first, second)))
-        objects = [reply.object_in(entry) for reply, entry in both]
-        fields = [[field for field in reply.fields(entry, objects[0])
-                   if isinstance(key, str) or field.name != 'name'] for reply, entry in both]
+    def of_entry(self, both: Sequence[Reply], key: EntryKey,
+                 entries: Sequence[Values]) -> Iterator[Change]:
+        objects = [reply.object_in(entry) for reply, entry in zip(both, entries)]
+        fields = [{label: field for label, field in reply.fields(entry, objects[0]).items()
+                   if isinstance(key, str) or label != 'name'}
+                  for reply, entry in zip(both, entries)]
         # (a name that was made meanwhile may have no attributes yet)
-        if objects[0] == objects[1] and [one[::2] for one in fields[0]] == [
-                one[::2] for one in fields[1]]:
-            return self.of_fields(*fields)
-        for reply, identity in zip(self.both, objects):
-            reply.check_alone(identity)
-        return self.of_alone(key)
+        if objects[0] == objects[1] and fields[0].keys() == fields[1].keys():
+            yield from self.of_fields(both, fields)
+            return
+        for reply, entry in zip(both, entries):
+            self.check_entry(reply, entry)
+        yield self.of_alone(both, key)
 
-    def of_alone(self, key: str | int) -> list[Change]:
-        """Returns the changes of a name that stand otherwise. There have to be some."""
-        if isinstance(key, int):
-            raise Unexplained
-        return self.otherwise((self.both[0].folder, key))
+    def of_alone(self, both: Sequence[Reply], key: EntryKey) -> Change:
+        """Returns a change of an entry's name, or of its object, that stands otherwise."""
+        if isinstance(key, str):
+            return self.change(both, name_key(both[0].folder, key))
+        return self.change(both, (key, TIMES_ITEM) if key is not None else None)
+
+    def check_entry(self, reply: Reply, entry: Values) -> None:
+        for statement in statements_of_entry(reply.one.procedure, reply.one.call, entry):
+            for claim in reply.history.claims_in(statement):
+                self.check(reply, claim, f'entry.{claim.key[1]}')
+
+    def wrong_names(self, reply: Reply) -> str:
+        """Returns why a listing has not the names that the changes of its run leave, or nothing."""
+        listed, names = listed_in(reply.one), reply.reply['entries']
+        if len(listed.names) < len(names):
+            return 'it has a name twice'
+        for claim in reply.history.names_claimed(reply.one):
+            if claim.key[1][1:] not in DOTS:
+                is_allowed = self.allows(reply.run, reply.at, claim)
+                if is_allowed is False:
+                    return 'it has a name that is gone, or of another object'
+                if is_allowed is None and not any(
+                        claim.key in history.changes for history in self.histories):
+                    return 'it has a name that no other answer has'
+        if not names or not listed.is_first:
+            return ''
+        own = reply.run, reply.folder, witness_but(reply.history, reply.folder, reply.at)
+        if own not in self.present:
+            self.present[own] = Present(reply.history, *own[1:])
+        return 'it lacks a name' if self.present[own].lacking(listed) else ''
+
+    # --- An answer of one run alone ---
+
+    def wrong_answer(self, run: int, at: int) -> str:
+        """Returns why an answer is not all allowed by its run, or nothing."""
+        reply = Reply(self.facts[run], run, at)
+        if at in self.facts[run].ids.odd:
+            return 'it has another file id than its run elsewhere'
+        statements = statements_in(reply.one.procedure, reply.one.call, reply.reply)
+        for claim in chain.from_iterable(map(reply.history.claims_in, statements)):
+            is_allowed = self.allows(run, at, claim)
+            if is_allowed is None:
+                return f'no other answer has its {claim.key[1]}'
+            if not is_allowed:
+                return f'its {claim.key[1]} is not what the changes of its run leave'
+        if not self.facts[run].turns:
+            return ''
+        if reply.one.procedure == LOOKUP:
+            name = name_key(reply.folder, reply.one.call['name'])
+            is_right = self.allows(run, at, Claim(name, found_in(reply)))
+            return '' if is_right else 'the name leads elsewhere'
+        return self.wrong_names(reply) if reply.one.procedure in LISTINGS else ''
+
+
+def found_in(reply: Reply) -> object:
+    """Returns to what the name of a LOOKUP leads."""
+    if reply.one.status != DONE:
+        return GONE if reply.one.status == NO_ENTRY else None
+    return reply.facts.known_as(reply.reply['fh'])

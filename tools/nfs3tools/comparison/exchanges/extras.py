@@ -1,19 +1,20 @@
 """Calls of one run alone that only ask, and whether they may be left out.
 
-A client's caches decide how often it asks. So such a call is no difference if it has one answer, OK
-or NOENT; if what it asks about is known in the other run; if the other run has no such call alone,
-too; if they are few; and if what it says agrees with other answers of its run.
+A client's caches decide how often it asks. So such a call is no difference if it has one answer
+that the history of its run allows (`explained`), if what it asks about is known in the other run,
+if that has no such call alone, too, and if they are few.
 """
 from __future__ import annotations
 
 from collections import Counter
-from collections.abc import Container, Iterable
+from collections.abc import Container, Iterable, Sequence
+from typing import Any
 
-from ...exchanges.in_words import LISTINGS, short
-from ...exchanges.listing import Message
-from ...exchanges.searches import names_in
-from .changes import ANY_OBJECT, GONE, BothChanges
-from .facts import ACCESS, DONE, LOOKUP, NO_ENTRY, is_silly
+from ...exchanges.history import results_in
+from ...exchanges.in_words import short
+from ...exchanges.procedures import ACCESS, DONE, LOOKUP, NO_ENTRY, STEADY
+from ...exchanges.timelines import SaidValues
+from .explained import OrderRule
 
 FEW, SHARE = 10, 10  # so many calls of a procedure, or one of so many
 Question = tuple[str, int, tuple[str, ...]]  # the procedure, the object, and the name
@@ -23,11 +24,11 @@ ReasonsOfCalls = tuple[dict[int, str], dict[int, str]]  # calls of both runs, ea
 class Extras:
     """The calls of a run that the other run does not have, and only ask."""
 
-    def __init__(self, both: BothChanges, run: int, some: Iterable[int],
+    def __init__(self, rule: OrderRule, run: int, some: Iterable[int],
                  paired: Container[int]) -> None:
         """`paired` are the exchanges that the other run has, too."""
-        self.both, self.run, self.some, self.changes = both, run, sorted(some), both.runs[run]
-        self.facts, self.outlines = self.changes.facts, self.changes.outlines
+        self.rule, self.run, self.some, self.facts = rule, run, sorted(some), rule.facts[run]
+        self.outlines, self.history = self.facts.outlines, self.facts.history
         self.objects = set(self.outlines.identities) - {0}
         own = set(self.some)
         # Handles of calls that the other run has, too: it knows what they are.
@@ -52,13 +53,13 @@ class Extras:
 
     def wrong(self, at: int, other: 'Extras') -> str:
         """Returns why a call is no matter of caches, or nothing."""
-        call, replies = self.facts.messages[at]
+        replies = self.facts.messages[at]
         if len(replies) != 1:
             return 'it has no reply' if not replies else 'it has several replies'
-        status = replies[0].value_of('status')
-        if status is None:
-            return '' if replies[0].value_of('accept_stat') == DONE else 'it is not accepted'
-        if status not in (DONE, NO_ENTRY):
+        one = replies[0][1]
+        if one.status is None:
+            return 'it is not accepted'
+        if one.status != DONE and (one.status, one.procedure) != (NO_ENTRY, LOOKUP):
             return 'it has failed'
         folder = self.outlines.object_of(at)
         if self.outlines.folders[at] not in self.shared and folder not in other.objects:
@@ -66,54 +67,26 @@ class Extras:
         names = [(folder, name) for name in self.facts.names.get(at, ())]
         if not other.names.issuperset(names):
             return 'the other run does not know the name'
-        return (self.wrong_attributes(at, replies[0])
-                or self.wrong_access(at) or self.wrong_lead(at, status)
-                or self.wrong_entries(at, call.value_of('cookie') or '', replies[0].text, other))
+        return self.rule.wrong_answer(self.run, at) or self.wrong_results(at, other)
 
-    def wrong_attributes(self, at: int, reply: Message) -> str:
-        if at in self.facts.odd:
-            return 'it has another file id than its run elsewhere'
-        found = (self.changes.disagrees(at, one)
-                 for one in self.facts.said_in(at, reply).statements)
-        return next(filter(None, found), '')
+    def wrong_results(self, at: int, other: 'Extras') -> str:
+        """Returns why its results are not those of the same question, or nothing. Of ACCESS each
+        bit has to be that of another answer."""
+        one = self.facts.messages[at][0][1]
+        key = one.procedure, self.facts.known_as(one.handle)
+        own, others = (run.history.results.get(key, SaidValues()).but(source)
+                       for run, source in ((self, at), (other, -1)))
+        if one.procedure == ACCESS:
+            return '' if grants_as(results_in(one), own | others) else 'it grants something else'
+        is_told = one.procedure not in STEADY or results_in(one) in (own or others)
+        return '' if is_told else 'no other answer has its results'
 
-    def wrong_access(self, at: int) -> str:
-        if self.outlines.procedure_of(at) != ACCESS:
-            return ''
-        some = self.facts.bits[self.outlines.folders[at], self.facts.asked_bits[at]]
-        own, others = ({bits for one, bits in some if (one == at) is is_own}
-                       for is_own in (True, False))
-        return '' if not others or own <= others else 'it grants something else'
 
-    def wrong_lead(self, at: int, status: str) -> str:
-        """Returns why a LOOKUP leads elsewhere than the changes of its run say, or nothing."""
-        if self.outlines.procedure_of(at) != LOOKUP or not self.changes.turns:
-            return ''
-        name = self.outlines.object_of(at), self.facts.names[at][0]
-        handle = self.outlines.found[at]
-        to = self.outlines.identities[handle] if status == DONE else GONE
-        pair = (at, -1) if self.run == 0 else (-1, at)
-        leads = self.changes.leads(at, name) or self.both.beginning(pair, name) or {to}
-        return '' if to in leads or ANY_OBJECT in leads else 'the name leads elsewhere'
-
-    # --- Folders ---
-
-    def wrong_entries(self, at: int, cookie: str, text: str, other: 'Extras') -> str:
-        """Returns why a listing has not the names that the changes of its run leave, or nothing."""
-        if self.outlines.procedure_of(at) not in LISTINGS or not self.changes.turns:
-            return ''
-        folder, names = self.outlines.object_of(at), set(names_in(text))
-        leads = {key[1]: self.changes.leads(at, key) for key in self.changes.of_key
-                 if not isinstance(key, int) and key[0] == folder}
-        if any(leads.get(name) == {GONE} for name in names):
-            return 'it has a name that is gone'
-        own = self.facts.entries_of(folder, at)
-        if names - leads.keys() - own - other.facts.entries_of(folder, -1):
-            return 'it has a name that no other answer has'
-        stay = {name for name, some in leads.items() if some and not some & {GONE, ANY_OBJECT}}
-        wanted = {name for name in stay | own - leads.keys() if not is_silly(name)}
-        is_whole = cookie == '0' and text.endswith(' eof=1')
-        return 'it lacks a name' if is_whole and wanted - names else ''
+def grants_as(own: Sequence[Any], others: Iterable[Any]) -> bool:
+    """Whether each bit for which an ACCESS asks is as another one has it."""
+    (asked, granted), told = own, list(others)
+    return all(any(mask & bit and bits & bit == granted & bit for mask, bits in told)
+               for place in range(asked.bit_length()) if asked & (bit := 1 << place))
 
 
 def refused(first: Extras, second: Extras) -> ReasonsOfCalls:

@@ -1,218 +1,104 @@
-"""What the answers of a run say of its objects: their attributes and ids, and where names lead.
+"""What any order asks of a run: its history, the ids of its objects, and some of its exchanges.
 
-It is read once, from the listing of the canonical form of a run that is not masked, and asked by
-all rules of any order (`explained`, `extras`, `followed`).
+It is read once, from the listing of the canonical form of a run that is not masked.
 """
 from __future__ import annotations
 
-from collections import Counter, defaultdict
-from collections.abc import Container, Iterable, Iterator, Sequence
-from functools import cached_property
-from typing import NamedTuple
+from collections.abc import Container, Hashable, Iterable
+from functools import cache
 
-from ...exchanges.in_words import LISTINGS
-from ...exchanges.listing import Line, Message
-from ...exchanges.objects import MAKING
-from ...exchanges.searches import (
-    ReplyPart, SpelledAttributes, access_in, end_of_write_in, names_in, parts_in, settings_in)
-from ..values.classes import CLASSES
-from .outlines import CHANGING, Outlines
+from ...exchanges.answering import REPLY_STATUS
+from ...exchanges.history import STILL, CarriedOut, History
+from ...exchanges.listing import Line
+from ...exchanges.procedures import ACCESS, CHANGING, LISTINGS, LOOKUP, is_of_files
+from ...exchanges.statements import names_in_call, statements_in
+from ...exchanges.stored import LongValues, without_long
+from ...exchanges.values import Values, read_call, read_reply
+from ...shared.layouts import RAW
+from .changes import Turns
+from .ids import IdsOfRun, handles_asked
+from .outlines import SILLY, Outlines
 
-LOOKUP, ACCESS, LINK = 'NFSPROC3_LOOKUP', 'NFSPROC3_ACCESS', 'NFSPROC3_LINK'
-DONE, NO_ENTRY = '0', '2'
-SILLY = next(one for one in CLASSES if one.name == 'sillynames')
-
-
-class Statement(NamedTuple):
-    """What an answer says of an object: its attributes, and when they were changed. Of an entry
-    without attributes it is the file id alone. The object is known by its handle, or as a name in a
-    folder if the answer has none."""
-    handle: int
-    name: str
-    attributes: SpelledAttributes | None
-    ctime: int
-    fileid: str
-
-
-Lead = tuple[int, str, int]  # a folder, a name in it, and to which object it leads, 0 for none
-
-
-class ReplyFacts(NamedTuple):
-    """What a reply says."""
-    statements: list[Statement]
-    leads: list[Lead]
-
-
-def owners_of(procedure: str, handles: Sequence[int], found: int, is_done: bool) -> Sequence[int]:
-    """Returns whose the attributes of a reply are, in their order."""
-    if procedure in MAKING:
-        return [found, handles[0]] if is_done else [handles[0]]
-    return handles if len(handles) == 2 else [handles[0]] * 2
-
-
-def facts_in_reply(procedure: str, handles: Sequence[int], name: str, text: str) -> ReplyFacts:
-    """Reads what a reply says, to a call with these handles and this name."""
-    if not handles:
-        return ReplyFacts([], [])
-    parts = list(parts_in(text))
-    if procedure in LISTINGS:
-        return entry_facts(handles[0], parts)
-    is_done = ' status=0' in text
-    found = next((part.handle for part in parts if part.handle is not None), 0)
-    # (attributes, or that there are none)
-    shown = (part for part in parts if part.name is None and part.handle is None)
-    told = [statement_of(part, owner)
-            for part, owner in zip(shown, owners_of(procedure, handles, found, is_done))
-            if part.attributes and owner]
-    is_lead = procedure in MAKING and found or procedure == LOOKUP and ' status=2' in text
-    return ReplyFacts(told, [(handles[0], name, found)] if is_lead else [])
-
-
-def statement_of(part: ReplyPart, handle: int, name: str = '') -> Statement:
-    return Statement(handle, name, part.attributes, part.ctime, part.fileid)
-
-
-def entry_facts(folder: int, parts: Iterable[ReplyPart]) -> ReplyFacts:
-    """Reads the entries of a folder: names, each with attributes and a handle if it has them."""
-    told, leads, first = list[Statement](), list[Lead](), 0
-    name: str | None = None  # of the entry
-    for part in parts:
-        if part.name is not None:
-            first, name = len(told), part.name
-            told.append(statement_of(part, folder, '' if name == '.' else name))
-        elif part.attributes:
-            told.append(statement_of(part, folder, '' if name is None or name == '.' else name))
-        elif part.handle is not None and name is not None:
-            leads.append((folder, name, part.handle))
-            told[first:] = [one._replace(handle=part.handle, name='') for one in told[first:]]
-    return ReplyFacts(told, leads)
-
-
-class Fact(NamedTuple):
-    """Attributes of an object, with the exchange whose answer says them."""
-    at: int
-    ctime: int
-    attributes: SpelledAttributes
-
-
-Known = tuple[int, str]  # an object by its handle, or by its folder's and its name
-Id = tuple[str, str]  # of the file system, empty if it is not known, and of the file
+READ_CALLS = CHANGING | LISTINGS | {LOOKUP, ACCESS}  # of which more than handles are asked
 
 
 class Facts:
-    """What the answers of a run say, and what of it the rules ask.
+    """What is read of a run.
 
-    statements: by handles, all attributes
-    leads: by folders and names, to what a name leads, with the exchange that says it
+    messages: some exchanges: each reply as it begins, and the exchange with it
     names: those of each call that has some
-    sets: what a SETATTR or a call that makes something sets
-    ends: where a WRITE ends
-    changing: the calls that changed something
-    bits: by handles and what was asked, what ACCESS grants
-    messages: some exchanges, taken apart
     """
 
-    def __init__(self, outlines: Outlines, lines: Iterable[str], wanted: Container[int] = (),
-                 objects: Container[int] | None = None) -> None:
-        """`wanted` are the exchanges that are taken apart. If `objects` are given, answers about
-        other handles are not read."""
-        self.outlines, self.wanted, self.objects = outlines, wanted, objects
-        self.statements = defaultdict[int, list[Fact]](list)
-        self.leads = defaultdict[tuple[int, str], list[tuple[int, int]]](list)
-        self.names, self.sets = dict[int, tuple[str, ...]](), dict[int, frozenset[str]]()
-        self.ends, self.changing = dict[int, int](), list[int]()
-        self.bits = defaultdict[tuple[int, str], list[tuple[int, str]]](list)
-        self.messages = dict[int, tuple[Message, list[Message]]]()
-        self.votes = defaultdict[Known, Counter[Id]](Counter)
-        self.tellers = defaultdict[tuple[Known, Id], list[int]](list)
-        # By folders and names of entries, two exchanges that say them.
-        self.entries = dict[tuple[int, str], tuple[int, ...]]()
-        self.asked_bits = dict[int, str]()
+    def __init__(self, outlines: Outlines, lines: Iterable[str], turns: Turns | None = None,
+                 wanted: Container[int] = (), objects: Container[int] | None = None) -> None:
+        """`wanted` are the exchanges that are kept. If `objects` are given, answers about other
+        handles are not read."""
+        self.outlines, self.turns, self.wanted, self.objects = outlines, turns, wanted, objects
+        self.known_as = cache(self.name_of_object)
+        self.history, self.ids = History(self.known_as, turns is not None), IdsOfRun(outlines)
+        self.values, self.calls = LongValues(), dict[int, Values]()
+        self.messages = dict[int, list[tuple[str, CarriedOut]]]()
+        self.names = dict[int, tuple[str, ...]]()
         for at, line in outlines.located(lines):
             (self.take_call if line.is_call else self.take_reply)(at, line)
+        for at in self.calls.keys() - self.history.frames.keys():
+            if not outlines.replies[at]:
+                self.history.take(self.carried_out(at, None, {}))
+        self.calls.clear()
+        self.history.settle()
+
+    def identity(self, handle: str) -> int:
+        """Returns what an object is called in both runs, 0 if that is not known. Some handles are
+        in entries of folders alone."""
+        number, identities = int(handle or '0', 16), self.outlines.identities
+        return identities[number] if number < len(identities) else 0
+
+    def name_of_object(self, handle: str) -> Hashable:
+        """Returns what an object is called in both runs, or else in its own."""
+        return self.identity(handle) or ~int(handle or '0', 16)
 
     def take_call(self, at: int, line: Line) -> None:
-        text = line.text
         if at in self.wanted:
-            self.messages[at] = line.message(), []
-        names = names_in(text)
-        if names:
-            self.names[at] = tuple(names)
-        if line.procedure == ACCESS:
-            self.asked_bits[at] = text[text.rfind('='):]
-        if line.procedure in CHANGING and at not in self.outlines.unmade:
-            self.changing.append(at)
-            end, settings = end_of_write_in(text), settings_in(text)
-            if end is not None:
-                self.ends[at] = end
-            elif settings:
-                self.sets[at] = settings
+            self.messages[at] = []
+        if line.procedure in READ_CALLS:
+            self.calls[at] = read_call(line.procedure, without_long(line.text), self.values)
+            names = names_in_call(line.procedure, self.calls[at])
+            if names:
+                self.names[at] = tuple(name for _, name in names)
 
     def take_reply(self, at: int, line: Line) -> None:
         if at in self.wanted:
-            self.messages[at][1].append(line.message())
-        handles = self.outlines.objects_of(at)
-        if self.objects is not None and line.procedure not in LISTINGS and not any(
-                handle in self.objects for handle in (*handles, self.outlines.found[at])):
+            self.keep(at, line)
+        if not is_of_files(line.procedure) or not self.is_asked(at, line):
             return
-        answer = self.said_in(at, line)
-        for one in answer.statements:
-            self.take_told(at, one)
-        for folder, name, handle in answer.leads:
-            self.leads[folder, name].append((at, handle))
-        if line.procedure in LISTINGS and handles:
-            for name in names_in(line.text):
-                self.entries[handles[0], name] = (at, *self.entries.get((handles[0], name), ()))[:2]
-        if line.procedure == ACCESS and handles:
-            granted = access_in(line.text)
-            if granted is not None:
-                self.bits[handles[0], self.asked_bits[at]].append((at, granted))
+        status, reply = read_reply(line.procedure, without_long(line.text), self.values)
+        one = self.carried_out(at, status, reply)
+        self.ids.take(at, statements_in(one.procedure, one.call, one.reply))
+        self.history.take(one)
 
-    def said_in(self, at: int, reply: Line | Message) -> ReplyFacts:
-        """Returns what a reply of an exchange says."""
-        return facts_in_reply(reply.procedure, self.outlines.objects_of(at),
-                              self.names.get(at, ('',))[0], reply.text)
+    def is_asked(self, at: int, line: Line) -> bool:
+        """Whether a reply is about the objects that are asked for, or is that to a change."""
+        return self.objects is None or at in self.wanted or line.procedure in READ_CALLS or any(
+            handle in self.objects
+            for handle in (*self.outlines.objects_of(at), self.outlines.found[at]))
 
-    def take_told(self, at: int, one: Statement) -> None:
-        own = one.handle, one.name
-        fsid = one.attributes.fsid if one.attributes else ''
-        self.votes[own][fsid, one.fileid] += 1
-        self.tellers[own, (fsid, one.fileid)].append(at)
-        if one.attributes and not one.name:
-            self.statements[one.handle].append(Fact(at, one.ctime, one.attributes))
+    def keep(self, at: int, line: Line) -> None:
+        """Keeps a reply whole, with a digest of long data."""
+        text = self.values.cut(line.text)
+        head = REPLY_STATUS.match(text) if line.procedure != RAW.name else None
+        status, reply = read_reply(line.procedure, text, self.values) if head else (None, {})
+        self.messages[at].append((head[0] if head else text, self.carried_out(at, status, reply)))
 
-    @cached_property
-    def ids(self) -> dict[Known, Id]:
-        """The id of each object: that which most of its answers say, of those with a file system
-        if there are some."""
-        return {own: max(some, key=lambda one: (some[one] * bool(one[0]), some[one]))
-                for own, some in self.votes.items()}
-
-    @cached_property
-    def odd(self) -> set[int]:
-        """The exchanges that say another id of an object than its run does elsewhere."""
-        return {at for (own, one), ats in self.tellers.items()
-                if one[1] != self.ids[own][1] or one[0] and one[0] != self.ids[own][0]
-                for at in ats}
-
-    @cached_property
-    def handles(self) -> dict[int, list[int]]:
-        """The handles of each object, by what it is called in both runs."""
-        out = defaultdict[int, list[int]](list)
-        for handle, identity in enumerate(self.outlines.identities):
-            if identity:
-                out[identity].append(handle)
-        return out
-
-    def entries_of(self, folder: int, but: int) -> set[str]:
-        """Returns the names that listings of a folder have, other than one."""
-        handles = set(self.handles.get(folder, ()))
-        return {name for (handle, name), some in self.entries.items()
-                if handle in handles and any(at != but for at in some)}
-
-    def facts_of(self, identity: int) -> Iterator[Fact]:
-        return (fact for handle in self.handles.get(identity, ())
-                for fact in self.statements.get(handle, ()))
+    def carried_out(self, at: int, status: int | None, reply: Values) -> CarriedOut:
+        """Returns an exchange with a reply."""
+        procedure, turns = self.outlines.procedure_of(at), self.turns
+        call = self.calls.get(at) or handles_asked(self.outlines, at)
+        is_change = at not in self.history.frames and turns is not None and turns.is_change(at)
+        if turns is None:
+            return CarriedOut(at, at, at, at, procedure, call, status, reply)
+        return CarriedOut(at, turns.begins[at], turns.ends[at],
+                          turns.done[at] if is_change else STILL, procedure, call, status, reply,
+                          is_change)
 
 
 def is_silly(name: str) -> bool:

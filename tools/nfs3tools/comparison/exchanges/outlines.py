@@ -11,22 +11,21 @@ from array import array
 from bisect import bisect_left, bisect_right
 from collections import defaultdict
 from collections.abc import Callable, Iterable, Iterator
-from functools import cache
+from functools import cache, cached_property
 from itertools import groupby
 from operator import attrgetter
 
-from ...exchanges.answering import Answering
+from ...exchanges.answering import REPLY_STATUS, Answering
 from ...exchanges.listing import Line, LinePlace, Message, line_of, place_of
-from ...exchanges.objects import LISTING, MAKING
+from ...exchanges.objects import GIVING_HANDLES
+from ...exchanges.procedures import CHANGING, LOOKUP, READDIRPLUS
 from ...exchanges.searches import (
     alike_in, entries_in, first_handle_in, first_name_in, handles_in, pattern_of_items)
 from ..values.bindings import RENAMED
 from ..values.classes import CLASSES, Mask, Way
 
-# Calls that change what others are answered.
-CHANGING = frozenset(f'NFSPROC3_{name}' for name in (
-    'SETATTR', 'WRITE', 'CREATE', 'MKDIR', 'SYMLINK', 'MKNOD', 'REMOVE', 'RMDIR', 'RENAME', 'LINK'))
-NAMING = MAKING | {'MOUNTPROC3_MNT'}  # calls whose answers have the handle of a name
+NAMING = GIVING_HANDLES | {'MOUNTPROC3_MNT'}  # calls whose answers have the handle of a name
+SILLY = next(one for one in CLASSES if one.name == 'sillynames')
 DOT_HASHES = hash('.'), hash('..')  # the folder itself, and the one above it
 UNSEEN, SEEN, MADE = range(3)  # how well it is known where an object is
 
@@ -40,6 +39,12 @@ def classes_of_items(mask: Mask) -> dict[str, str]:
 def renamed_values(mask: Mask) -> re.Pattern[str]:
     """Returns what finds the names and values of renamed items in a line."""
     return pattern_of_items(classes_of_items(mask))
+
+
+def is_done(text: str) -> bool:
+    """Whether a reply says that its call was carried out."""
+    found = REPLY_STATUS.match(text)
+    return found is not None and found[2] == '0'
 
 
 # When a call was sent, by its connection and record: a number that grows
@@ -122,6 +127,7 @@ class Outlines:
         self.further: dict[int, list[int]] = {}  # the records of further replies
         # The records of retransmissions, and of replies to these that say the same again
         self.again, self.repeated = dict[int, list[int]](), dict[int, set[int]]()
+        self.removed = dict[int, list[int]]()  # handles of removed files in listings
         self.unmade = set[int]()  # calls that would have changed something, and failed
         self.objects = HandleOrigins()
         pattern = renamed_values(mask)
@@ -130,7 +136,8 @@ class Outlines:
             self.starts.append(len(self))
             self.take_connection(some, pattern)
         self.names = list(self.procedures)
-        self.ask_of_objects(lambda at: when(*self.record_of(at)) if when else at)
+        self.turn_of: Callable[[int], int] = lambda at: when(*self.record_of(at)) if when else at
+        self.ask_of_objects(self.turn_of)
 
     def __len__(self) -> int:
         return len(self.asked)
@@ -159,7 +166,7 @@ class Outlines:
                     continue
                 said_before[at].add(own)
             self.add_reply(at, line.record, said)
-            if line.procedure in CHANGING and ' status=0' not in line.text:
+            if line.procedure in CHANGING and not is_done(line.text):
                 self.unmade.add(at)
             self.learn(at, line.procedure, line.text, named.get(at, 0))
 
@@ -189,11 +196,13 @@ class Outlines:
             found = first_handle_in(rest)
             if found:
                 self.found[at] = found
-                known = SEEN if procedure == 'NFSPROC3_LOOKUP' else MADE
+                known = SEEN if procedure == LOOKUP else MADE
                 self.objects.learn(found, folder, name, known, at)
-        elif procedure == LISTING:
+        elif procedure == READDIRPLUS:
             for entry, handle in entries_in(rest):
                 self.objects.learn(handle, folder, hash(entry), SEEN, at)
+                if SILLY.has_value(f'"{entry}"'):
+                    self.removed.setdefault(at, []).append(handle)
 
     def ask_of_objects(self, when: Callable[[int], int]) -> None:
         """In what a call asks, objects take the place of handles, which each run numbers anew."""
@@ -206,6 +215,9 @@ class Outlines:
             second = identities[self.seconds[at]] if at in self.seconds else 0
             self.asked[at] = asked = hash((asked, identities[folder], second))
             self.said[at] = hash((said, asked, identities[found]))
+        for at, handles in self.removed.items():
+            self.said[at] = hash((self.said[at], *(
+                identities[handle] for handle in handles if handle < len(identities))))
         self.identities = identities
 
     def procedure_of(self, at: int) -> str:
@@ -291,6 +303,20 @@ class Outlines:
     def objects_of(self, at: int) -> list[int]:
         """Returns the handles of a call."""
         return [handle for handle in (self.folders[at], self.seconds.get(at, 0)) if handle]
+
+    @cached_property
+    def first_turns(self) -> dict[int, int]:
+        """When each handle was first found, or asked for."""
+        out = dict[int, int]()
+        for at in range(len(self)):
+            turn = self.turn_of(at)
+            for handle in (self.folders[at], self.seconds.get(at, 0), self.found[at]):
+                out[handle] = min(out.get(handle, turn), turn)
+        return out
+
+    def is_new(self, at: int) -> bool:
+        """Whether no call before an exchange knows the object that it finds."""
+        return self.turn_of(at) <= self.first_turns[self.found[at]]
 
     def calls_alike(self, lines: Iterable[str], wanted: set[int]) -> dict[int, tuple[object, ...]]:
         """Returns of some exchanges what alike calls have in common: procedure, objects, names and

@@ -25,9 +25,9 @@ ACCEPTED_VERSION = 2  # of the form of the file
 # replies.
 PLAIN_KINDS = ('moved', 'sent again', 'replies')
 MEMBERS = {'procedure', 'path', 'is_call', 'field', 'first', 'second', 'only', 'kind', 'asks',
-           'status', 'times'}
+           'status', 'says', 'times'}
 # What an entry needs besides, by what it is about.
-NEEDED_MEMBERS = {'only': {'asks', 'status'}, 'replies': {'first', 'second'}}
+NEEDED_MEMBERS = {'only': {'asks', 'status', 'says'}, 'replies': {'first', 'second', 'says'}}
 WILD, BRACKETED = frozenset('*?['), re.compile(r'\[([*?[])\]')
 AcceptedEntry = Mapping[str, Any]  # an object of the file
 
@@ -106,15 +106,16 @@ def fits(entry: AcceptedEntry, finding: Finding, mask: Mask) -> bool:
 
 def members_besides_fields(finding: Finding, mask: Mask) -> dict[str, object]:
     """Returns what an entry says of a finding besides its fields: of a call of one run alone which
-    run, what it asks, but for values that are its run's own, and the statuses of its replies; of
-    replies the statuses of both runs."""
+    run, what it asks, but for values that are its run's own, and what its replies say; of replies
+    the statuses of both runs, and what those say that one run does not have."""
+    asks, says = ([f'{one.label}={one.value}' for one in some
+                   if one.name == 'fh' and not is_call or not is_of_run(one.name, is_call, mask)]
+                  for is_call, some in ((True, finding.arguments), (False, finding.results)))
     if finding.kind == 'only':
-        asks = [f'{one.label}={one.value}' for one in finding.arguments
-                if not is_of_run(one.name, True, mask)]
         return {'only': finding.run, 'asks': asks,
-                'status': finding.statuses[finding.first is None]}
+                'status': finding.statuses[finding.first is None], 'says': says}
     if finding.kind == 'replies':
-        return {'kind': 'replies', **dict(zip(RUNS, finding.statuses))}
+        return {'kind': 'replies', **dict(zip(RUNS, finding.statuses)), 'says': says}
     return {'kind': finding.kind} if finding.kind in PLAIN_KINDS else {}
 
 
@@ -192,7 +193,7 @@ def is_value(name: str, value: object) -> bool:
         return value is None or is_text(value)
     if name == 'is_call':
         return isinstance(value, bool)
-    if name == 'asks':
+    if name in ('asks', 'says'):
         return isinstance(value, list) and all(map(is_text, value))
     if name == 'times':
         return isinstance(value, int) and not isinstance(value, bool) and value > 0

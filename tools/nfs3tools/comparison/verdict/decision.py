@@ -1,4 +1,4 @@
-"""What is said of two runs, whole ones or a part of each, for all forms of output."""
+"""What is said of two runs, for all forms of output."""
 from __future__ import annotations
 
 from collections.abc import Sequence
@@ -24,8 +24,7 @@ IN_ANY_ORDER = ' in any order'
 @dataclass(frozen=True)
 class Report:
     """What is said of two runs: the program's verdict, and what was found as it was asked for; of
-    both their names and how much they have; and how much of both is compared, unless they are
-    parts."""
+    both their names and how much they have; and how much of both is compared."""
     verdict: str
     found: Outcome
     choices: Choices

@@ -7,6 +7,7 @@ from dataclasses import dataclass
 from typing import NamedTuple
 
 from ...exchanges.listing import Message
+from ...exchanges.procedures import LISTINGS, READ, WRITE
 from ...exchanges.stored import Value, spelled
 from ...exchanges.whose import Labels
 from ..values.bindings import RENAMED, Bindings
@@ -15,10 +16,9 @@ from ..values.long_values import Parting, content_of, is_long, parting_between
 
 # After one of these the rest of a reply has another layout.
 DECIDING = ('reply_stat', 'reject_stat', 'accept_stat', 'status')
-# Calls and replies whose data is of a file, from the offset of the call on.
-WRITE, READ = 'NFSPROC3_WRITE', 'NFSPROC3_READ'
 LAST_OF_HEAD = 'verf_body'  # RFC 5531, section 9
-# Words that say whether a value follows, which is there or not.
+# Words of replies that say whether a part follows, and of calls whether a value does.
+MARKS_OF_PARTS = frozenset(('attr', 'before', 'after', 'handle', 'entry'))
 CHOICES = frozenset(('set_mode', 'set_uid', 'set_gid', 'set_size', 'check'))
 # set_atime and set_mtime: only the server's time has no value.
 TIMES, SERVER_TIME = frozenset(('set_atime', 'set_mtime')), '1'
@@ -176,7 +176,7 @@ class Comparison:
         is. Entries of a directory are brought together by their names, and those of one name by
         turn."""
         here, there = RunMessage(first, call), RunMessage(second, other)
-        if first.is_call or first.procedure not in ('NFSPROC3_READDIR', 'NFSPROC3_READDIRPLUS'):
+        if first.is_call or first.procedure not in LISTINGS:
             return self.of_items(here.items(range(len(first.items))),
                                  there.items(range(len(second.items))))
         head, entries, tail = first.entries()
@@ -294,7 +294,16 @@ def arguments_of(call: Message, mask: Mask) -> Iterator[Argument]:
         about.discard(name)
 
 
-def is_zero(name: str, value: Value, mask: Mask) -> bool:
-    """Returns whether an item of a call is masked as zero."""
-    return any(mask.get(one.name) is Way.ZERO and not one.has_names and one.has(name, True)
-               and one.has_value(str(value)) for one in CLASSES)
+def results_of(reply: Message, mask: Mask) -> Iterator[Argument]:
+    """Returns what a reply says after its head, as the arguments of a call."""
+    labels = Labels(reply)
+    begin = next((at for at, item in enumerate(reply.items) if item.name == 'status'), -1) + 1
+    for at, (name, value) in enumerate(reply.items[begin:], begin):
+        if name not in MARKS_OF_PARTS and not is_zero(name, value, mask, False):
+            yield Argument(name, labels.label(at), value, labels.meaning(at), False)
+
+
+def is_zero(name: str, value: Value, mask: Mask, is_call: bool = True) -> bool:
+    """Returns whether an item of a call, or of a reply, is masked as zero."""
+    return any(mask.get(one.name) is Way.ZERO and not one.has_names and not one.is_of_changes
+               and one.has(name, is_call) and one.has_value(str(value)) for one in CLASSES)

@@ -9,7 +9,7 @@ from dataclasses import dataclass, field, replace
 
 from ...exchanges.in_words import short
 from ...exchanges.listing import Exchange, Message, line_of
-from ...exchanges.objects import Paths, below
+from ...exchanges.objects import GIVING_HANDLES, UNKNOWN, Paths, below
 from ...exchanges.stored import LongValues
 from ...recordings.selection import count, plural
 from ..exchanges.any_order import Explanation
@@ -18,7 +18,7 @@ from ..exchanges.matching import Pair
 from ..exchanges.outlines import Outlines
 from ..exchanges.pairing import NOBODY, Listing, Pairing
 from ..values.classes import Mask
-from .differences import Argument, Comparison, Difference, arguments_of
+from .differences import Argument, Comparison, Difference, arguments_of, results_of
 from .excerpt import Around, Beside, ExcerptRow, Shown
 
 RUNS = ('first', 'second')
@@ -38,7 +38,8 @@ class Run:
 class Finding:
     """What is said of one place: the messages of both runs (None if it has none there), and how
     they differ. A call of one run alone has its arguments. `statuses` are those of the replies of
-    both runs, if a call is alone, or the replies are of another number.
+    both runs, if a call is alone, or the replies are of another number; `results` is what replies
+    say that the other run does not have.
 
     A call that is left out is of kind 'only', 'explained' or 'sent again'. The remark is the change
     that explains it, or how often it was sent.
@@ -52,6 +53,7 @@ class Finding:
     remark: str = ''
     arguments: tuple[Argument, ...] = ()
     statuses: tuple[str, str] = ('', '')
+    results: tuple[Argument, ...] = ()
 
     @property
     def message(self) -> Message:
@@ -170,9 +172,21 @@ class OneOfTwo:
         finding = Finding(kind, one.call, None, path, remark=remark)
         if mask is not None:
             finding = replace(finding, arguments=tuple(arguments_of(one.call, mask)),
-                              statuses=(statuses_of(one), ''))
+                              statuses=(statuses_of(one), ''),
+                              results=tuple(self.results(at, mask)))
         return finding if self.number == 0 else replace(
             finding, first=None, second=one.call, statuses=finding.statuses[::-1])
+
+    def results(self, at: int, mask: Mask) -> Iterator[Argument]:
+        """Iterates over what the replies of an exchange say. Of an object it is the path, or that
+        nobody knows it before."""
+        for reply in self.apart.exchanges[at].replies:
+            for one in results_of(reply, mask):
+                if one.name == 'fh':
+                    is_new = reply.procedure in GIVING_HANDLES and self.outlines.is_new(at)
+                    path = self.apart.paths.of(str(one.value)) or UNKNOWN
+                    one = one._replace(value='new' if is_new else path)
+                yield one
 
     def of_the_lonely(self, mask: Mask) -> Iterator[Finding]:
         yield from (self.alone('only', at, self.counted.get(at, ''), mask) for at in self.reported)
@@ -188,7 +202,8 @@ class Explaining:
     def __init__(self, runs: Sequence[Run], pairing: Pairing, leaves_out: frozenset[str],
                  explanation: Explanation) -> None:
         """Pairs that are explained were taken apart again, and are left out."""
-        self.pairing, self.by_order = pairing, explanation.pairs
+        self.pairing, self.by_order, self.remarks = (
+            pairing, explanation.pairs, explanation.remarks)
         first, second = (OneOfTwo(number, run, pairing, leaves_out, explanation)
                          for number, run in enumerate(runs))
         self.runs = first, second
@@ -258,8 +273,14 @@ class Explaining:
             found = list(of_pair(here.apart.exchanges[at], there.apart.exchanges[to],
                                  here.apart.path(at), comparison))
             if turn in unequal:
-                yield from (((at, to), replace(finding, differences=tuple(
-                    map(self.with_paths, finding.differences)))) for finding in found)
+                yield from (((at, to), self.with_remark(replace(finding, differences=tuple(
+                    map(self.with_paths, finding.differences))), (at, to))) for finding in found)
+
+    def with_remark(self, finding: Finding, pair: Pair) -> Finding:
+        """Returns a finding about a reply with the reason why no order explains it."""
+        is_told = finding.kind == 'changed' and not finding.message.is_call and not all(
+            one.is_equal for one in finding.differences)
+        return replace(finding, remark=self.remarks.get(pair, '')) if is_told else finding
 
     def with_paths(self, one: Difference) -> Difference:
         """Returns a difference with the paths of both values if they are file handles."""
@@ -368,5 +389,16 @@ def of_pair(one: Exchange, other: Exchange, path: str | None,
     if len(one.replies) != len(other.replies):
         yield Finding('replies', one.call, other.call, path,
                       statuses=(statuses_of(one), statuses_of(other)),
+                      results=tuple(further_results(one, other, comparison.mask)),
                       remark=f'{replies(len(one.replies))} in the first run, '
                              f'{len(other.replies)} in the second')
+
+
+def further_results(one: Exchange, other: Exchange, mask: Mask) -> Iterator[Argument]:
+    """Iterates over what the replies say that one exchange has alone. Of a file handle it is
+    whether the first reply has it."""
+    for reply in (*one.replies[len(other.replies):], *other.replies[len(one.replies):]):
+        first = (one if reply in one.replies else other).replies[0].value_of('fh')
+        for result in results_of(reply, mask):
+            yield result if result.name != 'fh' else result._replace(
+                value='as before' if result.value == first else 'another')

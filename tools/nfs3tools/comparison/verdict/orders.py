@@ -59,8 +59,8 @@ class Outcome:
 
 
 class NothingToCompare(Exception):
-    """A run has no call that can be compared, or none that is not left out, or no call of both is a
-    mark; the text is the message for the user."""
+    """A run has no call that can be compared, or none that is not left out; the text is the message
+    for the user."""
 
 
 class Orders:
@@ -162,6 +162,7 @@ class Orders:
         self.explanation = self.two.explanation(mask)
         if self.explanation.pairs or any(self.explanation.counted):
             self.take(self.two.pairing, self.explanation)
+        self.explaining.remarks = self.explanation.remarks
 
     def follow(self, classes: frozenset[str]) -> None:
         """Takes the second run with the first run's values of some classes."""

@@ -2,10 +2,10 @@
 from __future__ import annotations
 
 from collections import Counter, defaultdict
-from collections.abc import Iterator, Sequence
+from collections.abc import Iterator
 
 from ...exchanges.in_words import short
-from ...recordings.selection import count, plural
+from ...recordings.selection import count
 from ..values.classes import Mask
 from .findings import RUNS, Compared, replies
 from .orders import Outcome
@@ -13,9 +13,6 @@ from .orders import Outcome
 FIELDS_IN_SUMMARY = 4
 IN_ANOTHER_ORDER, BUT_IDS, BUT_LEFT_OUT = (
     'same in another order', 'same but for ids', 'same but for calls left out')
-# On a part
-VERDICTS = ('same', BUT_IDS, BUT_LEFT_OUT, IN_ANOTHER_ORDER, 'differ', 'only in the first run',
-            'only in the second run')
 
 
 def turns(compared: Compared) -> list[str]:
@@ -89,11 +86,3 @@ def compared_in_words(compared: Compared) -> str:
     words += [f'{number:,} only in the {name} run' for name, number in zip(RUNS, compared.lonely)
               if number]
     return '; '.join([*words, *frequent_fields(compared)])
-
-
-def of_parts(verdicts: Sequence[str]) -> str:
-    """The verdicts of all parts in words: how many have each."""
-    counts = Counter(verdicts)
-    words = [f'{number:,} {plural(number, "differs", "differ") if verdict == "differ" else verdict}'
-             for verdict, number in sorted(counts.items(), key=lambda one: VERDICTS.index(one[0]))]
-    return f'{count(len(verdicts), "part")}: {", ".join(words) or "nothing to compare"}'

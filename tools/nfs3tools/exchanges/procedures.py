@@ -1,0 +1,23 @@
+"""Which procedures of NFS version 3 change, make, remove and list."""
+from __future__ import annotations
+
+GETATTR, SETATTR, LOOKUP, ACCESS, READLINK, READ, WRITE = (f'NFSPROC3_{name}' for name in (
+    'GETATTR', 'SETATTR', 'LOOKUP', 'ACCESS', 'READLINK', 'READ', 'WRITE'))
+CREATE, MKDIR, SYMLINK, MKNOD, REMOVE, RMDIR, RENAME, LINK = (f'NFSPROC3_{name}' for name in (
+    'CREATE', 'MKDIR', 'SYMLINK', 'MKNOD', 'REMOVE', 'RMDIR', 'RENAME', 'LINK'))
+READDIR, READDIRPLUS, FSSTAT, FSINFO, PATHCONF = (f'NFSPROC3_{name}' for name in (
+    'READDIR', 'READDIRPLUS', 'FSSTAT', 'FSINFO', 'PATHCONF'))
+MAKING, REMOVING = frozenset((CREATE, MKDIR, SYMLINK, MKNOD)), frozenset((REMOVE, RMDIR))
+LISTINGS = frozenset((READDIR, READDIRPLUS))
+# Calls that change what others are answered.
+CHANGING = MAKING | REMOVING | {SETATTR, WRITE, RENAME, LINK}
+# Questions that are told the same each time, but for free space.
+STEADY = frozenset((READLINK, FSSTAT, FSINFO, PATHCONF))
+FREE_ITEMS = frozenset(('fbytes', 'abytes', 'ffiles', 'afiles', 'invarsec'))
+DONE, NO_ENTRY = 0, 2  # statuses
+FOLDER_TYPE = 2  # NF3DIR
+
+
+def is_of_files(procedure: str) -> bool:
+    """Whether it is one of NFS, not of MOUNT or of another program."""
+    return procedure.startswith('NFSPROC3_')
