@@ -37,7 +37,7 @@ FOLDER_OF_RECORDINGS = os.environ.get('RECORDINGS')
 RECORDINGS = sorted(Path(FOLDER_OF_RECORDINGS).glob('*.pcap') if FOLDER_OF_RECORDINGS
                     else [*(TOP / 'examples').glob('*_a.pcap'), TOP / 'examples/knfsd_readdir.pcap',
                           *(TOP / 'tools/tests/recorded').glob('*-a.pcap.xz')])
-SHARE_FOUND = 0.65
+SHARE_FOUND = 0.7
 OLD_CACHE = 'live-cached'  # a recording of a server whose attributes are old
 HIDDEN, ALARMS_AT_MOST = (0.02, 0.1, 0.4), 2
 
@@ -390,10 +390,23 @@ def what_is_permitted(tools: Tools) -> None:
                           if one['connection'] == number and one['by'] != 'note'], [])
 
 
+def made_beside(name: bytes, was: bytes) -> Step:
+    return ('MKDIR', dirop(FOLDER, name) + sattr(0o700),
+            ok(made(name, shown(DIR, 9, 0, 0o700, LATER, LATER),
+                    changed(folder(LATER), 4096, was))))
+
+
 def exchanges_that_overlap(tools: Tools) -> None:
-    """What returns was never away only if the three exchanges came one after the other."""
-    bodies = bodies_of([asked(), asked(), asked(now=shown(mtime=LATER, ctime=LATER)), asked()])
-    for order, rules in (('11223344', ['returns']), ('11223434', []), ('11232344', [])):
+    """What returns was never away only if the three exchanges came one after the other. Of changes
+    that overlap, the first has found what was there, or somebody else was between."""
+    away = asked(), asked(), asked(now=shown(mtime=LATER, ctime=LATER)), asked()
+    busy = [[AT_REST, listed(), made_beside(b'b', was), made_beside(b'c', LATER),
+             ('REMOVE', dirop(FOLDER, b'a'), ok(changed(folder(LATER), 4096, LATER)))]
+            for was in (EARLY, LATER)]
+    for steps, order, rules in ((away, '11223344', ['returns']), (away, '11223434', []),
+                                (away, '11232344', []), (busy[0], '1122343455', ['name-gone']),
+                                (busy[1], '1122343455', [])):
+        bodies = bodies_of(steps)
         sides = [(order[:at].count(one), int(one) - 1) for at, one in enumerate(order)]
         frames = in_turn([Talk()], [(0, side, bodies[number][side]) for side, number in sides])
         tools.write('a.pcap', timed(enumerate(frames), 1_000))

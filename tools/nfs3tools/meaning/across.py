@@ -16,9 +16,10 @@ from ..exchanges.values import seconds
 from ..recordings.selection import count
 from .alone import BESIDE, broken, broken_by, of_made, of_sent_times
 from .objects import (
-    HIDDEN, Epoch, FileContent, FilePart, KnownName, KnownText, NameTarget, Object, Objects)
+    HIDDEN, UNSEEN, Epoch, FileContent, FilePart, KnownName, KnownText, NameTarget, Object, Objects)
 from .recorded import (
-    END, LISTS, NEVER, OF_CONTENT, OF_NAMES, REMOVES, UNCHECKED, Recorded, RecordedExchange)
+    END, LISTS, NEVER, OF_CONTENT, OF_NAMES, OWNERS_OF_NAMES, REMOVES, UNCHECKED, Recorded,
+    RecordedExchange)
 from .rules import ACROSS, CLIENT, Evidence, Looked, RuleFinding
 
 UNSTABLE = 0
@@ -33,7 +34,7 @@ class Across(Objects):
     named, listed: how many names were compared at each server, and whole listings
     placed: the handles that were found last under names of folders
     unnamed: the end of each server's last removal of a name that was not known
-    verifiers: those of each server before the last one
+    verifiers: those of each server before the last one, and the last exchange that shows each
     """
 
     def __init__(self, recorded: Recorded, looked: Looked, is_whole: bool) -> None:
@@ -42,7 +43,7 @@ class Across(Objects):
         self.moved, self.stood = set[str](), set[str]()
         self.named, self.listed = Counter[str](), Counter[str]()
         self.placed, self.unnamed = dict[tuple[str, ...], str](), dict[str, int]()
-        self.verifiers = set[tuple[str, str]]()
+        self.verifiers = dict[tuple[str, str], Evidence]()
         self.ways = {'WRITE': self.write, 'READ': self.read, 'SETATTR': self.set_size,
                      'CREATE': self.create, 'COMMIT': self.commit, 'SYMLINK': self.make_link,
                      'READLINK': self.read_link}
@@ -60,7 +61,7 @@ class Across(Objects):
                 self.take_names(one)
         if one.procedure in REMOVES and one.is_done:
             self.relinked[one.server] = one.source.end
-        if self.is_whole:
+        if self.is_whole and (one.procedure in OWNERS_OF_NAMES or one.procedure in LISTS):
             self.place(one)
         for told in several:
             self.settle(one, told)
@@ -91,18 +92,18 @@ class Across(Objects):
             known.unstable = FileContent()
             return
         self.write_time(one, known)
-        verifier = self.verifier_of(one)
+        epoch = self.epoch_of(one)
         is_alone = not any(change.written[0] < one.last and one.first < change.written[1]
                            for change in one.beside())
         data, last = one.call['data'], one.first + min(len(one.call['data']), one.reply['count'])
         # (the frame of the call has the data)
         part = FilePart(one.first, last, one.source._replace(frame=one.source.begin),
-                        data if is_alone else None, one.first, verifier)
+                        data if is_alone else None, one.first, epoch)
         if one.reply['committed'] == UNSTABLE:
             known.unstable.put(part)
             self.looked.writes += self.is_whole
         else:
-            part = part._replace(verifier=None)
+            part = part._replace(epoch=None)
             known.unstable.forget(one.first, last)
         known.content.put(part)
 
@@ -129,12 +130,12 @@ class Across(Objects):
             text = (f'byte {at:,} is 0x{data[at - one.first]:02x}, {part.source} it was '
                     f'0x{was:02x}, with the same mtime and size')
             # (data that are committed outlive the server)
-            start = self.started(one.server, part.verifier) if part.verifier is not None else None
+            start = part.epoch and self.started(one.server, part.epoch)
             self.find(one, known, 'read-data', text, part.source, start, waits=False)
         # (what is read may be another's that is not committed)
-        verifier = self.verifier_at(one.server) or ''
+        epoch = self.epochs.get(one.server) or Epoch(one.server, UNSEEN, one.source)
         known.content.put(FilePart(one.first, one.first + len(data), one.source, one.reply['data'],
-                                   one.first, verifier))
+                                   one.first, epoch))
 
     def set_size(self, one: RecordedExchange, known: Object) -> None:
         """SETATTR of a size forgets the bytes behind it."""
@@ -177,29 +178,31 @@ class Across(Objects):
         if not one.is_ok:
             known.unstable = FileContent()
             return
-        verifier = self.verifier_of(one)
+        verifier = self.epoch_of(one).verifier
 
         def committed(part: FilePart) -> FilePart | None:
             if part.source and part.source.end >= one.source.begin:
                 return part
-            return None if part.verifier == verifier else part._replace(refused=one.source)
+            is_same = part.epoch is not None and part.epoch.verifier == verifier
+            return None if is_same else part._replace(refused=one.source)
         known.unstable.change(one.first, one.last if one.call['count'] else END, committed)
 
-    def verifier_of(self, one: RecordedExchange) -> str:
-        """Returns the verifier of a reply, which stays: data under an earlier one may be lost. If
-        one comes back, no new start explains that it was away."""
+    def epoch_of(self, one: RecordedExchange) -> Epoch:
+        """Takes the verifier of a reply, which stays: data under an earlier one may be lost. If one
+        comes back, no new start explains that it was away."""
         verifier, known = str(one.reply['verf']), self.epochs.get(one.server)
         self.epochs[one.server] = epoch = Epoch(one.server, verifier, one.source)
         if known and known.verifier != verifier:
             self.denied.add(known)
-            self.verifiers.add(known[:2])
-            if epoch[:2] in self.verifiers and known.source.end < one.source.begin:
+            self.verifiers[known[:2]] = known.source
+            before = self.verifiers.get(epoch[:2])
+            if before and before.end < known.source.begin and known.source.end < one.source.begin:
                 self.add('verifier-back', known.source, f'verf is 0x{known.verifier}, before and '
                          f'after ({one.source.words}) it was 0x{verifier}', one.source)
             else:
                 text = f'verf is 0x{verifier}, {known.source} it was 0x{known.verifier}'
                 self.add('verifier', one.source, text, known.source)
-        return verifier
+        return epoch
 
     def place(self, one: RecordedExchange) -> None:
         """Takes under which names files are. Data of one that is removed need not be committed."""
@@ -247,7 +250,7 @@ class Across(Objects):
         (first, source), (last, _) = parts[0], parts[-1]
         number = count(len({source.number for _, source in parts}), 'WRITE')
         text = (f'bytes {first.begin:,} to {last.end:,} of {number}, {source} with verf '
-                f'0x{first.verifier}, are not ')
+                f'0x{first.epoch.verifier if first.epoch else ""}, are not ')
         if refused:
             self.add('not-committed', refused, f'{text}written again after another verf', source)
         else:
@@ -368,7 +371,7 @@ def findings_in(recorded: Recorded, looked: Looked, is_whole: bool) -> list[Rule
         looked.exchanges += 1
         for rule, text in broken_by(one):
             across.add(rule, one.source, text, None, *[one.source.number] * (rule in BESIDE))
-        for rule, text in broken(of_sent_times(one)):
+        for rule, text in broken(of_sent_times(one)) if one.is_change else ():
             across.add(rule, one.source, text, by=CLIENT)
         if recorded.has_frames:
             across.take(one)

@@ -20,12 +20,21 @@ HIDDEN = '.'  # begins names that may be in no listing
 # Attributes that stay with the ctime. Of type, fsid and fileid another rule speaks.
 LASTING = 'size', 'mtime', 'ctime', 'mode', 'uid', 'gid', 'nlink'
 OTHERS = 'others'  # of a server: someone else is seen to change one of its objects
+UNSEEN = ''  # a write verifier that no reply has shown
 STARTED_ANEW = 'started anew'  # denies what a new start of a server may have changed
 SizeAndTime = tuple[int, Time]  # the first attributes: size and mtime
 Ids = tuple[int, int, int]  # type, fsid and fileid
 NameTarget = Union[Ids, bool]  # what a name leads to: True for an unknown object, False for none
 # Up to a cookie: its folder's mtime, the cookie, the names
 KnownListing = tuple[Time, int, list[str]]
+
+
+class Epoch(NamedTuple):
+    """A server, its write verifier, and the last exchange that shows this. What rests on it is
+    taken back if the next one is another: the server was started anew."""
+    server: str
+    verifier: str
+    source: Evidence
 
 
 class FilePart(NamedTuple):
@@ -37,7 +46,7 @@ class FilePart(NamedTuple):
     source: Evidence | None = None
     data: Data | None = None
     at: int = 0
-    verifier: str | None = None
+    epoch: Epoch | None = None
     refused: Evidence | None = None
 
     def within(self, begin: int, end: int) -> FilePart:
@@ -90,20 +99,12 @@ class FileContent:
         return 0, None, compared
 
 
-class Epoch(NamedTuple):
-    """A server, its write verifier, and the last exchange that shows this. What rests on it is
-    taken back if the next one is another: the server was started anew."""
-    server: str
-    verifier: str
-    source: Evidence
-
-
 class Sight(NamedTuple):
     """The attributes of an object at rest, an exchange that shows them, and the write verifier of
     the server, if it is known."""
     now: Attributes
     source: Evidence
-    verifier: str | None
+    epoch: Epoch | None
 
 
 class KnownText(NamedTuple):
@@ -126,6 +127,7 @@ class Object:
     ids: KnownName | None = None  # its type, fsid and fileid
     rival: Ids | None = None  # others, which the last reply had
     seen: Sight | None = None  # when it was last at rest
+    found: Attributes | None = None  # what the last exchange shows that nothing else changed
     since: int = 0  # the time when the ctime of that was seen first
     earlier: Sight | None = None  # when it was at rest before, if no recorded change came between
     # The sizes and mtimes after and before the changes since then, and whether one shows nothing.
@@ -182,9 +184,9 @@ class Objects:
     """The objects of a recording by their servers and handles, what is found of them, and how much
     was looked at.
 
-    denied: what takes findings back: objects that somebody changed who is not recorded, exchanges
-        beside such a change, servers whose times do not show changes, verifiers of servers that
-        were started anew, and answers that are found to stand alone
+    denied: what takes findings back: servers with an object that somebody changed who is not
+        recorded, exchanges beside such a change, servers whose times do not show changes,
+        verifiers of servers that were started anew, and answers that are found to stand alone
     relinked: the end of each server's last call that removed or moved a name
     shown: the handles of objects whose state an exchange shows, and which nothing else changed
         meanwhile
@@ -209,45 +211,42 @@ class Objects:
             self.known[key] = Object(key)
         return self.known[key]
 
-    def verifier_at(self, server: str) -> str | None:
-        return self.epochs[server].verifier if server in self.epochs else None
-
-    def started(self, server: str, verifier: str | None) -> Hashable:
-        """Returns what is denied if a server was started anew since it had a verifier. That is seen
-        once it has another one."""
-        epoch = self.epochs.get(server)
-        return STARTED_ANEW if epoch and verifier not in (None, epoch.verifier) else epoch
+    def started(self, server: str, since: Epoch | None) -> Hashable:
+        """Returns what is denied if a server was started anew since then. That is seen once it has
+        another verifier."""
+        now = self.epochs.get(server)
+        return STARTED_ANEW if now and since and since.verifier not in (UNSEEN, now.verifier) else now
 
     def show_clock(self, one: RecordedExchange) -> None:
         """Notes the latest ctime that a server has shown, since its clock is as late."""
         clock = self.clocks[one.server]
-        latest = max((told.now.ctime for told in one.told if told.now), default=(0, 0))
-        if not clock or latest > clock[-1][1]:
-            clock.append((one.source.end, latest))
+        for told in one.told if one.is_change else ():
+            if told.now and (not clock or told.now.ctime > clock[-1][1]):
+                clock.append((one.source.end, told.now.ctime))
 
     def is_over(self, known: Object, ctime: Time, source: Evidence) -> bool:
         """Whether the tick of a ctime was over when an exchange began: that was a tick after it was
         seen first, or after the server had shown a later one."""
         tick, clock = TICK if ctime[1] else COARSE_TICK, self.clocks[known.key[0]]
+        is_known = known.seen is not None and known.seen.now.ctime == ctime
         at = bisect.bisect_left(clock, (source.begin,))
-        return source.begun - known.since >= tick or at > 0 and (
+        return is_known and source.begun - known.since >= tick or at > 0 and (
             (clock[at - 1][1][0] - ctime[0]) * SECOND + clock[at - 1][1][1] - ctime[1] >= tick)
 
     def find(self, one: RecordedExchange, known: Object, rule: str, text: str, source: Evidence,
              *unless: Hashable, waits: bool = True) -> None:
         """Adds what does not agree with an earlier exchange, if a change after that would be seen:
-        not if the object was not at rest, nor within the tick of a clock that has whole seconds. If
-        it is to wait for another clock, nobody else may have changed any object of the server
-        within its tick. If a change since does not show what was before, somebody else may have
-        changed this one."""
-        if known.seen is None:
+        not if the object was not at rest, nor within the tick of a clock that has whole seconds.
+        Within that of another clock, for which data do not wait, or if a change since does not show
+        what was before, nobody else may be seen to change any object of the server."""
+        if known.seen is None or known.found is None:
             return
-        ctime = known.seen.now.ctime
+        ctime = known.found.ctime
         is_over = not waits and ctime[1] > 0 or self.is_over(known, ctime, source)
         if is_over or ctime[1]:
-            changed = known.key if known.loose >= source.frame else None
-            self.add(rule, one.source, text, source, changed,
-                     None if is_over else (one.server, OTHERS), *unless)
+            is_sure = is_over and known.loose < source.frame
+            self.add(rule, one.source, text, source, None if is_sure else (one.server, OTHERS),
+                     *unless)
 
     def observe(self, one: RecordedExchange, told: StatedAttributes) -> None:
         """Takes what a reply says of an object before it is known what the call did."""
@@ -266,6 +265,7 @@ class Objects:
         found = told.before if one.is_change else told.now
         if found:
             self.shown.add(told.handle)
+            known.found = found
             if known.is_blind:
                 known.forget()
             if known.seen:
@@ -306,18 +306,21 @@ class Objects:
     def at_rest(self, one: RecordedExchange, known: Object, seen: Sight, found: Attributes) -> None:
         """Looks at an object that nothing else changed during an exchange."""
         states, is_moved = known.states | {seen.now[:2]}, known.states or known.is_blind
-        if not states.issuperset(known.befores) or found.mtime not in {it[1] for it in states} \
+        # (the first of the changes since then has found what was seen)
+        is_first = not known.befores or seen.now[:2] in known.befores
+        if not is_first or not states.issuperset(known.befores) \
+                or found.mtime not in {it[1] for it in states} \
                 or not is_moved and found[:2] not in states:
             known.forget()
             if not known.is_blind:
-                self.denied |= {known.key, (known.key[0], OTHERS)}
+                self.denied.add((known.key[0], OTHERS))
         if is_moved:
             return
         self.looked.attributes += 1
         if one.is_change:
             self.before(one, known, seen, found)
         elif found[:-1] != seen.now[:-1]:
-            self.other(known, seen, Sight(found, one.source, self.verifier_at(one.server)))
+            self.other(known, seen, Sight(found, one.source, self.epochs.get(one.server)))
 
     def before(self, one: RecordedExchange, known: Object, seen: Sight, found: Attributes) -> None:
         """Looks at what was before a change. The times of other changes do not go back, and those
@@ -328,7 +331,7 @@ class Objects:
             names, now = Attributes._fields[:3], found[:3]
             text = changes_in_words(names, now, was, seen.source)
             self.find(one, known, 'wcc-before', f'before the call {text}', seen.source,
-                      self.started(one.server, seen.verifier),
+                      self.started(one.server, seen.epoch),
                       waits=found.ctime == was.ctime)
 
     def other(self, known: Object, seen: Sight, now: Sight) -> None:
@@ -338,7 +341,7 @@ class Objects:
         server, earlier = known.key[0], known.earlier
         has_links = self.relinked[server] < seen.source.end
         values, was = lasting(now.now, has_links), lasting(seen.now, has_links)
-        start = self.started(server, earlier.verifier if earlier else seen.verifier)
+        start = self.started(server, (earlier or seen).epoch)
         if now.now.ctime != seen.now.ctime:
             self.denied.add(now.source.number)
         if earlier and values == lasting(earlier.now, has_links) != was \
@@ -363,7 +366,7 @@ class Objects:
         if now and one.is_quiet(told.handle):
             if known.seen is None or is_change or now.ctime != known.seen.now.ctime:
                 known.since = one.ended
-            known.seen = Sight(now, one.source, self.verifier_at(one.server))
+            known.seen = Sight(now, one.source, self.epochs.get(one.server))
             known.states, known.befores, known.is_blind = set(), [], False
             if now.size == 0:
                 known.content = FileContent()

@@ -24,6 +24,8 @@ NO_VALUES: Values = {}
 OF_CONTENT, MAKES = ('WRITE', 'SETATTR'), ('CREATE', 'MKDIR', 'SYMLINK', 'MKNOD')
 REMOVES, LISTS = ('REMOVE', 'RMDIR', 'RENAME'), ('READDIR', 'READDIRPLUS')
 OF_NAMES = (*MAKES, *REMOVES, 'LINK')
+OWNERS_OF_NAMES = {**dict.fromkeys(('LOOKUP', *OF_NAMES), ('',)), 'RENAME': ('from.', 'to.'),
+                   'LINK': ('link.',)}
 CHANGING_PROCEDURES = {*OF_CONTENT, *OF_NAMES}
 # Errors after which a part may have been done: IO, NOSPC, DQUOT, SERVERFAULT and JUKEBOX.
 UNSURE = (5, 28, 69, 10006, 10008)
@@ -114,12 +116,12 @@ class RecordedExchange:
         return told + [StatedAttributes(entry.get('fh', ''), attributes(entry), None)
                        for entry in self.reply.get('entries', ())]
 
-    @cached_property
+    @property
     def names(self) -> tuple[ObjectKey, ...]:
         """The folders of the call, each with the name in it: two of RENAME. Equal texts are one
         object, since many are kept."""
         return tuple((sys.intern(self.call[owner + 'fh']), sys.intern(self.call[owner + 'name']))
-                     for owner in ('', 'from.', 'to.', 'link.') if owner + 'name' in self.call)
+                     for owner in OWNERS_OF_NAMES.get(self.procedure, ()))
 
     def says_of(self, number: int) -> bool | None:
         """Returns whether the reply says that a name is, or was, there; None if it says nothing."""
