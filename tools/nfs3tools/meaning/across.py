@@ -16,7 +16,7 @@ from ..exchanges.values import seconds
 from ..recordings.selection import count
 from .alone import BESIDE, broken, broken_by, of_made, of_sent_times
 from .objects import (
-    HIDDEN, UNSEEN, Epoch, FileContent, FilePart, KnownName, KnownText, NameTarget, Object, Objects)
+    HIDDEN, NO_VERIFIER, Epoch, FileContent, FilePart, KnownName, KnownText, NameTarget, Object, Objects)
 from .recorded import (
     END, LISTS, NEVER, OF_CONTENT, OF_NAMES, OWNERS_OF_NAMES, REMOVES, UNCHECKED, Recorded,
     RecordedExchange)
@@ -133,7 +133,7 @@ class Across(Objects):
             start = part.epoch and self.started(one.server, part.epoch)
             self.find(one, known, 'read-data', text, part.source, start, waits=False)
         # (what is read may be another's that is not committed)
-        epoch = self.epochs.get(one.server) or Epoch(one.server, UNSEEN, one.source)
+        epoch = self.epochs.get(one.server) or Epoch(one.server, NO_VERIFIER, one.source)
         known.content.put(FilePart(one.first, one.first + len(data), one.source, one.reply['data'],
                                    one.first, epoch))
 

@@ -20,7 +20,7 @@ HIDDEN = '.'  # begins names that may be in no listing
 # Attributes that stay with the ctime. Of type, fsid and fileid another rule speaks.
 LASTING = 'size', 'mtime', 'ctime', 'mode', 'uid', 'gid', 'nlink'
 OTHERS = 'others'  # of a server: someone else is seen to change one of its objects
-UNSEEN = ''  # a write verifier that no reply has shown
+NO_VERIFIER = ''  # a write verifier that no reply has shown
 STARTED_ANEW = 'started anew'  # denies what a new start of a server may have changed
 SizeAndTime = tuple[int, Time]  # the first attributes: size and mtime
 Ids = tuple[int, int, int]  # type, fsid and fileid
@@ -215,7 +215,8 @@ class Objects:
         """Returns what is denied if a server was started anew since then. That is seen once it has
         another verifier."""
         now = self.epochs.get(server)
-        return STARTED_ANEW if now and since and since.verifier not in (UNSEEN, now.verifier) else now
+        is_other = now and since and since.verifier not in (NO_VERIFIER, now.verifier)
+        return STARTED_ANEW if is_other else now
 
     def show_clock(self, one: RecordedExchange) -> None:
         """Notes the latest ctime that a server has shown, since its clock is as late."""
