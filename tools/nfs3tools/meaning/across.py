@@ -16,7 +16,8 @@ from ..exchanges.values import seconds
 from ..recordings.selection import count
 from .alone import BESIDE, broken, broken_by, of_made, of_sent_times
 from .objects import (
-    HIDDEN, NO_VERIFIER, Epoch, FileContent, FilePart, KnownName, KnownText, NameTarget, Object, Objects)
+    HIDDEN, NO_VERIFIER, Epoch, FileContent, FilePart, KnownName, KnownText, NameTarget, Object,
+    Objects)
 from .recorded import (
     END, LISTS, NEVER, OF_CONTENT, OF_NAMES, OWNERS_OF_NAMES, REMOVES, UNCHECKED, Recorded,
     RecordedExchange)
