@@ -31,7 +31,7 @@ from .scripts import TOP, Tools, in_turn, timed
 FOLDER, FILE, OTHER = b'folder', b'file', b'other'
 EARLY, LATER, LATEST = (nfstime(seconds, 250_000_000) for seconds in (100, 200, 300))
 VERIFIER, RESTARTED = b'verifier', b'restart.'
-SECONDS = 10**9
+SECONDS, NOSPC = 10**9, 28
 # Recordings of the repository, or all of a folder.
 FOLDER_OF_RECORDINGS = os.environ.get('RECORDINGS')
 RECORDINGS = sorted(Path(FOLDER_OF_RECORDINGS).glob('*.pcap') if FOLDER_OF_RECORDINGS
@@ -198,6 +198,9 @@ EXCLUSIVELY_CREATED: Step = (
     ok(made(FILE, shown(), changed(folder(), 4096))))
 ODD = nfstime(9, 0xffffffff)
 BY_OTHERS = asked(OTHER), asked(OTHER, shown(mtime=LATER, ctime=LATER))
+WRITE_FAILED: Step = (
+    'WRITE', fh(FILE) + hyper(0) + word(5) + word(UNSTABLE) + opaque(b'alpha'),
+    failed(NOSPC, optional(None) + post_op_attr(shown(size=8))))
 MKDIR_UNANSWERED: Step = 'MKDIR', dirop(OTHER, b'new') + sattr(0o700), None
 UNCOMMITTED = write(shown(), stable=UNSTABLE, committed=UNSTABLE)
 AT_REST, AT_REST_LATER = asked(FOLDER, folder()), asked(FOLDER, folder(LATER))
@@ -249,7 +252,7 @@ CASES = [
     Case('write-nothing', [], [write(shown(), written=0)], [write(shown())]),
     Case('verifier-back', [write(shown()), ANEW], [write(shown())], [ANEW]),
     Case('readlink-text', [symbolic(b'there')], [symbolic(b'here')], [symbolic(b'there')]),
-    Case('link-nlink', [asked()], [linked(1)], [linked(2)]),
+    Case('link-nlink', [], [linked(1)], [linked(2)]),
     Case('link-nlink', [asked()], [linked(3)], [linked(2)]),
     Case('wcc-before', [asked(), asked()], [chmod(6)], [chmod(5)])]
 # What takes a finding away, beside the same without it.
@@ -268,6 +271,9 @@ GUARDED_CASES = [
            NAMED, wrote()),
     before('not-committed', [committed(0, 0, RESTARTED), removed(b'b')],
            [committed(), removed(b'b')], NAMED, wrote()),
+    # After an error the client knows, and without a reply it may go on.
+    before('not-committed', [], [WRITE_FAILED], wrote()),
+    before('not-committed', [], [('COMMIT', fh(FILE) + hyper(0) + word(0), None)], wrote()),
     # What is not committed, or was within the tick of a ctime, is lost by a new start.
     before('read-data', [read(b'alphb')], [ANEW, read(b'alphb')],
            wrote(0, 8, FILE_SYNC, VERIFIER, OTHER), read(b'alpha')),
@@ -286,6 +292,7 @@ GUARDED_CASES = [
     before('made-attributes', [not_found(b'a', LATER), UNCHECKED_CREATED], [UNCHECKED_CREATED],
            AT_REST, *BY_OTHERS, REMOVED, AT_REST_LATER),
     # A client may set any time, and a server keeps the verifier of an EXCLUSIVE CREATE.
+    before('nsec', [time_set(SECONDS)], [time_set(5)]),
     before('nsec', [asked(now=shown(mtime=ODD))], [asked(now=shown(mtime=nfstime(9, 5)))],
            time_set(5)),
     before('nsec', [asked(now=shown(mtime=nfstime(9, 0xfffffffe)))], [asked(now=shown(mtime=ODD))],
@@ -390,28 +397,32 @@ def what_is_permitted(tools: Tools) -> None:
                           if one['connection'] == number and one['by'] != 'note'], [])
 
 
-def made_beside(name: bytes, was: bytes) -> Step:
-    return ('MKDIR', dirop(FOLDER, name) + sattr(0o700),
+def made_beside(name: bytes, was: bytes, above: bytes = FOLDER) -> Step:
+    return ('MKDIR', dirop(above, name) + sattr(0o700),
             ok(made(name, shown(DIR, 9, 0, 0o700, LATER, LATER),
                     changed(folder(LATER), 4096, was))))
 
 
 def exchanges_that_overlap(tools: Tools) -> None:
-    """What returns was never away only if the three exchanges came one after the other. Of changes
-    that overlap, the first has found what was there, or somebody else was between."""
+    """What returns was never away only if the three exchanges came one after the other, and a
+    verifier as well. Of changes that overlap, the first has found what was there, or somebody else
+    was between."""
     away = asked(), asked(), asked(now=shown(mtime=LATER, ctime=LATER)), asked()
-    busy = [[AT_REST, listed(), made_beside(b'b', was), made_beside(b'c', LATER),
+    anew = wrote(0, 8, FILE_SYNC), wrote(0, 8, FILE_SYNC), ANEW
+    busy = [[made_beside(b'd', EARLY, OTHER), AT_REST, listed(), made_beside(b'b', was),
+             made_beside(b'c', LATER),
              ('REMOVE', dirop(FOLDER, b'a'), ok(changed(folder(LATER), 4096, LATER)))]
             for was in (EARLY, LATER)]
     for steps, order, rules in ((away, '11223344', ['returns']), (away, '11223434', []),
-                                (away, '11232344', []), (busy[0], '1122343455', ['name-gone']),
-                                (busy[1], '1122343455', [])):
+                                (away, '11232344', []), (busy[0], '112233454566', ['name-gone']),
+                                (busy[1], '112233454566', []), (anew, '112332', []),
+                                (anew, '113322', ['verifier-back'])):
         bodies = bodies_of(steps)
         sides = [(order[:at].count(one), int(one) - 1) for at, one in enumerate(order)]
         frames = in_turn([Talk()], [(0, side, bodies[number][side]) for side, number in sides])
         tools.write('a.pcap', timed(enumerate(frames), 1_000))
         found = meaning(tools, 'a.pcap')[1]['findings']
-        tools.want(order, [one['rule'] for one in found], rules)
+        tools.want(order, [one['rule'] for one in found if one['by'] != 'note'], rules)
 
 
 def other_connections(tools: Tools) -> None:
@@ -435,15 +446,23 @@ def other_connections(tools: Tools) -> None:
 
 def one_wrong_answer(tools: Tools) -> None:
     """It is one finding, of the answer that stands alone."""
-    for wrong, rule, words in (
-            (shown(mode=0o7777), 'returns', 'mode is 07777, before (frame 7, GETATTR) and after '
-             '(frame 11, GETATTR) it was 0644'),
-            (shown(fileid=6), 'handle-object', 'fileid is 6, in frame 4 (GETATTR) it was 5')):
-        steps = [asked(), asked(), asked(now=wrong), asked(), asked()]
+    odd, other = shown(mode=0o7777), shown(fileid=6)
+    for answers, rule, frame, text in (
+            ((None, None, odd, None, None), 'returns', 9,
+             'mode is 07777, before (frame 7, GETATTR) and after (frame 11, GETATTR) it was 0644'),
+            ((None, None, other, None, None), 'handle-object', 9,
+             'handle 0x66696c65: fileid is 6, in frame 5 (GETATTR) it was 5'),
+            ((other, None, None, None), 'handle-object', 7,
+             'handle 0x66696c65: fileid is 5, in frame 5 (GETATTR) it was 6')):
+        steps = [asked(now=now or shown()) for now in answers]
         tools.write('a.pcap', timed(enumerate(frames_of(1, steps)), 1_000))
         found = meaning(tools, 'a.pcap')[1]['findings']
-        tools.want(rule, [(one['rule'], one['frame']) for one in found], [(rule, 9)])
-        tools.want('words', [words.partition(', ')[0] in one['text'] for one in found], [True])
+        tools.want(rule, [(one['rule'], one['frame'], one['text']) for one in found],
+                   [(rule, frame, text)])
+    tools.write('a.pcap', timed(enumerate(frames_of(1, [time_set(SECONDS), asked()])), 1_000))
+    tools.want('whose', [(one['by'], one['frame'], one['text'])
+                         for one in meaning(tools, 'a.pcap')[1]['findings']],
+               [('client', 4, 'sets mtime 9 s and 1,000,000,000 ns')])
 
 
 # --- Forms of output ---
