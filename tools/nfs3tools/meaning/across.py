@@ -46,8 +46,8 @@ class Across(Objects):
         self.placed, self.unnamed = dict[tuple[str, ...], str](), dict[str, int]()
         self.verifiers = dict[tuple[str, str], Evidence]()
         self.ways = {'WRITE': self.write, 'READ': self.read, 'SETATTR': self.set_size,
-                     'CREATE': self.create, 'COMMIT': self.commit, 'SYMLINK': self.make_link,
-                     'READLINK': self.read_link}
+                     'CREATE': self.create, 'COMMIT': self.commit, 'SYMLINK': self.take_text,
+                     'READLINK': self.take_text}
 
     def take(self, one: RecordedExchange) -> None:
         """Takes an exchange whose call was accepted. None before it has a later end."""
@@ -157,19 +157,16 @@ class Across(Objects):
             known = self.at(one, one.reply['fh'])
             known.content, known.unstable = FileContent(), FileContent()
 
-    def make_link(self, one: RecordedExchange, _: Object) -> None:
-        """Takes the text of a symbolic link."""
-        told = one.told[0]
-        if told.handle and told.now:
-            self.at(one, told.handle).text = KnownText(one.call['path'], told.now.mtime, one.source)
-
-    def read_link(self, one: RecordedExchange, known: Object) -> None:
-        """READLINK returns the text that was given or read before."""
-        was, now, path = known.text, one.told[0].now, one.reply['path']
-        if now and was and now.mtime == was.mtime and path != was.path:
+    def take_text(self, one: RecordedExchange, _: Object) -> None:
+        """READLINK returns the text that was given or read before. SYMLINK has another handle."""
+        told, path = one.told[0], (one.reply if one.procedure == 'READLINK' else one.call)['path']
+        known = self.at(one, told.handle)
+        was, known.text = known.text, None
+        if told.now and was and told.now.mtime == was.mtime and path != was.path:
             text = f'"{beginning_of(path)}", {was.source} it was "{beginning_of(was.path)}"'
             self.find(one, known, 'readlink-text', text, was.source, waits=False)
-        known.text = KnownText(path, now.mtime, one.source) if now else None
+        if told.now:
+            known.text = KnownText(path, told.now.mtime, one.source)
 
     # --- Commits ---
 
@@ -234,28 +231,27 @@ class Across(Objects):
                      and known.key not in excused and part.source.begin > removed]
             if any(self.goes_on(source) for _, source in parts):
                 self.looked.leave('commits', 'a client goes on after the end of the recording')
-                parts = []
+                continue
             for refused in dict.fromkeys(part.refused for part, _ in parts):
                 self.uncommitted(refused, [both for both in parts if both[0].refused == refused])
 
     def goes_on(self, source: Evidence) -> bool:
         """Whether a connection of the client of an exchange has no end in the recording."""
-        kept = self.recorded.kept
-        own = kept.parts[kept.part_of[source.number]]
-        return any(not part.has_all_replies for part in kept.parts
-                   if part.server == own.server and host_of(part.client) == host_of(own.client))
+        parts, number = self.recorded.kept.parts, self.recorded.kept.part_of[source.number]
+        client, server = host_of(parts[number].client), parts[number].server
+        return any(part.server == server and host_of(part.client) == client
+                   and not part.has_all_replies for part in parts)
 
     def uncommitted(self, refused: Evidence | None,
                     parts: Sequence[tuple[FilePart, Evidence]]) -> None:
         """Adds the data of a file that are not committed, or not by this COMMIT."""
         (first, source), (last, _) = parts[0], parts[-1]
-        number = count(len({source.number for _, source in parts}), 'WRITE')
-        text = (f'bytes {first.begin:,} to {last.end:,} of {number}, {source} with verf '
-                f'0x{first.epoch.verifier if first.epoch else ""}, are not ')
-        if refused:
-            self.add('not-committed', refused, f'{text}written again after another verf', source)
-        else:
-            self.add('not-committed', source, f'{text}committed', source)
+        writes = count(len({source.number for _, source in parts}), 'WRITE')
+        digits = first.epoch and first.epoch.verifier
+        how = 'written again after another verf' if refused else 'committed'
+        self.add('not-committed', refused or source,
+                 f'bytes {first.begin:,} to {last.end:,} of {writes}, {source} with verf '
+                 f'0x{digits}, are not {how}', source)
 
     # --- Names ---
 
@@ -370,10 +366,10 @@ def findings_in(recorded: Recorded, looked: Looked, is_whole: bool) -> list[Rule
     across = Across(recorded, looked, is_whole)
     for one in recorded.answered():
         looked.exchanges += 1
-        for rule, text in broken_by(one):
-            across.add(rule, one.source, text, None, *[one.source.number] * (rule in BESIDE))
         for rule, text in broken(of_sent_times(one)) if one.is_change else ():
             across.add(rule, one.source, text, by=CLIENT)
+        for rule, text in broken_by(one):
+            across.add(rule, one.source, text, None, *[one.source.number] * (rule in BESIDE))
         if recorded.has_frames:
             across.take(one)
     if recorded.has_frames:

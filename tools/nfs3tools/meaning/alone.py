@@ -2,20 +2,22 @@
 broken, its name, and how."""
 from __future__ import annotations
 
-from collections.abc import Callable, Iterable, Iterator, Mapping
+from collections.abc import Callable, Iterable, Iterator
 from itertools import chain
 
 from ..exchanges.in_words import number_named
 from ..exchanges.values import Attributes, Time, Values, attributes, seconds, size_of_entry
 from ..shared.layouts import ERRORS, VALUES
 from .recorded import (
-    DIRECTORY, EVERYWHERE, EXCLUSIVE, LISTS, MAKES, OF_NAMES, REGULAR, SECOND, SYMBOLIC_LINK,
-    UNCHECKED, RecordedExchange)
+    DIRECTORY, EVERYWHERE, EXCLUSIVE, LISTS, MAKES, OF_NAMES, REGULAR, SYMBOLIC_LINK, UNCHECKED,
+    RecordedExchange)
+from .rules import CLIENT
 
 RuleChecks = Iterator[tuple[object, str, str]]
 TYPES = {'CREATE': REGULAR, 'MKDIR': DIRECTORY, 'SYMLINK': SYMBOLIC_LINK}
 NOT_SYNC = 10002
 TIME_NAMES = 'atime', 'mtime', 'ctime'
+SECOND = 10**9  # nanoseconds
 STABLE, FILE_TYPES = VALUES['stable'], VALUES['type']
 SERVER_TIME_STEP = 2  # seconds of a server's times
 PERMISSION_BITS, BITS_OF_OTHERS = 0o777, 0o077  # a server may leave out the other bits of a mode
@@ -71,28 +73,33 @@ def of_write(one: RecordedExchange) -> RuleChecks:
 # --- Attributes ---
 
 def of_attributes(one: RecordedExchange) -> RuleChecks:
-    """Asks what holds for all attributes. A time that a call set is not the server's fault."""
+    """Asks what holds for all attributes. A time that a call has set is not the server's fault."""
     for told in one.told:
         for part in told[1:]:
             if part and max(part.atime[1], part.mtime[1], part.ctime[1]) >= SECOND:
-                times = dict(zip(TIME_NAMES, (part.atime, part.mtime, part.ctime)))
-                text = odd_times(times, lambda number: not one.is_sent(number))
+                text = odd_times(one, 'server', part.atime, part.mtime, part.ctime)
                 yield text and one.call.get('how') != EXCLUSIVE, 'nsec', text
         if told.now and told.now.mode & ~0o7777:
             yield True, 'mode-bits', f'mode is 0{told.now.mode:o}'
 
 
 def of_sent_times(one: RecordedExchange) -> RuleChecks:
-    """Asks the times that a call sets, which the client may have from the server."""
-    shown = one.recorded.odd_shown
-    text = odd_times(one.sent_times, lambda number: (one.server, number) not in shown)
-    yield one.is_ok and text, 'nsec', f'sets {text}'
+    """Asks the times that a call sets. A server may keep the verifier of an EXCLUSIVE CREATE in any
+    times (section 3.3.8), with its words and their bytes in any order."""
+    verifier = bytes.fromhex(one.call.get('createverf', ''))
+    for word in (way[at:at + 4] for way in (verifier, verifier[::-1]) for at in (0, 4)):
+        for mask in (0xffffffff, 0x7fffffff):
+            one.sender(int.from_bytes(word, 'big') & mask, CLIENT)
+    times = [one.call.get(f'set.{name}', (0, 0)) for name in TIME_NAMES]
+    text = odd_times(one, CLIENT, *times)
+    yield text and one.is_ok, 'nsec', f'sets {text}'
 
 
-def odd_times(times: Mapping[str, Time], is_own: Callable[[int], bool]) -> str:
-    """Returns the times in words that have no number of nanoseconds, if they are somebody's own."""
-    return ', '.join(f'{name} {time[0]:,} s and {time[1]:,} ns' for name, time in times.items()
-                     if time[1] >= SECOND and is_own(time[1]))
+def odd_times(one: RecordedExchange, by: str, *times: Time) -> str:
+    """Returns the times in words that have no number of nanoseconds, and are by this sender."""
+    return ', '.join(f'{name} {time[0]:,} s and {time[1]:,} ns'
+                     for name, time in zip(TIME_NAMES, times)
+                     if time[1] >= SECOND and one.sender(time[1], by) == by)
 
 
 def of_access(one: RecordedExchange) -> RuleChecks:

@@ -10,8 +10,9 @@ from dataclasses import dataclass, field
 from typing import Any, NamedTuple, Union
 
 from ..exchanges.values import Attributes, Data, Time, seconds
+from .alone import SECOND
 from .recorded import (
-    DIRECTORY, END, REMOVED, SECOND, ObjectKey, RecordedExchange, StatedAttributes)
+    DIRECTORY, END, REMOVED, ObjectKey, RecordedExchange, StatedAttributes)
 from .rules import Evidence, Looked, RuleFinding
 
 # Nanoseconds in which the clock of a server may stand: of one with parts of seconds, and without.

@@ -7,18 +7,16 @@ import sys
 from collections import defaultdict
 from collections.abc import Iterator
 from functools import cached_property
-from typing import Literal, NamedTuple
+from typing import NamedTuple
 
 from ..exchanges.kept import Kept
 from ..exchanges.stored import LongValues
-from ..exchanges.values import Attributes, Time, Values, attributes, read_call, read_reply
+from ..exchanges.values import Attributes, Values, attributes, read_call, read_reply
 from .rules import Evidence
 
 NFS_PREFIX, NOTHING_ASKED = 'NFSPROC3_', 'NFSPROC3_NULL'
-SECOND = 10**9  # nanoseconds
 NEVER = sys.maxsize  # the end of a call that may still be carried out
 END = 1 << 64  # no file is larger
-BYTE_ORDERS: tuple[Literal['big', 'little'], ...] = 'big', 'little'
 EVERYWHERE = 0, END
 NO_VALUES: Values = {}
 OF_CONTENT, MAKES = ('WRITE', 'SETATTR'), ('CREATE', 'MKDIR', 'SYMLINK', 'MKNOD')
@@ -78,23 +76,9 @@ class RecordedExchange:
         self.is_change, self.is_ok = self.procedure in CHANGING_PROCEDURES, self.status == 0
         self.is_done = self.is_ok or self.status in UNSURE
 
-    @property
-    def place(self) -> int:
-        """Its frame, or in a capture its number."""
-        return self.source.number if self.source.begin == NEVER else self.source.begin
-
-    @property
-    def sent_times(self) -> dict[str, Time]:
-        """The times that the call sets, by their names."""
-        return {name: self.call[f'set.{name}'] for name in ('atime', 'mtime')
-                if f'set.{name}' in self.call}
-
-    def is_sent(self, number: int) -> bool:
-        """Whether a call has sent these nanoseconds. If not, it is noted that the server did."""
-        if self.recorded.odd_sent.get((self.server, number), NEVER) <= self.place:
-            return True
-        self.recorded.odd_shown.add((self.server, number))
-        return False
+    def sender(self, number: int, by: str) -> str:
+        """Returns who was the first to send these nanoseconds, which no second has."""
+        return self.recorded.senders.setdefault((self.server, number), by)
 
     @property
     def first(self) -> int:
@@ -176,8 +160,7 @@ class Recorded:
     insensitive: servers for which names in upper and lower case are one (PATHCONF)
     changes: of each object, in the order of their begins
     pending: objects with a change or a COMMIT that got no reply, and names that such may change
-    odd_sent, odd_shown: numbers of nanoseconds that no second has, by servers: that a call sends,
-        with the place of the first, and that a server shows before
+    senders: who was the first to send a number of nanoseconds that no second has, by servers
     """
 
     def __init__(self, kept: Kept) -> None:
@@ -185,8 +168,7 @@ class Recorded:
         self.values = kept.values or LongValues()
         self.insensitive = set[str]()
         self.changes = defaultdict[ObjectKey, list[PossibleChange]](list)
-        self.pending = set[tuple[str, ...]]()
-        self.odd_sent, self.odd_shown = dict[tuple[str, int], int](), set[tuple[str, int]]()
+        self.pending, self.senders = set[tuple[str, ...]](), dict[tuple[str, int], str]()
         for number in range(len(kept)):
             procedure = kept.listed_name(number).removeprefix(NFS_PREFIX)
             if procedure in CHANGING_PROCEDURES:
@@ -210,13 +192,6 @@ class Recorded:
             self.changes[key].append(change)
         if one.status is None:
             self.pending |= keys | {(one.server, *name) for name in one.names}
-        # (a server may keep the verifier of an EXCLUSIVE CREATE in any times: section 3.3.8)
-        words = bytes.fromhex(one.call.get('createverf', ''))
-        numbers = [time[1] for time in one.sent_times.values()]
-        numbers += [int.from_bytes(word, order) & mask for word in (words[:4], words[4:])
-                    for order in BYTE_ORDERS for mask in (0xffffffff, 0x7fffffff)]
-        for odd in ((one.server, number) for number in numbers if number >= SECOND):
-            self.odd_sent[odd] = min(one.place, self.odd_sent.get(odd, NEVER))
 
     def end_of(self, number: int) -> int:
         """Returns the frame of the last reply, or NEVER if there are fewer replies than calls."""

@@ -156,10 +156,11 @@ class Looked:
     def groups(self) -> dict[str, str]:
         """Returns how much each group of rules was put to, and what was not asked, in words."""
         known = f'{count(self.reads, "READ")} ({self.bytes:,} bytes)'
+        beside = f', and {self.beside:,} beside a change are left out' if self.beside else ''
         words = {
             'calls': (self.exchanges, f'{count(self.exchanges, "call")} with a reply',
                       'no call of NFS has a reply'),
-            'data': (self.reads, known, 'no READ is of bytes that were written or read before'),
+            'data': (self.reads, known + beside, 'no bytes are read that were known'),
             'attributes': (self.attributes, count(self.attributes, 'comparison'),
                            'no object is shown again before it changes'),
             'names': (self.names + self.listings, f'{count(self.names, "name")}, '
