@@ -44,11 +44,8 @@ _nfs3_tool() {
       words='auto always never'
       ;;
     'nfs3-meaning --rule')
-      words='read-data read-eof read-past-end read-count-data read-count-asked write-size write-committed write-count-asked write-count-data verifier not-committed listing name-gone name-there name-object handle-object same-ctime returns set-attributes made-attributes made-type guard entries-size entries-none entry-cookies entry-names entry-fileid mode-bits nsec write-ctime dir-type access-asked fsinfo'
+      words='read-data read-eof read-past-end read-count-data read-count-asked write-size write-committed write-count-asked write-count-data write-nothing verifier verifier-back not-committed listing name-gone name-there name-object readlink-text link-nlink handle-object same-ctime returns wcc-before set-attributes made-attributes made-type guard entries-size entries-none entry-cookies entry-names entry-fileid mode-bits nsec write-ctime dir-type access-asked fsinfo'
       given=${word%"${word##*,}"}
-      ;;
-    'nfs3-meaning --explain')
-      words='read-data read-eof read-past-end read-count-data read-count-asked write-size write-committed write-count-asked write-count-data verifier not-committed listing name-gone name-there name-object handle-object same-ctime returns set-attributes made-attributes made-type guard entries-size entries-none entry-cookies entry-names entry-fileid mode-bits nsec write-ctime dir-type access-asked fsinfo'
       ;;
     'nfs3-meaning --color')
       words='auto always never'

@@ -9,6 +9,7 @@ from typing import TypeVar
 from tests.shared.running import Runs
 
 from .browser import Browser, chromium
+from .scripts import Tools
 
 VOID = ('meta', 'input')
 OUTSIDE = {'img', 'link', 'iframe', 'object', 'embed', 'base', 'form'}  # elements that load or send
@@ -136,6 +137,15 @@ class Pages(Runs):
                 browser.value(change)
                 self.want(f'{what}, {width}, all {how}', browser.value(WIDE), [True, width])
         self.want(f'{what}: errors', browser.errors, [])
+
+
+class Written(Tools, Pages):
+    """Runs of tools that write a page."""
+
+    def page(self, tool: str, *words: str) -> tuple[int, str, Node]:
+        """The status, what was printed, and the page."""
+        status, out, _ = self.tool(tool, '--html', 'page.html', *words)
+        return status, out, self.written()
 
 
 def light_of(colour: str) -> float:

@@ -8,6 +8,7 @@ import random
 from collections.abc import Callable, Iterable, Iterator
 from pathlib import Path
 from typing import Any, NamedTuple, Optional
+from xml.etree import ElementTree
 
 from examples.messages import (
     DIR, EXCLUSIVE, FIFO, FILE_SYNC, GUARDED, LNK, NFS, NFS_PROCEDURES, NOENT, REG, UNCHECKED,
@@ -24,29 +25,31 @@ from tools.nfs3tools.recordings.selection import Options
 from tools.nfs3tools.recordings.taken import take
 
 from .cases import PROGRAM
+from .pages import Written
 from .scripts import TOP, Tools, in_turn, timed
 
 FOLDER, FILE, OTHER = b'folder', b'file', b'other'
 EARLY, LATER, LATEST = (nfstime(seconds, 250_000_000) for seconds in (100, 200, 300))
 VERIFIER, RESTARTED = b'verifier', b'restart.'
-SECONDS = 10**9
+SECONDS, NOSPC = 10**9, 28
 # Recordings of the repository, or all of a folder.
 FOLDER_OF_RECORDINGS = os.environ.get('RECORDINGS')
 RECORDINGS = sorted(Path(FOLDER_OF_RECORDINGS).glob('*.pcap') if FOLDER_OF_RECORDINGS
                     else [*(TOP / 'examples').glob('*_a.pcap'), TOP / 'examples/knfsd_readdir.pcap',
                           *(TOP / 'tools/tests/recorded').glob('*-a.pcap.xz')])
-SHARE_FOUND = 0.65
+SHARE_FOUND = 0.7
 OLD_CACHE = 'live-cached'  # a recording of a server whose attributes are old
 HIDDEN, ALARMS_AT_MOST = (0.02, 0.1, 0.4), 2
 
 
 # --- A fault of each rule ---
 
-Step = tuple[str, bytes, bytes]  # a procedure, its arguments and its results
+Step = tuple[str, bytes, Optional[bytes]]  # a procedure, its arguments and its results, or none
 
 
 class Case(NamedTuple):
-    """Exchanges that break a rule, and such that do not, after some that both have."""
+    """Exchanges that break a rule, and such that do not, after some that both have. No result is no
+    reply."""
     rule: str
     before: list[Step]
     broken: list[Step]
@@ -71,6 +74,11 @@ def asked(handle: bytes = FILE, now: bytes = shown()) -> Step:
     return 'GETATTR', fh(handle), ok(now)
 
 
+def before(rule: str, broken: list[Step], sound: list[Step], *steps: Step) -> Case:
+    """What is broken or sound after some steps."""
+    return Case(rule, list(steps), broken, sound)
+
+
 def read(data: bytes, count: int = 100, size: int = 5, is_end: int = 1,
          number: Optional[int] = None, now: Optional[bytes] = None) -> Step:
     told = post_op_attr(now or shown(size=size)) + word(len(data) if number is None else number)
@@ -83,6 +91,48 @@ def write(now: bytes, count: int = 5, stable: int = FILE_SYNC, committed: int = 
             ok(changed(now), word(written), word(committed), verifier))
 
 
+def wrote(at: int = 0, size: int = 8, stable: int = UNSTABLE, verifier: bytes = VERIFIER,
+          handle: bytes = FILE) -> Step:
+    """A WRITE to a file of 8 bytes."""
+    return ('WRITE', fh(handle) + hyper(at) + word(size) + word(stable) + opaque(bytes(size)),
+            ok(changed(shown(size=8), 8), word(size), word(stable), verifier))
+
+
+def committed(at: int = 0, size: int = 0, verifier: bytes = VERIFIER) -> Step:
+    return 'COMMIT', fh(FILE) + hyper(at) + word(size), ok(changed(shown(size=8), 8), verifier)
+
+
+def cut(size: int) -> Step:
+    return ('SETATTR', fh(FILE) + sattr(size=size) + guard(),
+            ok(changed(shown(size=size, mtime=LATER, ctime=LATER), 8)))
+
+
+def removed(name: bytes) -> Step:
+    return 'REMOVE', dirop(FOLDER, name), ok(changed(folder(LATER), 4096))
+
+
+def renamed(name: bytes, above: bytes, other: bytes) -> Step:
+    """A RENAME out of the folder, or in it."""
+    return ('RENAME', dirop(FOLDER, name) + dirop(above, other),
+            ok(changed(folder(LATER), 4096), changed(folder(LATER), 4096)))
+
+
+def linked(nlink: int) -> Step:
+    now = shown(ctime=LATER)
+    return ('LINK', fh(FILE) + dirop(FOLDER, b'b'),
+            ok(post_op_attr(now[:8] + word(nlink) + now[12:]), changed(folder(LATER), 4096)))
+
+
+def symbolic(text: bytes) -> Step:
+    return 'READLINK', fh(FILE), ok(post_op_attr(shown(LNK)), opaque(text))
+
+
+def time_set(nanoseconds: int) -> Step:
+    time = nfstime(9, nanoseconds)
+    return ('SETATTR', fh(FILE) + sattr(mtime=set_to_client_time(time)) + guard(),
+            ok(changed(shown(mtime=time, ctime=LATER))))
+
+
 def looked_up(name: bytes, handle: bytes = FILE, fileid: int = 5, mtime: bytes = EARLY,
               kind: int = DIR) -> Step:
     above = shown(kind, 2, 4096, 0o755, mtime, mtime)
@@ -90,8 +140,8 @@ def looked_up(name: bytes, handle: bytes = FILE, fileid: int = 5, mtime: bytes =
             ok(fh(handle) + post_op_attr(shown(fileid=fileid)) + post_op_attr(above)))
 
 
-def not_found(name: bytes, mtime: bytes) -> Step:
-    return 'LOOKUP', dirop(FOLDER, name), failed(NOENT, post_op_attr(folder(mtime)))
+def not_found(name: bytes, mtime: bytes, above: bytes = FOLDER) -> Step:
+    return 'LOOKUP', dirop(above, name), failed(NOENT, post_op_attr(folder(mtime)))
 
 
 def made_folder(mode: int = 0o700, kind: int = DIR, asked: int = 0o700,
@@ -100,14 +150,19 @@ def made_folder(mode: int = 0o700, kind: int = DIR, asked: int = 0o700,
             ok(made(b'new', shown(kind, 9, 0, mode, LATER, LATER), changed(folder(LATER), 4096))))
 
 
-def listed(*items: bytes, count: int = 4096, is_end: bool = True) -> Step:
+def listed(*items: bytes, count: int = 4096, is_end: bool = True, mtime: bytes = EARLY) -> Step:
     return ('READDIR', fh(FOLDER) + hyper(0) + bytes(8) + word(count),
-            ok(entries(folder(), bytes(8), items, is_end)))
+            ok(entries(folder(mtime), bytes(8), items, is_end)))
 
 
 def set_mode(mode: int, ctime: bytes) -> Step:
     return ('SETATTR', fh(FILE) + sattr(mode=0o600) + guard(EARLY),
             ok(changed(shown(mode=mode, ctime=LATEST), was=ctime)))
+
+
+def chmod(size: int) -> Step:
+    return ('SETATTR', fh(FILE) + sattr(mode=0o600) + guard(),
+            ok(changed(shown(mode=0o600, ctime=LATEST), size)))
 
 
 def listed_plus(fileid: int) -> Step:
@@ -126,13 +181,27 @@ def accessible(granted: int) -> Step:
     return 'ACCESS', fh(FILE) + word(1), ok(post_op_attr(shown()) + word(granted))
 
 
-REMOVED: Step = 'REMOVE', dirop(FOLDER, b'a'), ok(changed(folder(LATER), 4096))
+REMOVED = removed(b'a')
 CREATED: Step = ('CREATE', dirop(FOLDER, b'a') + how(GUARDED, sattr(mode=0o644)),
                  ok(made(FILE, shown(size=0, mtime=LATER, ctime=LATER),
                          changed(folder(LATER), 4096))))
 COMMITTED, COMMITTED_ANEW = (
     ('COMMIT', fh(FILE) + hyper(0) + word(0), ok(changed(shown()), verifier))
     for verifier in (VERIFIER, RESTARTED))
+NAMED, ANEW = looked_up(b'a'), wrote(0, 8, FILE_SYNC, RESTARTED, OTHER)
+UNCHECKED_CREATED: Step = (
+    'CREATE', dirop(FOLDER, b'a') + how(UNCHECKED, sattr(mode=0o644)),
+    ok(made(FILE, shown(mode=0o444, mtime=LATEST, ctime=LATEST),
+            changed(folder(LATEST), 4096, LATER))))
+EXCLUSIVELY_CREATED: Step = (
+    'CREATE', dirop(FOLDER, b'a') + how(EXCLUSIVE, bytes(4) + b'\xff' * 4),
+    ok(made(FILE, shown(), changed(folder(), 4096))))
+ODD = nfstime(9, 0xffffffff)
+BY_OTHERS = asked(OTHER), asked(OTHER, shown(mtime=LATER, ctime=LATER))
+WRITE_FAILED: Step = (
+    'WRITE', fh(FILE) + hyper(0) + word(5) + word(UNSTABLE) + opaque(b'alpha'),
+    failed(NOSPC, optional(None) + post_op_attr(shown(size=8))))
+MKDIR_UNANSWERED: Step = 'MKDIR', dirop(OTHER, b'new') + sattr(0o700), None
 UNCOMMITTED = write(shown(), stable=UNSTABLE, committed=UNSTABLE)
 AT_REST, AT_REST_LATER = asked(FOLDER, folder()), asked(FOLDER, folder(LATER))
 CASES = [
@@ -179,7 +248,55 @@ CASES = [
          [write(shown(mtime=LATEST, ctime=LATEST))]),
     Case('dir-type', [], [looked_up(b'a', kind=REG)], [looked_up(b'a')]),
     Case('access-asked', [], [accessible(3)], [accessible(1)]),
-    Case('fsinfo', [], [limits(8192)], [limits(4096)])]
+    Case('fsinfo', [], [limits(8192)], [limits(4096)]),
+    Case('write-nothing', [], [write(shown(), written=0)], [write(shown())]),
+    Case('verifier-back', [write(shown()), ANEW], [write(shown())], [ANEW]),
+    Case('readlink-text', [symbolic(b'there')], [symbolic(b'here')], [symbolic(b'there')]),
+    Case('link-nlink', [], [linked(1)], [linked(2)]),
+    Case('link-nlink', [asked()], [linked(3)], [linked(2)]),
+    Case('wcc-before', [asked(), asked()], [chmod(6)], [chmod(5)])]
+# What takes a finding away, beside the same without it.
+GUARDED_CASES = [
+    # A COMMIT or a WRITE of a part, or a cut, takes this part.
+    before('not-committed', [], [committed(4, 4)], wrote(), committed(0, 4)),
+    before('not-committed', [], [wrote(4, 4, FILE_SYNC, RESTARTED)], wrote(),
+           committed(0, 0, RESTARTED), wrote(0, 4, FILE_SYNC, RESTARTED)),
+    before('not-committed', [wrote(0, 4, UNSTABLE, RESTARTED)],
+           [wrote(0, 4, UNSTABLE, RESTARTED), committed(0, 4, RESTARTED)],
+           wrote(), committed(0, 0, RESTARTED), wrote(4, 4, FILE_SYNC, RESTARTED)),
+    before('not-committed', [], [committed(0, 4)], wrote(), cut(4)),
+    # Only this file need not be committed if it is removed.
+    before('not-committed', [removed(b'b')], [REMOVED], NAMED, wrote()),
+    before('not-committed', [renamed(b'b', FOLDER, b'c')], [renamed(b'b', FOLDER, b'a')],
+           NAMED, wrote()),
+    before('not-committed', [committed(0, 0, RESTARTED), removed(b'b')],
+           [committed(), removed(b'b')], NAMED, wrote()),
+    # After an error the client knows, and without a reply it may go on.
+    before('not-committed', [], [WRITE_FAILED], wrote()),
+    before('not-committed', [], [('COMMIT', fh(FILE) + hyper(0) + word(0), None)], wrote()),
+    # What is not committed, or was within the tick of a ctime, is lost by a new start.
+    before('read-data', [read(b'alphb')], [ANEW, read(b'alphb')],
+           wrote(0, 8, FILE_SYNC, VERIFIER, OTHER), read(b'alpha')),
+    before('same-ctime', [asked(now=shown(size=4))], [ANEW, asked(now=shown(size=4))],
+           wrote(0, 8, FILE_SYNC, VERIFIER, OTHER), asked(), asked()),
+    before('same-ctime', [asked(now=shown(size=4)), wrote(0, 8, FILE_SYNC, VERIFIER, OTHER)],
+           [asked(now=shown(size=4)), ANEW],
+           wrote(0, 8, FILE_SYNC, VERIFIER, OTHER), asked(), asked()),
+    # A call without a reply is beside changes of its own folder alone.
+    before('listing', [listed(entry(5, b'a', 1), mtime=LATER)], [listed(mtime=LATER)],
+           AT_REST, NAMED, asked(OTHER, folder()), not_found(b'b', EARLY, OTHER), MKDIR_UNANSWERED,
+           renamed(b'a', OTHER, b'b'), AT_REST_LATER),
+    # Within the tick of a change nobody else may work at the server.
+    before('name-there', [looked_up(b'a', mtime=LATER), not_found(b'a', LATER)],
+           [not_found(b'a', LATER)], AT_REST, *BY_OTHERS, CREATED, AT_REST_LATER),
+    before('made-attributes', [not_found(b'a', LATER), UNCHECKED_CREATED], [UNCHECKED_CREATED],
+           AT_REST, *BY_OTHERS, REMOVED, AT_REST_LATER),
+    # A client may set any time, and a server keeps the verifier of an EXCLUSIVE CREATE.
+    before('nsec', [time_set(SECONDS)], [time_set(5)]),
+    before('nsec', [asked(now=shown(mtime=ODD))], [asked(now=shown(mtime=nfstime(9, 5)))],
+           time_set(5)),
+    before('nsec', [asked(now=shown(mtime=nfstime(9, 0xfffffffe)))], [asked(now=shown(mtime=ODD))],
+           EXCLUSIVELY_CREATED)]
 
 
 # What servers and clients may do, and looks like a fault.
@@ -194,7 +311,7 @@ MAY_BE = {
     'a file grows between the data of a READ and its attributes': [
         asked(), read(b'alpha', now=shown(size=9, mtime=LATER, ctime=LATER))],
     'what is not committed is lost when a server starts anew': [
-        UNCOMMITTED, read(b'alphb'), COMMITTED_ANEW, write(shown())],
+        UNCOMMITTED, read(b'alphb'), COMMITTED_ANEW, write(shown(), verifier=RESTARTED)],
     'an empty WRITE is not committed': [
         ('WRITE', fh(FILE) + hyper(0) + word(0) + word(FILE_SYNC) + opaque(b''),
          ok(changed(shown()), word(0), word(UNSTABLE), VERIFIER))],
@@ -225,9 +342,10 @@ MAY_BE = {
     'a preferred size is no multiple': [limits(4000)]}
 
 
-def bodies_of(steps: Iterable[Step]) -> list[tuple[bytes, bytes]]:
-    """The calls with their replies."""
-    return [(call(xid, NFS, 3, NFS_PROCEDURES.index(name), arguments), success(xid, results))
+def bodies_of(steps: Iterable[Step]) -> list[list[bytes]]:
+    """The calls, each with its reply if it got one."""
+    return [[call(xid, NFS, 3, NFS_PROCEDURES.index(name), arguments),
+             *([] if results is None else [success(xid, results)])]
             for xid, (name, arguments, results) in enumerate(steps, 1)]
 
 
@@ -244,24 +362,28 @@ def meaning(tools: Tools, *words: str) -> tuple[int, Any]:
 
 
 def a_fault_of_each_rule(tools: Tools) -> None:
-    """Each is found, and nothing else; what is sound beside it passes."""
-    tools.want('rules', sorted(case.rule for case in CASES), sorted(RULES))
-    frames = [frame for number, case in enumerate(CASES)
+    """Each is found once, and nothing else; what is sound beside it passes."""
+    tools.want('rules', sorted({case.rule for case in CASES}), sorted(RULES))
+    cases = CASES + GUARDED_CASES
+    frames = [frame for number, case in enumerate(cases)
               for frame in (*frames_of(2 * number, case.before + case.broken),
                             *frames_of(2 * number + 1, case.before + case.sound))]
     tools.write('a.pcap', timed(enumerate(frames), 1_000))
     status, whole = meaning(tools, 'a.pcap')
-    tools.want('status', (status, whole['counts']['ok']), (1, 2 * len(CASES)))
-    found = collections.defaultdict[int, set[str]](set)
+    tools.want('status', (status, whole['counts']['ok']), (1, 2 * len(cases)))
+    found = collections.defaultdict[int, list[str]](list)
     for one in whole['findings']:
-        found[one['connection']].add(one['rule'])
-    for number, case in enumerate(CASES):
-        tools.want(case.rule, found[2 * number + 1], {case.rule})
-        tools.want(f'{case.rule}: sound', found[2 * number + 2], set())
+        if one['by'] != 'note' or cases[one['connection'] // 2].rule == 'verifier':
+            found[one['connection']].append(one['rule'])
+    for number, case in enumerate(cases):
+        name = f'{number} {case.rule}'
+        tools.want(name, found[2 * number + 1], [case.rule])
+        tools.want(f'{name}: sound', found[2 * number + 2], [])
     by_two = {one['rule'] for one in whole['findings'] if one['against_frame']}
     tools.want('findings with two frames', by_two, {
         'read-data', 'verifier', 'listing', 'name-gone', 'name-there', 'name-object',
-        'handle-object', 'same-ctime', 'returns', 'write-ctime'})
+        'handle-object', 'same-ctime', 'returns', 'write-ctime', 'not-committed', 'wcc-before',
+        'link-nlink', 'readlink-text', 'verifier-back', 'made-attributes'})
 
 
 def what_is_permitted(tools: Tools) -> None:
@@ -275,46 +397,162 @@ def what_is_permitted(tools: Tools) -> None:
                           if one['connection'] == number and one['by'] != 'note'], [])
 
 
+def made_beside(name: bytes, was: bytes, above: bytes = FOLDER) -> Step:
+    return ('MKDIR', dirop(above, name) + sattr(0o700),
+            ok(made(name, shown(DIR, 9, 0, 0o700, LATER, LATER),
+                    changed(folder(LATER), 4096, was))))
+
+
 def exchanges_that_overlap(tools: Tools) -> None:
-    """What returns was never away only if the three exchanges came one after the other."""
-    bodies = bodies_of([asked(), asked(), asked(now=shown(mtime=LATER, ctime=LATER)), asked()])
-    for order, rules in (('11223344', ['returns']), ('11223434', []), ('11232344', [])):
+    """What returns was never away only if the three exchanges came one after the other, and a
+    verifier as well. Of changes that overlap, the first has found what was there, or somebody else
+    was between."""
+    away = asked(), asked(), asked(now=shown(mtime=LATER, ctime=LATER)), asked()
+    anew = wrote(0, 8, FILE_SYNC), wrote(0, 8, FILE_SYNC), ANEW
+    busy = [[made_beside(b'd', EARLY, OTHER), AT_REST, listed(), made_beside(b'b', was),
+             made_beside(b'c', LATER),
+             ('REMOVE', dirop(FOLDER, b'a'), ok(changed(folder(LATER), 4096, LATER)))]
+            for was in (EARLY, LATER)]
+    for steps, order, rules in ((away, '11223344', ['returns']), (away, '11223434', []),
+                                (away, '11232344', []), (busy[0], '112233454566', ['name-gone']),
+                                (busy[1], '112233454566', []), (anew, '112332', []),
+                                (anew, '113322', ['verifier-back'])):
+        bodies = bodies_of(steps)
         sides = [(order[:at].count(one), int(one) - 1) for at, one in enumerate(order)]
         frames = in_turn([Talk()], [(0, side, bodies[number][side]) for side, number in sides])
         tools.write('a.pcap', timed(enumerate(frames), 1_000))
         found = meaning(tools, 'a.pcap')[1]['findings']
-        tools.want(order, [one['rule'] for one in found], rules)
+        tools.want(order, [one['rule'] for one in found if one['by'] != 'note'], rules)
+
+
+def other_connections(tools: Tools) -> None:
+    """Two servers may have one address, and a client goes on by another connection."""
+    hosts = '192.0.2.7', '198.51.100.1'
+    for steps, service, is_closed, rule in (
+            ([asked(now=shown(fileid=6))], 2049, True, ['handle-object']),
+            ([asked(now=shown(fileid=6))], 20049, True, []),
+            ([asked(OTHER)], 2049, True, ['not-committed']), ([asked(OTHER)], 2049, False, []),
+            ([committed()], 2049, True, [])):
+        first = [asked()] if rule == ['handle-object'] or service != 2049 else [wrote()]
+        second = Talk(701, service, hosts)
+        frames = in_turn([Talk(hosts=hosts)], [
+            (0, side, body) for both in bodies_of(first) for side, body in enumerate(both)])
+        frames += in_turn([second], [
+            (0, side, body) for both in bodies_of(steps) for side, body in enumerate(both)])
+        tools.write('a.pcap', timed(enumerate(frames[:None if is_closed else -2]), 1_000))
+        found = meaning(tools, '--port', '2049,20049', 'a.pcap')[1]['findings']
+        tools.want(f'{steps[0][0]} {service} {is_closed}', [one['rule'] for one in found], rule)
+
+
+def one_wrong_answer(tools: Tools) -> None:
+    """It is one finding, of the answer that stands alone."""
+    odd, other = shown(mode=0o7777), shown(fileid=6)
+    for answers, rule, frame, text in (
+            ((None, None, odd, None, None), 'returns', 9,
+             'mode is 07777, before (frame 7, GETATTR) and after (frame 11, GETATTR) it was 0644'),
+            ((None, None, other, None, None), 'handle-object', 9,
+             'handle 0x66696c65: fileid is 6, in frame 5 (GETATTR) it was 5'),
+            ((other, None, None, None), 'handle-object', 7,
+             'handle 0x66696c65: fileid is 5, in frame 5 (GETATTR) it was 6')):
+        steps = [asked(now=now or shown()) for now in answers]
+        tools.write('a.pcap', timed(enumerate(frames_of(1, steps)), 1_000))
+        found = meaning(tools, 'a.pcap')[1]['findings']
+        tools.want(rule, [(one['rule'], one['frame'], one['text']) for one in found],
+                   [(rule, frame, text)])
+    tools.write('a.pcap', timed(enumerate(frames_of(1, [time_set(SECONDS), asked()])), 1_000))
+    tools.want('whose', [(one['by'], one['frame'], one['text'])
+                         for one in meaning(tools, 'a.pcap')[1]['findings']],
+               [('client', 4, 'sets mtime 9 s and 1,000,000,000 ns')])
 
 
 # --- Forms of output ---
 
 FAULTY = timed(enumerate(frames_of(1, [read(b'alpha'), read(b'alphb'), asked()])), 1_000)
+FIRST_FOUND = ('frame 7: READ ? 0+100: byte 4 is 0x62, in frame 5 (READ) it was 0x61, with the '
+               'same mtime and size')
+GROUPS = {
+    'calls': '3 calls with a reply', 'data': '1 READ (5 bytes)', 'attributes': '2 comparisons',
+    'names': 'not asked, since no name is asked for again in a folder that is shown',
+    'commits': 'not asked, since no WRITE is UNSTABLE'}
+LOOKED_AT = [f'  {group}: {words}' for group, words in GROUPS.items()]
+JUDGED = '1 judged (1 ok, 0 refused), 0 in part, 0 left out, 0 not checked, 0 errors'
 
 
 def words_of_a_finding(tools: Tools) -> None:
     """A row names both frames, and all forms of output have the same counts and status."""
     tools.write('a.pcap', FAULTY)
     run = functools.partial(tools.tool, 'meaning')
-    first = ('frame 7: READ ? 0+100: byte 4 is 62, in frame 5 it was 61, with the same mtime and '
-             'size')
+    sums = ['1 finding by 1 rule, 0 notes; looked at:', *LOOKED_AT, JUDGED]
     status, out, _ = run('a.pcap')
-    tools.want('row', (status, out.splitlines()[1].split(None, 5)[5]), (1, first))
-    sums = out.splitlines()[-2:]
-    tools.want('sums', sums, [
-        '1 finding by 1 rule, 0 notes; looked at 3 exchanges, 1 READ (5 bytes), 0 names, '
-        '0 listings; 0 READs beside changes not compared',
-        '1 judged (1 ok, 0 refused), 0 in part, 0 left out, 0 not checked, 0 errors'])
+    tools.want('row', (status, out.splitlines()[1].split(None, 5)[5]), (1, FIRST_FOUND))
+    tools.want('sums', out.splitlines()[2:], sums)
     status, out, _ = run('--all', 'a.pcap')
-    tools.want('--all', (status, out.splitlines()), (1, [f'5.000000  read-data  {first}', *sums]))
+    tools.want('--all', (status, out.splitlines()), (1, [f'5.000000  read-data  {FIRST_FOUND}',
+                                                         *sums]))
     status, out, error = run('--csv', 'a.pcap')
     tools.want('--csv', (status, len(out.splitlines()), error.splitlines()), (1, 2, sums))
-    status, _, _ = run('--junit', 'a.xml', '--html', 'a.html', 'a.pcap')
-    junit, page = tools.read('a.xml').decode(), tools.read('a.html').decode()
-    tools.want('--junit', (status, 'failures="1"' in junit, first in junit), (1, True, True))
-    tools.want('--html', (first in page, sums[0] in page), (True, True))
+    status, whole = meaning(tools, 'a.pcap')
+    found = [(one['client'], one['server'], one['section']) for one in whole['findings']]
+    tools.want('--json', (status, found, whole['looked_at']['groups']),
+               (1, [('192.0.2.7:700', '198.51.100.1:2049', '3.3.6')], GROUPS))
+    tools.want('--junit', run('--junit', 'a.xml', 'a.pcap')[0], 1)
+    suite = ElementTree.fromstring(tools.read('a.xml'))[0]
+    properties = {one.attrib['name']: one.attrib['value'] for one in suite.iter('property')}
+    tools.want('properties', {name: properties.get(name) for name in GROUPS}, GROUPS)
+    tools.want('failures', (suite.attrib['failures'], FIRST_FOUND in tools.read('a.xml').decode()),
+               ('1', True))
     tools.want('--rule', run('--rule', 'nsec', 'a.pcap')[0], 0)
-    status, out, _ = run('--explain', 'read-data')
-    tools.want('--explain', (status, 'RFC 1813, section 3.3.6' in out), (0, True))
+
+
+def pages_of_findings(tools: Written) -> None:
+    """The headline and the status are those of the command, and the findings come first. Nothing
+    is called valid, or green if nothing was looked at."""
+    silent = timed(enumerate(frames_of(1, [('NULL', b'', b'')])), 1_000)
+    lost = [frame for at, frame in enumerate(frames_of(1, [asked()] * 3)) if at != 5]
+    for name, recording, look, words in (
+            ('found', FAULTY, 'differ', '1 answer by 1 rule cannot be right'),
+            ('clean', timed(enumerate(frames_of(1, [asked()])), 1_000), 'same',
+             'No answer is known to be wrong'),
+            ('silent', silent, 'part', 'No call was looked at'),
+            ('lost', timed(enumerate(lost), 1_000), 'part', 'Not all was judged')):
+        tools.write('a.pcap', recording)
+        status, out, page = tools.page('meaning', 'a.pcap')
+        heading, = page.all('h1')
+        tools.want(name, (heading.attributes.get('class'), heading.text()), (look, words))
+        tools.want(f'{name}: status', f'The status is {status}' in page.text(), True)
+        tools.want(f'{name}: valid', 'valid' in page.text(), False)
+        tools.want(f'{name}: looked at', [line for line in out.splitlines() if line[:2] == '  '],
+                   [f'  {text}' for text in page.texts('p') if text.split(':')[0] in GROUPS])
+    tools.write('a.pcap', FAULTY)
+    _, _, page = tools.page('meaning', 'a.pcap')
+    first = page.all('table')[0]
+    tools.want('the finding first', [cell.attributes.get('data-head') for cell in first.all('td')],
+               ['rule', 'section', 'by', 'server', 'found', 'first'])
+    tools.want('its words', [text for text in page.texts('td') if 'byte 4' in text], [FIRST_FOUND])
+    tools.want('its frames', page.texts('code', 'filter'), ['frame.number in {5, 7}'])
+
+
+def explained_rules(tools: Tools) -> None:
+    """A rule comes with what to do next, and another word with the rules near it."""
+    for name, about in (('read-data', 'section 3.3.6'), ('same-ctime', 'fattr3'),
+                        ('made-type', 'section 3.3.8, 3.3.9, 3.3.10, 3.3.11')):
+        status, out, _ = tools.tool('meaning', '--explain', name)
+        tools.want(name, (status, f'(RFC 1813, {about})' in out, out.count('RECORDING')),
+                   (0, True, 3))
+    status, _, error = tools.tool('meaning', '--explain', 'read-dta')
+    tools.want('near', (status, error.splitlines()[-1].partition(': no rule: ')[2]),
+               (2, 'read-dta; near it: read-data, read-count-data, read-eof'))
+
+
+def sections_by_procedure(tools: Tools) -> None:
+    """A finding has the section of its procedure, and a row all of them."""
+    plus = ('READDIRPLUS', fh(FOLDER) + hyper(0) + bytes(8) + word(4096) + word(16),
+            ok(entries(folder(), bytes(8), [], True)))
+    tools.write('a.pcap', timed(enumerate(frames_of(1, [listed(count=16), plus])), 1_000))
+    whole = meaning(tools, 'a.pcap')[1]
+    tools.want('findings', [one['section'] for one in whole['findings']], ['3.3.16', '3.3.17'])
+    tools.want('row', [(one['section'], one['found']) for one in whole['rules']],
+               [('3.3.16, 3.3.17', 2)])
 
 
 def findings_that_are_accepted(tools: Tools) -> None:
@@ -325,12 +563,19 @@ def findings_that_are_accepted(tools: Tools) -> None:
              {'rule': 'nsec', 'server': '*'}]
     tools.write('a.json', json.dumps({'version': 1, 'accepted': known}).encode())
     status, out, _ = run('a.pcap')
-    tools.want('accepted', (status, out.splitlines()[-3:-1]), (0, [
-        'no longer found: nsec *',
-        '0 findings by 0 rules, 0 notes, 1 accepted; looked at 3 exchanges, 1 READ (5 bytes), '
-        '0 names, 0 listings; 0 READs beside changes not compared']))
+    tools.want('accepted', (status, out.splitlines()[2:]), (0, [
+        'no longer found: nsec *', '0 findings by 0 rules, 0 notes, 1 accepted; looked at:',
+        *LOOKED_AT, JUDGED]))
+    tools.want('its row', out.splitlines()[1].split()[4:6], ['1', 'accepted'])
     tools.want('--junit', (run('--junit', 'a.xml', 'a.pcap')[0],
                            b'failures="0"' in tools.read('a.xml')), (0, True))
+    os.link(tools.path('a.json'), tools.path('hard'))
+    os.symlink('a.json', tools.path('soft'))
+    for option in ('--html', '--junit'):
+        for name in ('a.json', './a.json', 'hard', 'soft'):
+            before = tools.read('a.json')
+            tools.want(f'{option} {name}', run(option, name, 'a.pcap')[0], 2)
+            tools.want('the file', tools.read('a.json') == before, True)
     for wrong in (b'', b'[]', b'{"version": 2, "accepted": []}', b'\xff',
                   b'{"version": 1, "accepted": [{"rule": "none", "server": "*"}]}'):
         tools.write('a.json', wrong)
@@ -341,21 +586,22 @@ def a_capture(tools: Tools) -> None:
     """It has no frames, so rules about several exchanges are not asked, which is said."""
     calls, replies = zip(*bodies_of([read(b'alpha'), read(b'alphb', 3)]))
     tools.write('a.nfs3cap', capture((calls, replies)))
-    status, out, _ = tools.tool('meaning', 'a.nfs3cap')
-    tools.want('rows', (status, [line.split()[0] for line in out.splitlines()[1:-2]]),
+    status, whole = meaning(tools, 'a.nfs3cap')
+    tools.want('rules', (status, [one['rule'] for one in whole['findings']]),
                (1, ['read-count-asked']))
-    tools.want('is said', 'a capture has no frames' in out.splitlines()[-2], True)
+    tools.want('is said', whole['looked_at']['groups'], {
+        'calls': '2 calls with a reply', **dict.fromkeys(
+            [*GROUPS][1:], 'not asked, since a capture has no frames')})
 
 
 def the_manual_page(tools: Tools) -> None:
     """It has each rule of the table."""
     page = (TOP / 'tools/man/meaning.1').read_text()
     rows = [line for rule in RULES.values() for line in (
-        '.TP', f'.BR {rule.name} " (" {rule.section} ", {rule.by})"'.replace('-', '\\-'),
+        '.TP', f'.BR {rule.name} " (" "{rule.sections}, {rule.by}" )'.replace('-', '\\-'),
         f'{rule.sentence[0].upper()}{rule.sentence[1:]}.')]
-    tools.want('rules', [line for line in rows if line not in page.splitlines()], [])
-    tools.want('number', page.partition('.SH RULES')[2].partition('.SH')[0].count('.TP'),
-               len(RULES))
+    listed_there = page.partition('.SH RULES')[2].partition('.SH')[0].splitlines()
+    tools.want('rules', listed_there[-len(rows):], rows)
 
 
 # --- One item changed, and exchanges hidden ---

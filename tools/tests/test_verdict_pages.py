@@ -11,7 +11,7 @@ from examples.packets import Talk, pcap
 
 from ..nfs3tools.pages.time_line import PIXEL_COLUMNS, Dot, TimeLine, of_time_line
 from .pages import (
-    HERE, HOSTILE, SHOWN, VISIBLE, WIDTHS, Node, Pages, asked_of_others, broken_links, find,
+    HERE, HOSTILE, SHOWN, VISIBLE, WIDTHS, Node, Written, asked_of_others, broken_links, find,
     in_chromium, light_of, table_of, tree_of)
 from .scripts import (
     CALLS, EXAMPLES, FIRST, REPLIES, Tools, connection_of, exchange, measured, whole, write_faulty)
@@ -25,15 +25,6 @@ MANY, ERRORS_AT_MOST, MOST_MEMORY = 22_000, 10_000, 48 << 20
 COUNTS = ('judged', 'in part', 'left out', 'not checked', 'errors')
 DOT = re.compile(r'(.*); connection (\d+) client record (\d+), frame (\d+), '
                  r'(no latency|(\d+\.\d{3}) ms)')
-
-
-class Written(Tools, Pages):
-    """Runs of tools that write a page."""
-
-    def page(self, tool: str, *words: str) -> tuple[int, str, Node]:
-        """The status, what was printed, and the page."""
-        status, out, _ = self.tool(tool, '--html', 'page.html', *words)
-        return status, out, self.written()
 
 
 # --- The counts ---
@@ -98,9 +89,11 @@ def what_is_green(tools: Written) -> None:
         tools.want(f'folded, {names}', 'open' in folded.attributes, wanted_open)
     _, _, page = tools.page('procedures', 'raw.pcap', 'lost.pcap')
     own = [counts.texts('li')[:2] for counts in page.all('ul', 'counts')]
-    none = '0 judged (0 valid, 0 refused)'
-    tools.want('of each', own, [[judged, '1 in part'], [judged, '0 in part'], [none, '1 in part']])
-    tools.want('not ok', ('ok in part' in page.text(), greens_of(page)), (False, [judged] * 2))
+    one, none = '1 judged (1 ok, 0 refused)', '0 judged (0 ok, 0 refused)'
+    tools.want('of each', own, [[one, '1 in part'], [one, '0 in part'], [none, '1 in part']])
+    tools.want('not ok', ('ok in part' in page.text(), greens_of(page)), (False, []))
+    _, _, page = tools.page('procedures', 'ok.pcap')
+    tools.want('of times', ('valid' in page.text(), greens_of(page)), (False, []))
     _, _, page = tools.page('verdicts', 'raw.pcap')
     tools.want('raw', ([row[-1] for row in table_of(page.all('table')[0])[1:]],
                        greens_of(page)[-1]),
@@ -280,11 +273,11 @@ def names_and_outputs(tools: Written) -> None:
                success(2, ok(fh(b'x'), post_op_attr(), post_op_attr()))]
     tools.write(name, pcap(connection_of(calls, replies)))
     tools.write('a.pcap', pcap(whole()))
-    for tool in BOTH:
+    for tool, title in zip(BOTH, ('Every call of NFS and MOUNT version 3 is valid',
+                                  '2 calls, 0 without a reply')):
         _, _, page = tools.page(tool, name)
         tools.want(f'{tool}: asks for nothing', asked_of_others(page), [])
-        tools.want(f'{tool}: title', page.texts('title')[0],
-                   f'Every call of NFS and MOUNT version 3 is valid: {name}')
+        tools.want(f'{tool}: title', page.texts('title')[0], f'{title}: {name}')
         tools.want(f'{tool}: path', HOSTILE.replace('"', '\\x22') in dots_of(page)[-1][3][0], True)
         for words in (['a.pcap'], ['x', '--json', 'x'], ['absent/x']):
             status, _, _ = tools.tool(tool, '--html', *words, 'a.pcap')

@@ -14,14 +14,20 @@ from __future__ import annotations
 
 import argparse
 import contextlib
+import difflib
 import json
+import os
 import sys
 from collections import Counter
 from collections.abc import Iterable, Iterator, Sequence
-from dataclasses import dataclass
+from dataclasses import dataclass, field
 from functools import partial
+from html import escape
+from itertools import chain, islice
+from typing import NamedTuple
 
 from ..comparison.verdict.accepted import refusal
+from ..exchanges.in_words import short
 from ..exchanges.kept import Kept, call_text
 from ..exchanges.stored import LongValues
 from ..exchanges.whose import ANY
@@ -29,42 +35,68 @@ from ..judgement.verdict import (
     Verdict, count_unanswered, counts_after, kept_in, status_of, sums_of, verdict_members)
 from ..meaning.across import findings_in
 from ..meaning.recorded import Recorded
-from ..meaning.rules import NOTE, RULES, Looked, RuleFinding
-from ..pages.judged import Seen, as_printed, judged_page, table_of
-from ..recordings.parts import files_in
+from ..meaning.rules import CLIENT, NOTE, RULES, Looked, RuleFinding
+from ..pages import markup
+from ..pages.judged import (
+    BAD, PARTIAL, Seen, ShownTable, headline_of, judged_page, of_table, row_of_cells, table_of)
+from ..recordings.parts import Part, files_in
 from ..recordings.selection import count
 from ..recordings.taken import Taken
 from ..reporting.junit import Suite
 from ..reporting.messages import add_recordings, allowed_of, parser_of, run
 from ..reporting.rows import add_forms, form_of
-from ..shared.outputs import writing
+from ..shared.names import as_called
+from ..shared.outputs import Refused, is_read_from, writing
 from ..shared.printed import escaped, printable
 from ..shared.screens import Colour, Screen, Styled, screen_of, table_lines
 from .calls import call_time, tell_verdicts
 from .verdicts import judge_of
 
-FINDINGS_VERSION = 1
-FINDING_COLUMNS = ('recording', 'rule', 'section', 'by', 'connection', 'record', 'reply_record',
-                   'frame', 'time_ns', 'procedure', 'path', 'text', 'against_record',
-                   'against_frame', 'accepted')
+FINDINGS_VERSION, ACCEPTED_RULES_VERSION = 2, 1
+FINDING_COLUMNS = ('recording', 'rule', 'section', 'by', 'client', 'server', 'connection', 'record',
+                   'reply_record', 'frame', 'time_ns', 'procedure', 'path', 'text',
+                   'against_record', 'against_frame', 'accepted')
 ACCEPTED, FINDING = 'accepted', 'finding'
 RuleAndServer = tuple[str, str]  # a rule and a server, either of which may be any
 FINDING_HEADS = ('rule', 'section', 'by', 'server', 'found', 'first')
 FINDING_NUMBERS = range(4, 5)  # columns that are set to the right
+SHOWN_FINDINGS = 200  # of a recording
+LIKENESS = 0.4  # how much of a word is that of one near it
+
+
+class AcceptedRules(NamedTuple):
+    """A file of accepted findings, and what it accepts."""
+    path: str = ''
+    entries: Sequence[RuleAndServer] = ()
 
 
 @dataclass
 class FindingRow:
-    """How often exchanges with a server break a rule in a recording, whether that is accepted, and
-    the first of them in words."""
+    """How often exchanges with a server break a rule in a recording, by which sections, whether
+    that is accepted, and the first of them in words."""
     recording: str
     rule: str
-    section: str
     by: str
     server: str
-    found: int
     accepted: bool
     first: str
+    found: int = 0
+    sections: dict[str, None] = field(default_factory=dict)
+
+    @property
+    def section(self) -> str:
+        return ', '.join(self.sections)
+
+    @property
+    def colour(self) -> Colour:
+        return Colour.RED if self.kind == FINDING else Colour.YELLOW
+
+    @property
+    def cells(self) -> tuple[str, ...]:
+        """The cells below FINDING_HEADS."""
+        accepted = ' accepted' if self.kind == ACCEPTED else ''
+        return (self.rule, self.section, self.by, self.server or '-', f'{self.found:,}{accepted}',
+                self.first)
 
     @property
     def kind(self) -> str:
@@ -82,8 +114,8 @@ class RecordingFindings:
 
     def __init__(self, recording: str, chosen: argparse.Namespace, looked: Looked) -> None:
         self.recording, self.chosen, self.looked = escaped(recording), chosen, looked
-        self.kept, self.begun = Kept(), 0
-        self.rows = dict[RuleAndServer, FindingRow]()
+        self.kept, self.begun, self.parts = Kept(), 0, list[Part]()
+        self.rows = dict[tuple[str, str, str], FindingRow]()
         self.all = list[tuple[RuleFinding, FindingRow]]()
 
     def close(self) -> None:
@@ -92,6 +124,7 @@ class RecordingFindings:
     def take(self, program: str, taken: Taken, verdicts: list[Verdict]) -> None:
         """Takes the exchanges of the connections that were judged, and puts the rules to them."""
         self.kept, self.begun = kept_in(program, taken, verdicts, LongValues()), taken.begun
+        self.parts += taken.parts
         is_whole = {verdict.state for verdict in verdicts} <= {'ok', 'note'}
         for finding in findings_in(Recorded(self.kept), self.looked, is_whole):
             if finding.rule in self.chosen.rule:
@@ -102,18 +135,18 @@ class RecordingFindings:
         count_unanswered(self.kept, verdicts)
 
     def row_of(self, finding: RuleFinding) -> FindingRow:
-        rule, server = RULES[finding.rule], self.kept.exchange(finding.number).part.server
-        if (rule.name, server) not in self.rows:
-            row = FindingRow(self.recording, rule.name, rule.section, rule.by, server, 0, False,
-                             self.words(finding))
-            row.accepted = any(map(row.fits, self.chosen.accept))
-            self.rows[rule.name, server] = row
-        return self.rows[rule.name, server]
+        rule, one = RULES[finding.rule], self.kept.exchange(finding.number)
+        key = rule.name, finding.by or rule.by, one.part.server
+        if key not in self.rows:
+            row = self.rows[key] = FindingRow(self.recording, *key, False, self.words(finding))
+            row.accepted = any(map(row.fits, self.chosen.accept.entries))
+        self.rows[key].sections[rule.section(short(one.procedure))] = None
+        return self.rows[key]
 
     def frame(self, finding: RuleFinding) -> int:
         """Returns the frame that breaks a rule: that of the call if it is the client's."""
         one = self.kept.exchange(finding.number)
-        is_call = RULES[finding.rule].by == 'client' or not one.answered
+        is_call = (finding.by or RULES[finding.rule].by) == CLIENT or not one.answered
         return one.frame if is_call else one.answered[0].frame
 
     def words(self, finding: RuleFinding) -> str:
@@ -126,7 +159,9 @@ class RecordingFindings:
         """Iterates over the values of FINDING_COLUMNS of all findings, by time."""
         for finding, row in self.all:
             one, source = self.kept.exchange(finding.number), finding.source
-            yield (self.recording, row.rule, row.section, row.by, one.part.number, one.record,
+            section = RULES[row.rule].section(short(one.procedure))
+            yield (self.recording, row.rule, section, row.by, one.part.client, one.part.server,
+                   one.part.number, one.record,
                    one.answered[0].record if one.answered else None, self.frame(finding) or None,
                    one.time or None, one.procedure, one.path, finding.text,
                    self.kept.position(source.number) if source else None,
@@ -145,46 +180,74 @@ class RecordingFindings:
                 time = call_time(self.kept.times[one.number], self.begun)
                 print(f'{time}  {one.rule}  {self.words(one)}')
 
+    def articles(self) -> Iterator[str]:
+        """What a page says of each finding, up to some: its frames, its words, and its rule."""
+        shown = ((one, row) for one, row in self.all if row.kind != NOTE)
+        for number, (one, row) in enumerate(islice(shown, SHOWN_FINDINGS), 1):
+            frames = [self.frame(one), *([one.source.frame] if one.source else [])]
+            filters = markup.filters(self.parts, sorted(filter(None, frames)))
+            look = BAD if row.kind == FINDING else PARTIAL
+            yield f'<article><h3>{number} {one.rule}</h3>'
+            yield f'<p class={look}>{escape(self.words(one))}{filters}</p>'
+            yield from markup.folded('others', 'the rule', markup.paragraphs(explained(one.rule)))
+            yield '</article>'
+        if len(self.all) > SHOWN_FINDINGS:
+            yield '<p>More findings are in the output of <code>--all</code>.</p>'
+
 
 class FindingsReport:
     """What is said of all recordings: the table of each, and all rows and verdicts."""
 
     def __init__(self, chosen: argparse.Namespace) -> None:
         self.chosen, self.looked = chosen, Looked()
-        self.tables, self.rows = list[list[Styled]](), list[FindingRow]()
+        self.rows, self.articles = list[FindingRow](), list[str]()
         self.seen, self.verdicts = list[Seen](), list[Verdict]()
+
+    @property
+    def status(self) -> int:
+        return self.verdict_status() or int(any(row.kind == FINDING for row in self.rows))
 
     def verdict_status(self) -> int:
         return status_of(self.verdicts, allowed_of(self.chosen))
 
-    def words(self) -> str:
-        """Returns how many findings there are, and how much was looked at."""
+    def numbers(self) -> Counter[str]:
+        """Returns how many findings, notes and accepted findings there are."""
         numbers = Counter[str]()
         for row in self.rows:
             numbers[row.kind] += row.found
-        rules = len({row.rule for row in self.rows if row.kind == FINDING})
-        taken = f', {numbers[ACCEPTED]:,} accepted' if self.chosen.accept else ''
-        return (f'{count(numbers[FINDING], FINDING)} by {count(rules, "rule")}, '
-                f'{count(numbers[NOTE], NOTE)}{taken}; {self.looked.words()}')
+        return numbers
+
+    def rules(self) -> str:
+        return count(len({row.rule for row in self.rows if row.kind == FINDING}), 'rule')
+
+    def words(self) -> str:
+        """Returns how many findings there are."""
+        numbers = self.numbers()
+        taken = f', {numbers[ACCEPTED]:,} accepted' if self.chosen.accept.path else ''
+        return (f'{count(numbers[FINDING], FINDING)} by {self.rules()}, '
+                f'{count(numbers[NOTE], NOTE)}{taken}; looked at:')
 
     def members(self) -> dict[str, object]:
         """What is below the findings in JSON."""
         names = (*FINDING_HEADS[:-1], 'accepted')
         rows = [{name: getattr(row, name) for name in names} for row in self.rows]
-        return {'rules': rows, 'looked_at': vars(self.looked), **verdict_members(self.verdicts)}
+        return {'rules': rows, 'looked_at': self.looked.members(),
+                **verdict_members(self.verdicts)}
+
+    def no_longer_found(self) -> list[str]:
+        return [printable(f'no longer found: {" ".join(entry)}')
+                for entry in self.chosen.accept.entries
+                if not any(row.fits(entry) for row in self.rows)]
 
     def lines(self) -> Iterator[str]:
-        """What is no longer found, and the counts."""
-        yield from (printable(f'no longer found: {" ".join(entry)}') for entry in self.chosen.accept
-                    if not any(row.fits(entry) for row in self.rows))
-        yield from (self.words(), sums_of(self.verdicts))
+        """What is no longer found, how much was looked at, and the counts."""
+        looked = (f'  {line}' for line in self.looked.lines())
+        return chain(self.no_longer_found(), [self.words()], looked, [sums_of(self.verdicts)])
 
 
 def table_of_rows(rows: Iterable[FindingRow]) -> list[Styled]:
     """Returns a table: red is what is wrong, yellow a note, and what is accepted."""
-    return [Styled(FINDING_HEADS), *(
-        Styled((row.rule, row.section, row.by, row.server or '-', f'{row.found:,}', row.first),
-               Colour.RED if row.kind == FINDING else Colour.YELLOW) for row in rows)]
+    return [Styled(FINDING_HEADS), *(Styled(row.cells, row.colour) for row in rows)]
 
 
 def print_all(told: FindingsReport) -> None:
@@ -198,7 +261,8 @@ def print_all(told: FindingsReport) -> None:
             told.verdicts += verdicts
             told.seen.append(Seen(recording, verdicts))
             told.rows += found.rows.values()
-            told.tables.append(table_of_rows(found.rows.values()))
+            if chosen.html:
+                told.articles += found.articles()
             if form:
                 form.add(found.values())
             else:
@@ -215,7 +279,7 @@ def print_all(told: FindingsReport) -> None:
 def junit_of_findings(told: FindingsReport) -> Iterator[bytes]:
     """A case for each rule and server, and one for the verdicts, with the counts as properties."""
     counts, tag = counts_after(told.verdicts).numbers(), 'failure'
-    suite = Suite('nfs3canon meaning', [*counts.items(), *vars(told.looked).items()])
+    suite = Suite('nfs3canon meaning', [*counts.items(), *told.looked.groups().items()])
     for row in told.rows:
         is_wrong = row.kind == FINDING
         suite.add(row.recording, f'{row.rule}: {row.server or "-"}', tag if is_wrong else None,
@@ -226,42 +290,70 @@ def junit_of_findings(told: FindingsReport) -> Iterator[bytes]:
 
 
 def findings_page(told: FindingsReport) -> Iterator[bytes]:
-    """A page like that of tools/verdicts, with a table of findings for each recording."""
-    title = told.words() if len(told.seen) == 1 else 'Findings'
-    tables = [[as_printed(title, rows, FINDING_NUMBERS)] for rows in told.tables]
-    return judged_page(told.seen, allowed_of(told.chosen), [table_of(told.seen)], tables)
+    """A page whose headline and status are those of the command, with the findings first. It is
+    green only if something was looked at."""
+    numbers, allowed = told.numbers(), allowed_of(told.chosen)
+    headline = (headline_of(told.seen, allowed, 'No answer is known to be wrong', 'same')
+                if told.looked.exchanges else
+                headline_of(told.seen, allowed, 'No call was looked at', 'part'))
+    if numbers[FINDING]:
+        are = {row.by for row in told.rows if row.kind == FINDING}
+        what = count(numbers[FINDING], 'message' if CLIENT in are else 'answer')
+        headline = headline._replace(look='differ', status=told.status,
+                                     words=f'{what} by {told.rules()} cannot be right')
+    headline = headline._replace(counts=[
+        (numbers[kind], kind if kind == ACCEPTED else f'{kind}s', look)
+        for kind, look in ((FINDING, BAD), (ACCEPTED, PARTIAL), (NOTE, PARTIAL))])
+    rows = [row_of_cells(row.cells, FINDING_NUMBERS, FINDING_HEADS,
+                         BAD if row.kind == FINDING else PARTIAL) for row in told.rows]
+    tables = [ShownTable('Findings', FINDING_HEADS, rows, 'cards')] if rows else []
+    looked = markup.section('Looked at', markup.paragraphs(
+        [*told.no_longer_found(), *told.looked.lines()]))
+    each = markup.section('Each finding', told.articles) if told.articles else ()
+    last = chain(looked, each, [of_table(table_of(told.seen), 'h2')])
+    return judged_page(told.seen, allowed, tables, headline=headline, last=last)
 
 
 # --- The command ---
 
 def rule_names(word: str) -> frozenset[str]:
     """The names of rules, as `read-data,listing`."""
-    names = frozenset(name.strip() for name in word.split(','))
-    for name in names - RULES.keys():
-        raise argparse.ArgumentTypeError(f'no rule: {name} (they are {", ".join(RULES)})')
-    return names
+    return frozenset(rule_name(name.strip()) for name in word.split(','))
 
 
-def accepted_rules(path: str) -> list[RuleAndServer]:
+def rule_name(name: str) -> str:
+    """The name of a rule. Raises `ArgumentTypeError` for any other, with those that are near."""
+    if name not in RULES:
+        near = difflib.get_close_matches(name, RULES, cutoff=LIKENESS)
+        meant = f'; near it: {", ".join(near)}' if near else ', see the manual page'
+        raise argparse.ArgumentTypeError(f'no rule: {name}{meant}')
+    return name
+
+
+def accepted_rules(path: str) -> AcceptedRules:
     """Reads a file of accepted findings. Raises `ArgumentTypeError` if it is none."""
     try:
         with open(path, 'rb') as file:
             whole = json.loads(file.read())
         entries = [(entry['rule'], entry['server']) for entry in whole['accepted']]
         several = [{'rule': rule, 'server': server} for rule, server in entries]
-        assert whole == {'version': FINDINGS_VERSION, 'accepted': several}
+        assert whole == {'version': ACCEPTED_RULES_VERSION, 'accepted': several}
         assert all(rule in (ANY, *RULES) and isinstance(server, str) for rule, server in entries)
-        return entries
+        return AcceptedRules(path, entries)
     except (ValueError, KeyError, TypeError, AssertionError, RecursionError):
-        raise refusal(path, f'it needs an object with "version": {FINDINGS_VERSION} and a list '
-                            '"accepted" of objects with a rule and a server') from None
+        raise refusal(path, f'it needs an object with "version": {ACCEPTED_RULES_VERSION} and a '
+                            'list "accepted" of objects with a rule and a server') from None
 
 
-def explained(name: str) -> str:
-    """Returns what is to know of a rule."""
+def explained(name: str) -> list[str]:
+    """Returns what is to know of a rule, and what to do next."""
     rule = RULES[name]
     by = 'This is permitted, and worth knowing.' if rule.by == NOTE else f'Broken by the {rule.by}.'
-    return f'{rule.name}: {rule.sentence} (RFC 1813, section {rule.section}).\n{by} {rule.cause}'
+    about = rule.sections if rule.sections == rule.about else f'section {rule.sections}'
+    return [f'{name}: {rule.sentence} (RFC 1813, {about}).', f'{by} {rule.cause}',
+            as_called(f'All of them: tools/meaning --all --rule {name} RECORDING'),
+            as_called("The fields of one: tools/explain RECORDING 'frame N'"),
+            as_called("Its frames alone: tools/cut RECORDING 'frame N' OUT")]
 
 
 def command_line_of_meaning(words: list[str]) -> argparse.Namespace:
@@ -270,9 +362,10 @@ def command_line_of_meaning(words: list[str]) -> argparse.Namespace:
     parser.add_argument('--rule', metavar='NAME,..', type=rule_names,
                         default=frozenset(RULES), help='finds only what breaks these rules')
     parser.add_argument('--notes', action='store_true', help='prints notes as well')
-    parser.add_argument('--explain', metavar='RULE', choices=[*RULES],
+    parser.add_argument('--explain', metavar='RULE', type=rule_name,
                         help='says what a rule is, and what may be the cause')
-    parser.add_argument('--accept', metavar='FILE', type=accepted_rules, default=[],
+    parser.add_argument('--accept', metavar='FILE', type=accepted_rules,
+                        default=AcceptedRules(),
                         help='takes the findings that a file accepts')
     parser.add_argument('--junit', metavar='FILE', help='writes JUnit XML')
     parser.add_argument('--html', metavar='FILE', help='writes a page for a browser')
@@ -287,13 +380,16 @@ def command_line_of_meaning(words: list[str]) -> argparse.Namespace:
 def main(words: list[str]) -> int:
     chosen = command_line_of_meaning(words)
     if chosen.explain:
-        print(explained(chosen.explain))
+        print(*explained(chosen.explain), sep='\n')
         return 0
-    told = FindingsReport(chosen)
-    with writing(files_in(chosen.recordings), (chosen.junit, lambda: junit_of_findings(told)),
+    told, accepted = FindingsReport(chosen), chosen.accept.path
+    inputs = [*files_in(chosen.recordings), *([accepted] if accepted else [])]
+    if accepted and is_read_from(accepted, os.fstat(1)):
+        raise Refused(f'{escaped(accepted)} is an input, and is not written')
+    with writing(inputs, (chosen.junit, lambda: junit_of_findings(told)),
                  (chosen.html, lambda: findings_page(told))):
         print_all(told)
-    return told.verdict_status() or int(any(row.kind == FINDING for row in told.rows))
+    return told.status
 
 
 command = partial(run, 'meaning', main)

@@ -26,13 +26,14 @@ from functools import partial
 from ..judgement.tallies import (
     Tallies, Tally, milliseconds, procedures_in_order, sum_of, tallies_of)
 from ..judgement.verdict import (
-    VERDICTS_VERSION, Verdict, colour_of, count_unanswered, is_row, kept_in, status_of, subject_of,
-    sums_of, tell_notes, verdict_members)
+    VERDICTS_VERSION, Verdict, colour_of, count_unanswered, counts_after, is_row, kept_in,
+    status_of, subject_of, sums_of, tell_notes, verdict_members)
 from ..judgement.window import add_window, window_of
-from ..pages.judged import Seen, ShownTable, as_printed, judged_page, said_of, verdicts_in
+from ..pages.judged import (
+    Seen, ShownTable, as_printed, headline_of, judged_page, said_of, verdicts_in)
 from ..pages.time_line import TimeLine, time_line_of
 from ..recordings.parts import files_in
-from ..recordings.selection import plural
+from ..recordings.selection import count, plural
 from ..recordings.taken import Taken
 from ..reporting.messages import add_recordings, allowed_of, parser_of, run
 from ..shared.outputs import writing
@@ -310,7 +311,11 @@ def procedures_page(found: Sequence[CountedRecording],
                                   table, column)
                       for table in one.tables if table.verdict and not chosen.total)]
                    for one in found]
-    return judged_page([one.seen for one in found], allowed_of(chosen), whole, of_each)
+    seen, allowed = [one.seen for one in found], allowed_of(chosen)
+    silent = counts_after(verdicts_in(seen)).unanswered or 0
+    words = (f'{count(sum(verdict.calls or 0 for verdict in verdicts_in(seen)), "call")}, '
+             f'{silent:,} without a reply')
+    return judged_page(seen, allowed, whole, of_each, headline_of(seen, allowed, words))
 
 
 def shown_table(title: str, table: TallyTable, column: str) -> ShownTable:

@@ -20,8 +20,8 @@ from operator import itemgetter
 from typing import NamedTuple, Optional
 
 from .procedures import (
-    ACCESS, CREATE, DONE, FOLDER_TYPE, FREE_ITEMS, LINK, LISTINGS, LOOKUP, MAKING, MKDIR, NO_ENTRY,
-    REMOVE, REMOVING, RENAME, RMDIR, SETATTR, STEADY, WRITE)
+    ACCESS, DONE, FOLDER_TYPE, FREE_ITEMS, LINK, LISTINGS, LOOKUP, MAKING, MKDIR, NO_ENTRY,
+    REMOVE, REMOVING, RENAME, RMDIR, STEADY, WRITE)
 from .statements import Statement, names_in_call, statements_in
 from .timelines import (
     Adds, Clears, Effect, FileSize, FolderSize, Grows, LinkCount, Mode, SaidValues, Sets, Sighting,

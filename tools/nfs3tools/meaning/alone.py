@@ -5,15 +5,20 @@ from __future__ import annotations
 from collections.abc import Callable, Iterable, Iterator
 from itertools import chain
 
-from ..exchanges.values import Attributes, Values, attributes, seconds, size_of_entry
+from ..exchanges.in_words import number_named
+from ..exchanges.values import Attributes, Time, Values, attributes, seconds, size_of_entry
+from ..shared.layouts import ERRORS, VALUES
 from .recorded import (
     DIRECTORY, EVERYWHERE, EXCLUSIVE, LISTS, MAKES, OF_NAMES, REGULAR, SYMBOLIC_LINK, UNCHECKED,
     RecordedExchange)
+from .rules import CLIENT
 
 RuleChecks = Iterator[tuple[object, str, str]]
 TYPES = {'CREATE': REGULAR, 'MKDIR': DIRECTORY, 'SYMLINK': SYMBOLIC_LINK}
 NOT_SYNC = 10002
+TIME_NAMES = 'atime', 'mtime', 'ctime'
 SECOND = 10**9  # nanoseconds
+STABLE, FILE_TYPES = VALUES['stable'], VALUES['type']
 SERVER_TIME_STEP = 2  # seconds of a server's times
 PERMISSION_BITS, BITS_OF_OTHERS = 0o777, 0o077  # a server may leave out the other bits of a mode
 NOT_SET = 0xffffffff  # a uid or gid that stays as it is
@@ -38,53 +43,75 @@ def of_byte_counts(one: RecordedExchange) -> RuleChecks:
     """Asks how much a WRITE has, or the reply to a READ, and how much was done."""
     name, values = one.procedure.lower(), one.call if one.procedure == 'WRITE' else one.reply
     count, size, most = values['count'], len(values['data']), one.call['count']
-    yield count != size, f'{name}-count-data', f'count {count}, data of {size} bytes'
+    yield count != size, f'{name}-count-data', f'count is {count:,}, with {size:,} bytes of data'
     if one.is_ok:
         done = one.reply['count']
-        yield done > most, f'{name}-count-asked', f'count {done} of {most}'
+        yield done > most, f'{name}-count-asked', f'{done:,} bytes, asked for {most:,}'
 
 
 def of_read(one: RecordedExchange) -> RuleChecks:
     size, eof, end = one.reply.get('obj.size'), one.reply['eof'], one.first + one.reply['count']
     if size is not None and one.is_quiet():
         yield (one.call['count'] and (end >= size) != bool(eof), 'read-eof',
-               f'eof {eof} at {end} of {size} bytes')
-        yield one.first < end > size, 'read-past-end', f'bytes to {end} of {size}'
+               f'eof is {eof} after byte {end:,}, and the size is {size:,}')
+        yield (one.first < end > size, 'read-past-end',
+               f'bytes up to {end:,}, and the size is {size:,}')
 
 
 def of_write(one: RecordedExchange) -> RuleChecks:
     size, end = one.reply.get('obj.after.size'), one.first + one.reply['count']
     committed, stable = one.reply['committed'], one.call['stable']
     yield (one.first < end and committed < stable, 'write-committed',
-           f'committed {committed}, asked for {stable}')
+           f'committed is {STABLE[committed]}, asked for {STABLE[stable]}')
+    asked = one.call['count']
+    yield one.first == end != one.last, 'write-nothing', f'0 bytes of {asked:,} are written'
     if size is not None and one.first < end > size and one.recorded.has_frames:
         yield (all(change.written != EVERYWHERE for change in one.beside()), 'write-size',
-               f'size {size} after bytes to {end}')
+               f'size is {size:,}, after bytes up to {end:,} were written')
 
 
 # --- Attributes ---
 
 def of_attributes(one: RecordedExchange) -> RuleChecks:
-    """Asks what holds for all attributes. An EXCLUSIVE CREATE may keep its verifier in the times
-    (section 3.3.8)."""
-    is_exclusive = one.call.get('how') == EXCLUSIVE
+    """Asks what holds for all attributes. A time that a call has set is not the server's fault."""
     for told in one.told:
         for part in told[1:]:
             if part and max(part.atime[1], part.mtime[1], part.ctime[1]) >= SECOND:
-                times = map(seconds, (part.atime, part.mtime, part.ctime))
-                yield not is_exclusive, 'nsec', 'atime {}, mtime {}, ctime {}'.format(*times)
+                text = odd_times(one, 'server', part.atime, part.mtime, part.ctime)
+                yield text and one.call.get('how') != EXCLUSIVE, 'nsec', text
         if told.now and told.now.mode & ~0o7777:
-            yield True, 'mode-bits', f'mode 0{told.now.mode:o}'
+            yield True, 'mode-bits', f'mode is 0{told.now.mode:o}'
+
+
+def of_sent_times(one: RecordedExchange) -> RuleChecks:
+    """Asks the times that a call sets. A server may keep the verifier of an EXCLUSIVE CREATE in any
+    times (section 3.3.8), with its words and their bytes in any order."""
+    verifier = bytes.fromhex(one.call.get('createverf', ''))
+    for word in (way[at:at + 4] for way in (verifier, verifier[::-1]) for at in (0, 4)):
+        for mask in (0xffffffff, 0x7fffffff):
+            one.sender(int.from_bytes(word, 'big') & mask, CLIENT)
+    times = [one.call.get(f'set.{name}', (0, 0)) for name in TIME_NAMES]
+    text = odd_times(one, CLIENT, *times)
+    yield text and one.is_ok, 'nsec', f'sets {text}'
+
+
+def odd_times(one: RecordedExchange, by: str, *times: Time) -> str:
+    """Returns the times in words that have no number of nanoseconds, and are by this sender."""
+    return ', '.join(f'{name} {time[0]:,} s and {time[1]:,} ns'
+                     for name, time in zip(TIME_NAMES, times)
+                     if time[1] >= SECOND and one.sender(time[1], by) == by)
 
 
 def of_access(one: RecordedExchange) -> RuleChecks:
     granted, asked = one.reply['access'], one.call['access']
-    yield granted & ~asked, 'access-asked', f'0x{granted:x} of 0x{asked:x}'
+    now, wanted = (number_named('access', str(bits)) for bits in (granted, asked))
+    yield granted & ~asked, 'access-asked', f'{now}, asked for {wanted}'
 
 
 def of_directory(one: RecordedExchange) -> RuleChecks:
-    for kind in map(one.reply.get, ('dir.type', 'dir.after.type')):
-        yield kind not in (None, DIRECTORY), 'dir-type', f'type {kind}'
+    for name in ('dir.type', 'dir.after.type'):
+        kind = one.reply.get(name, DIRECTORY)
+        yield kind != DIRECTORY, 'dir-type', f'type is {FILE_TYPES[kind]}'
 
 
 def of_made(one: RecordedExchange, is_new: bool = False) -> RuleChecks:
@@ -93,8 +120,9 @@ def of_made(one: RecordedExchange, is_new: bool = False) -> RuleChecks:
     made, asked = attributes(one.reply, 'obj.'), one.call
     if made is None or asked.get('how') == UNCHECKED and not is_new:
         return
-    kind = TYPES.get(one.procedure, asked.get('type'))
-    yield made.type != kind, 'made-type', f'type {made.type}, asked for {kind}'
+    kind = TYPES[one.procedure] if one.procedure in TYPES else asked['type']
+    yield (made.type != kind, 'made-type',
+           f'type is {FILE_TYPES[made.type]}, asked for {FILE_TYPES[kind]}')
     mode = asked.get('set.mode', made.mode) & (made.mode | ~BITS_OF_OTHERS)
     if kind != SYMBOLIC_LINK:
         yield from unlike('made-attributes', asked, made, mode, ('size',))
@@ -112,21 +140,22 @@ def unlike(rule: str, asked: Values, found: Attributes, mode: int,
            names: tuple[str, ...]) -> RuleChecks:
     """Asks whether attributes are those of a call. A READ moves atime."""
     yield ((mode ^ found.mode) & PERMISSION_BITS, rule,
-           f'mode 0{found.mode:o}, asked for 0{asked.get("set.mode", 0):o}')
+           f'mode is 0{found.mode:o}, asked for 0{asked.get("set.mode", 0):o}')
     for name in names:
         value, wanted = getattr(found, name), asked.get(f'set.{name}', NOT_SET)
-        yield wanted not in (value, NOT_SET), rule, f'{name} {value}, asked for {wanted}'
+        yield wanted not in (value, NOT_SET), rule, f'{name} is {value}, asked for {wanted}'
     time = asked.get('set.mtime', found.mtime)
     yield (abs(found.mtime[0] - time[0]) > SERVER_TIME_STEP, rule,
-           f'mtime {seconds(found.mtime)}, asked for {seconds(time)}')
+           f'mtime is {seconds(found.mtime)}, asked for {seconds(time)}')
 
 
 def of_guard(one: RecordedExchange) -> RuleChecks:
     was, guard = one.told[0].before, one.call.get('guard.ctime')
     if guard and was and one.is_quiet():
         is_same = was.ctime == guard
-        yield (one.status == NOT_SYNC if is_same else one.is_ok, 'guard', f'status {one.status}, '
-               f'and the ctime before is {"" if is_same else "not "}the guard')
+        status = one.status and ERRORS.get(one.status, one.status) or 'OK'
+        yield (one.status == NOT_SYNC if is_same else one.is_ok, 'guard', f'status is {status}, '
+               f'and the ctime before is {"" if is_same else "not "}that of the guard')
 
 
 # --- Directories and file systems ---
@@ -137,17 +166,19 @@ def of_entry_names(one: RecordedExchange) -> RuleChecks:
     again = {*repeated(names)} if one.is_alone() else ()
     for at, name in enumerate(names):
         is_none = not name or '/' in name or '\\x00' in name
-        yield is_none or at in again, 'entry-names', f'"{name}"'
+        yield is_none, 'entry-names', f'"{name}" is no name'
+        yield not is_none and at in again, 'entry-names', f'"{name}" is listed twice'
 
 
 def of_entries(one: RecordedExchange) -> RuleChecks:
     entries, most = one.reply['entries'], one.call.get('maxcount', one.call.get('count'))
     cookies = [entry['cookie'] for entry in entries]
     for at in repeated((0, one.call['cookie'] or None, *cookies)):
-        yield True, 'entry-cookies', f'"{entries[at - 2]["name"]}" has cookie {cookies[at - 2]}'
-    yield not entries and not one.reply['eof'], 'entries-none', 'no entry, and no eof'
+        yield True, 'entry-cookies', f'"{entries[at - 2]["name"]}" has cookie ' \
+            f'{cookies[at - 2]}, which is another one'
+    yield not entries and not one.reply['eof'], 'entries-none', 'no entry, and eof is 0'
     size = 4 + 84 * ('dir.type' in one.reply) + 8 + sum(map(size_of_entry, entries)) + 4 + 4
-    yield size > most, 'entries-size', f'{size} bytes of {most}'
+    yield size > most, 'entries-size', f'{size:,} bytes, asked for at most {most:,}'
 
 
 def repeated(values: Iterable[object]) -> Iterator[int]:
@@ -165,7 +196,7 @@ def of_file_ids(one: RecordedExchange) -> RuleChecks:
         if entry.get('type', DIRECTORY) != DIRECTORY and entry['fsid'] == one.reply.get('dir.fsid'):
             own, shown = entry['listed.fileid'], entry['fileid']
             yield (own != shown, 'entry-fileid',
-                   f'"{entry["name"]}" is {own}, and {shown} by its attributes')
+                   f'"{entry["name"]}" has fileid {own}, and {shown} in its attributes')
 
 
 def of_limits(one: RecordedExchange) -> RuleChecks:
@@ -173,7 +204,7 @@ def of_limits(one: RecordedExchange) -> RuleChecks:
     for way in ('rt', 'wt'):
         most, best, unit = (one.reply[way + name] for name in ('max', 'pref', 'mult'))
         yield (best > most or most and not unit, 'fsinfo',
-               f'{way}max {most}, {way}pref {best}, {way}mult {unit}')
+               f'{way}max is {most:,}, {way}pref {best:,}, {way}mult {unit:,}')
 
 
 Checks = dict[str, tuple[Callable[[RecordedExchange], RuleChecks], ...]]

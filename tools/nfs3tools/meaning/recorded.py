@@ -9,12 +9,12 @@ from collections.abc import Iterator
 from functools import cached_property
 from typing import NamedTuple
 
-from ..exchanges.kept import Kept, host_of
+from ..exchanges.kept import Kept
 from ..exchanges.stored import LongValues
 from ..exchanges.values import Attributes, Values, attributes, read_call, read_reply
 from .rules import Evidence
 
-NFS_PREFIX = 'NFSPROC3_'
+NFS_PREFIX, NOTHING_ASKED = 'NFSPROC3_', 'NFSPROC3_NULL'
 NEVER = sys.maxsize  # the end of a call that may still be carried out
 END = 1 << 64  # no file is larger
 EVERYWHERE = 0, END
@@ -22,12 +22,15 @@ NO_VALUES: Values = {}
 OF_CONTENT, MAKES = ('WRITE', 'SETATTR'), ('CREATE', 'MKDIR', 'SYMLINK', 'MKNOD')
 REMOVES, LISTS = ('REMOVE', 'RMDIR', 'RENAME'), ('READDIR', 'READDIRPLUS')
 OF_NAMES = (*MAKES, *REMOVES, 'LINK')
+OWNERS_OF_NAMES = {**dict.fromkeys(('LOOKUP', *OF_NAMES), ('',)), 'RENAME': ('from.', 'to.'),
+                   'LINK': ('link.',)}
 CHANGING_PROCEDURES = {*OF_CONTENT, *OF_NAMES}
 # Errors after which a part may have been done: IO, NOSPC, DQUOT, SERVERFAULT and JUKEBOX.
 UNSURE = (5, 28, 69, 10006, 10008)
 NOENT, EXIST = 2, 17
 REGULAR, DIRECTORY, SYMBOLIC_LINK = 1, 2, 5
 UNCHECKED, GUARDED, EXCLUSIVE = 0, 1, 2
+REMOVED = 'removed'  # in place of a handle: what a removed or moved name led to
 ObjectKey = tuple[str, str]  # of an object: its server and its handle
 # The objects of which replies have attributes: where the call has the handle, or the reply if there
 # is no place, and the owner of the attributes.
@@ -58,7 +61,8 @@ class RecordedExchange:
 
     def __init__(self, recorded: 'Recorded', number: int) -> None:
         kept, name = recorded.kept, recorded.kept.listed_name(number)
-        self.recorded, self.server = recorded, host_of(kept.parts[kept.part_of[number]].server)
+        # (two servers may have one address, and differ in their ports)
+        self.recorded, self.server = recorded, kept.parts[kept.part_of[number]].server
         self.procedure = name.removeprefix(NFS_PREFIX)
         self.call, self.reply = read_call(name, kept.asking[number], recorded.values), NO_VALUES
         self.status: int | None = None
@@ -67,10 +71,14 @@ class RecordedExchange:
             self.status, self.reply = read_reply(name, kept.answering[reply], recorded.values)
             frame, self.ended = kept.reply_frames[reply], kept.reply_times[reply]
         self.source = Evidence(number, kept.frames[number] or NEVER, recorded.end_of(number), frame,
-                               kept.times[number])
+                               kept.times[number], self.procedure)
         self.sent = 1 + len(kept.again.get(number, ())) + (number in kept.earlier)
         self.is_change, self.is_ok = self.procedure in CHANGING_PROCEDURES, self.status == 0
         self.is_done = self.is_ok or self.status in UNSURE
+
+    def sender(self, number: int, by: str) -> str:
+        """Returns who was the first to send these nanoseconds, which no second has."""
+        return self.recorded.senders.setdefault((self.server, number), by)
 
     @property
     def first(self) -> int:
@@ -97,7 +105,7 @@ class RecordedExchange:
         """The folders of the call, each with the name in it: two of RENAME. Equal texts are one
         object, since many are kept."""
         return tuple((sys.intern(self.call[owner + 'fh']), sys.intern(self.call[owner + 'name']))
-                     for owner in ('', 'from.', 'to.', 'link.') if owner + 'name' in self.call)
+                     for owner in OWNERS_OF_NAMES.get(self.procedure, ()))
 
     def says_of(self, number: int) -> bool | None:
         """Returns whether the reply says that a name is, or was, there; None if it says nothing."""
@@ -112,7 +120,7 @@ class RecordedExchange:
     def is_unsure(self, handle: str, name: str) -> bool:
         """Whether it cannot be known what the call did to a name."""
         return self.status in UNSURE or self.sent > 1 or any(
-            change.end == NEVER or (handle, name) in change.names for change in self.beside(handle))
+            (handle, name) in change.names for change in self.beside(handle))
 
     def beside(self, handle: str | None = None) -> Iterator['PossibleChange']:
         """Iterates over the other changes of an object that overlap the exchange in time: of that
@@ -151,6 +159,8 @@ class Recorded:
     has_frames: whether all of them have frames
     insensitive: servers for which names in upper and lower case are one (PATHCONF)
     changes: of each object, in the order of their begins
+    pending: objects with a change or a COMMIT that got no reply, and names that such may change
+    senders: who was the first to send a number of nanoseconds that no second has, by servers
     """
 
     def __init__(self, kept: Kept) -> None:
@@ -158,10 +168,13 @@ class Recorded:
         self.values = kept.values or LongValues()
         self.insensitive = set[str]()
         self.changes = defaultdict[ObjectKey, list[PossibleChange]](list)
+        self.pending, self.senders = set[tuple[str, ...]](), dict[tuple[str, int], str]()
         for number in range(len(kept)):
             procedure = kept.listed_name(number).removeprefix(NFS_PREFIX)
             if procedure in CHANGING_PROCEDURES:
                 self.note_change(self.exchange(number))
+            elif procedure == 'COMMIT' and not kept.firsts[number]:
+                self.pending.add((self.exchange(number).server, self.exchange(number).call['fh']))
             elif procedure == 'PATHCONF' and self.exchange(number).reply.get('case_insensitive'):
                 self.insensitive.add(self.exchange(number).server)
         for changes in self.changes.values():
@@ -173,8 +186,12 @@ class Recorded:
         number, begin, end, *_ = one.source
         written = (one.first, one.last) if one.procedure == 'WRITE' else EVERYWHERE
         change = PossibleChange(begin, end, number, written, one.names)
-        for handle in {told.handle for told in one.told if told.handle}:
-            self.changes[one.server, handle].append(change)
+        keys = {(one.server, told.handle) for told in one.told if told.handle}
+        keys |= {(one.server, REMOVED)} if one.procedure in REMOVES else set()
+        for key in keys:
+            self.changes[key].append(change)
+        if one.status is None:
+            self.pending |= keys | {(one.server, *name) for name in one.names}
 
     def end_of(self, number: int) -> int:
         """Returns the frame of the last reply, or NEVER if there are fewer replies than calls."""
@@ -191,7 +208,8 @@ class Recorded:
         """Iterates over exchanges of NFS whose call was accepted, in the order of their ends."""
         ends = [self.end_of(number) for number in range(len(self.kept))]
         for number in sorted(range(len(ends)), key=ends.__getitem__):
-            if self.kept.firsts[number] and self.kept.listed_name(number).startswith(NFS_PREFIX):
+            name = self.kept.listed_name(number)
+            if self.kept.firsts[number] and name.startswith(NFS_PREFIX) and name != NOTHING_ASKED:
                 one = self.exchange(number)
                 if one.status is not None:
                     yield one

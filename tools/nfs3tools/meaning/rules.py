@@ -2,124 +2,186 @@
 looked at. No rule is about the bytes of a message, of which `check` says whether they are valid."""
 from __future__ import annotations
 
-from collections.abc import Hashable
+from collections.abc import Hashable, Iterator
 from dataclasses import dataclass, field
 from typing import NamedTuple
 
 from ..recordings.selection import count
+from ..shared.layouts import NFS_PROCEDURES
 
-NOTE = 'note'  # is permitted, and worth knowing
+NOTE, CLIENT = 'note', 'client'  # who breaks a rule: a note is permitted, and worth knowing
+SECTIONS = {row[0]: f'3.3.{number}' for number, row in enumerate(NFS_PROCEDURES)}
 
 
 class Rule(NamedTuple):
-    """A rule: its name, its section, what it says, what may be the cause, and by whom it is broken
-    (`server`, `client`, or `note` if that is permitted)."""
+    """A rule: its name, the procedures or the type of RFC 1813 that it is about, what it says, what
+    may be the cause, and by whom it is broken (`server`, `client`, or `note` if that is permitted).
+    """
     name: str
-    section: str
+    about: str
     sentence: str
     cause: str
     by: str = 'server'
 
+    @property
+    def sections(self) -> str:
+        """Its sections, or the name of its type."""
+        return ', '.join(SECTIONS.get(word, word) for word in self.about.split())
 
+    def section(self, procedure: str) -> str:
+        """Returns its section about a procedure, or the first one."""
+        first, *others = self.about.split()
+        word = procedure if procedure in others else first
+        return SECTIONS.get(word, word)
+
+
+OF_READING, OF_MAKING = 'READDIR READDIRPLUS', 'CREATE MKDIR SYMLINK MKNOD'
+IN_FOLDERS = f'LOOKUP {OF_MAKING} REMOVE RMDIR RENAME LINK {OF_READING}'
 CACHE = 'A cache of the server is older than the change, or a change came by another way than NFS.'
-OTHER_COUNTS = 'The reply is made from other counts than the call has.'
+OTHER_COUNTS = 'One of the two counts is that of another message, or was not made anew.'
 OLD = 'The reply has attributes of another time or of another object.'
 ASKED = 'The server ignores or changes what was asked for, and answers OK.'
 UNCOUNTED_XDR = 'The server does not count all of the XDR of its reply.'
 RULES = {row[0]: Rule(*row) for row in (
-    ('read-data', '3.3.6',
+    ('read-data', 'READ',
      'READ returns what was written or read there before, if nothing came between', CACHE),
-    ('read-eof', '3.3.6', 'eof of READ is whether offset and count reach the size', OLD),
-    ('read-past-end', '3.3.6', 'READ returns no byte beyond the size', OLD),
-    ('read-count-data', '3.3.6', 'the count of READ is the number of its bytes', OTHER_COUNTS),
-    ('read-count-asked', '3.3.6', 'READ returns no more bytes than were asked for', OTHER_COUNTS),
-    ('write-size', '3.3.7', 'after WRITE the file reaches to its last byte', OLD),
-    ('write-committed', '3.3.7', 'WRITE is committed at least as stably as was asked for', ASKED),
-    ('write-count-asked', '3.3.7', 'WRITE writes no more bytes than it was given', OTHER_COUNTS),
-    ('write-count-data', '3.3.7', 'the count of WRITE is the number of its bytes',
-     OTHER_COUNTS, 'client'),
-    ('verifier', '3.3.7', 'the write verifier stays as long as the server runs',
+    ('read-eof', 'READ', 'eof of READ is whether offset and count reach the size', OLD),
+    ('read-past-end', 'READ', 'READ returns no byte beyond the size', OLD),
+    ('read-count-data', 'READ', 'the count of READ is the number of its bytes', OTHER_COUNTS),
+    ('read-count-asked', 'READ', 'READ returns no more bytes than were asked for', OTHER_COUNTS),
+    ('write-size', 'WRITE', 'after WRITE the file reaches to its last byte', OLD),
+    ('write-committed', 'WRITE', 'WRITE is committed at least as stably as was asked for', ASKED),
+    ('write-count-asked', 'WRITE', 'WRITE writes no more bytes than it was given', OTHER_COUNTS),
+    ('write-count-data', 'WRITE', 'the count of WRITE is the number of its bytes',
+     OTHER_COUNTS, CLIENT),
+    ('write-nothing', 'WRITE', 'WRITE that writes no byte of some is no success',
+     'The file system is full, and the server answers OK.'),
+    ('verifier', 'WRITE', 'the write verifier stays as long as the server runs',
      'The server was started anew.', NOTE),
-    ('not-committed', '3.3.21',
+    ('verifier-back', 'WRITE', 'a write verifier does not come back after another one',
+     'One reply has the verifier of another server, or of none.'),
+    ('not-committed', 'COMMIT',
      'UNSTABLE data are committed, and written again if the verifier has changed',
-     'The client trusts data that a crash of the server loses.', 'client'),
-    ('listing', '3.3.16', 'a whole listing has each name once, and the names there are', CACHE),
-    ('name-gone', '3.3.12', 'a name is not there after it was removed', CACHE),
-    ('name-there', '3.3.3', 'a name is there after it was made, until it is removed', CACHE),
-    ('name-object', '3.3.3', 'a name leads to the object that was found under it', CACHE),
-    ('handle-object', '2.5', 'a handle is of one object: type, fsid and fileid stay',
+     'The client trusts data that a crash of the server loses.', CLIENT),
+    ('listing', OF_READING, 'a whole listing has each name once, and the names there are', CACHE),
+    ('name-gone', 'REMOVE', 'a name is not there after it was removed', CACHE),
+    ('name-there', 'LOOKUP', 'a name is there after it was made, until it is removed', CACHE),
+    ('name-object', 'LOOKUP', 'a name leads to the object that was found under it', CACHE),
+    ('readlink-text', 'READLINK', 'READLINK returns the text that the link was made with', CACHE),
+    ('link-nlink', 'LINK', 'after LINK the object has one link more, and two at least', OLD),
+    ('handle-object', 'nfs_fh3', 'a handle is of one object: type, fsid and fileid stay',
      'A handle is used again for another object.'),
-    ('same-ctime', '2.5', 'attributes do not change without the ctime', OLD),
-    ('returns', '2.5', 'attributes that have changed do not come back with the old ctime', CACHE),
-    ('set-attributes', '3.3.2', 'after SETATTR the attributes are those that were set', ASKED),
-    ('made-attributes', '3.3.8', 'what was made has the attributes that were asked for', ASKED),
-    ('made-type', '3.3.8', 'what was made has the type that was asked for', ASKED),
-    ('guard', '3.3.2', 'SETATTR with a guard is done if ctime is the same, and else is NOT_SYNC',
-     ASKED),
-    ('entries-size', '3.3.16', 'READDIR and READDIRPLUS return no more bytes than were asked for',
+    ('same-ctime', 'fattr3', 'attributes do not change without the ctime', OLD),
+    ('returns', 'fattr3', 'attributes that have changed do not come back with the old ctime', OLD),
+    ('wcc-before', 'wcc_data', 'attributes before a change are those that the last reply had', OLD),
+    ('set-attributes', 'SETATTR', 'after SETATTR the attributes are those that were set', ASKED),
+    ('made-attributes', OF_MAKING, 'what was made has the attributes that were asked for', ASKED),
+    ('made-type', OF_MAKING, 'what was made has the type that was asked for', ASKED),
+    ('guard', 'SETATTR', 'SETATTR with a guard is done if ctime is the same, and else is NOT_SYNC',
+     'The server does not compare the guard, or with a ctime of another time.'),
+    ('entries-size', OF_READING, 'READDIR and READDIRPLUS return no more bytes than were asked for',
      UNCOUNTED_XDR),
-    ('entries-none', '3.3.16', 'READDIR and READDIRPLUS return an entry, or eof',
+    ('entries-none', OF_READING, 'READDIR and READDIRPLUS return an entry, or eof',
      'The server answers OK if no entry fits, where TOOSMALL is meant.'),
-    ('entry-cookies', '3.3.16', 'each entry has a cookie of its own, which is not 0',
-     'A client that goes on at this cookie misses entries, or lists them twice.'),
-    ('entry-names', '3.3.16', 'a directory has each name once, and none is empty or has a slash',
-     CACHE),
-    ('entry-fileid', '3.3.17', 'the file id of an entry is that of its attributes',
+    ('entry-cookies', OF_READING, 'each entry has a cookie of its own, which is not 0',
+     'Two entries have one position in the file system of the server.'),
+    ('entry-names', OF_READING, 'a directory has each name once, and none is empty or has a slash',
+     'The server takes any bytes for a name, or lists an entry again that has moved.'),
+    ('entry-fileid', 'READDIRPLUS', 'the file id of an entry is that of its attributes',
      'The attributes are those of another object, as of what is mounted there.'),
-    ('mode-bits', '2.5', 'a mode has twelve bits, and not the type of the file',
+    ('mode-bits', 'fattr3', 'a mode has twelve bits, and not the type of the file',
      'The server sends st_mode as its system has it.'),
-    ('nsec', '2.6', 'a time has fewer than 10^9 nanoseconds',
-     'The server sends a constant of its system, as UTIME_NOW.'),
-    ('write-ctime', '2.5', 'WRITE that moves mtime moves ctime as well', ASKED),
-    ('dir-type', '3.3.3', 'what names are looked up, made, removed or listed in is a directory',
+    ('nsec', 'nfstime3', 'a time has fewer than 10^9 nanoseconds, which its first sender breaks',
+     'The sender has a constant of its system there, as UTIME_NOW.'),
+    ('write-ctime', 'fattr3', 'WRITE that moves mtime moves ctime as well',
+     'The server keeps both times itself, and forgets one.'),
+    ('dir-type', IN_FOLDERS, 'what names are looked up, made, removed or listed in is a directory',
      OLD),
-    ('access-asked', '3.3.4', 'ACCESS grants only what was asked for', OTHER_COUNTS),
-    ('fsinfo', '3.3.19', 'preferred sizes are no more than the largest, and multiples are not 0',
+    ('access-asked', 'ACCESS', 'ACCESS grants only what was asked for',
+     'The server answers with all rights that the user has.'),
+    ('fsinfo', 'FSINFO', 'preferred sizes are no more than the largest, and multiples are not 0',
      'The sizes are set by hand, or are those of another file system.'))}
 
 
 class Evidence(NamedTuple):
     """An exchange that shows something: its number, between which frames it was, the frame that
-    shows it, and the time of its call."""
+    shows it, the time of its call, and its procedure."""
     number: int
     begin: int
     end: int
     frame: int
     begun: int
+    procedure: str
+
+    @property
+    def words(self) -> str:
+        return f'frame {self.frame}, {self.procedure}'
 
     def __str__(self) -> str:
-        return f'in frame {self.frame}'
+        return f'in frame {self.frame} ({self.procedure})'
 
 
 class RuleFinding(NamedTuple):
     """An exchange that breaks a rule, in which words, and the other one that shows it. It does not
-    count if one of `unless` is denied."""
+    count if one of `unless` is denied. `by` is who breaks it, if not as the rule says."""
     rule: str
     number: int
     text: str
     source: Evidence | None = None
     unless: tuple[Hashable, ...] = ()
+    by: str = ''
+
+
+ACROSS = ('data', 'attributes', 'names', 'commits')  # groups of rules about several exchanges
 
 
 @dataclass
 class Looked:
-    """How much the rules were put to, and whether those about several exchanges were."""
+    """How much the rules were put to, and why some were not asked."""
+    exchanges: int = 0  # calls with a reply, each by itself
     reads: int = 0  # READs whose data were compared
     bytes: int = 0  # of these
+    beside: int = 0  # READs that were not compared, since a change was beside them
+    attributes: int = 0  # replies that show an object again, without a change since
     names: int = 0  # that something was known of
     listings: int = 0  # that are whole
-    beside: int = 0  # READs that were not compared, since a change was beside them
-    exchanges: int = 0
-    is_across: bool = True
-    still: list[str] = field(default_factory=list)  # servers whose times do not show changes
+    writes: int = 0  # UNSTABLE ones that have to be committed
+    not_asked: dict[str, list[str]] = field(default_factory=dict)  # reasons, by groups of rules
 
-    def words(self) -> str:
-        looked = f'looked at {count(self.exchanges, "exchange")}, '
-        if not self.is_across:
-            return (f'{looked}each by itself: a capture has no frames, so rules about several were '
-                    'not asked')
-        still = f'; names not, since times stand still at {", ".join(self.still)}'
-        return (f'{looked}{count(self.reads, "READ")} ({self.bytes:,} bytes), '
-                f'{count(self.names, "name")}, {count(self.listings, "listing")}; '
-                f'{count(self.beside, "READ")} beside changes not compared'
-                + (still if self.still else ''))
+    def leave(self, group: str, reason: str) -> None:
+        """Notes why a group of rules was not asked, or not of all."""
+        known = self.not_asked.setdefault(group, [])
+        known += [reason] * (reason not in known)
+
+    def groups(self) -> dict[str, str]:
+        """Returns how much each group of rules was put to, and what was not asked, in words."""
+        known = f'{count(self.reads, "READ")} ({self.bytes:,} bytes)'
+        beside = f', and {self.beside:,} beside a change are left out' if self.beside else ''
+        words = {
+            'calls': (self.exchanges, f'{count(self.exchanges, "call")} with a reply',
+                      'no call of NFS has a reply'),
+            'data': (self.reads, known + beside, 'no bytes are read that were known'),
+            'attributes': (self.attributes, count(self.attributes, 'comparison'),
+                           'no object is shown again before it changes'),
+            'names': (self.names + self.listings, f'{count(self.names, "name")}, '
+                      f'{count(self.listings, "whole listing")}',
+                      'no name is asked for again in a folder that is shown'),
+            'commits': (self.writes, count(self.writes, 'UNSTABLE WRITE'),
+                        'no WRITE is UNSTABLE')}
+        return {group: asked_or_why(number, text,
+                                    self.not_asked.get(group) or [none] * (not number))
+                for group, (number, text, none) in words.items()}
+
+    def members(self) -> dict[str, object]:
+        """Returns the numbers, and the words of each group."""
+        numbers = {name: value for name, value in vars(self).items() if isinstance(value, int)}
+        return {**numbers, 'groups': self.groups()}
+
+    def lines(self) -> Iterator[str]:
+        return (f'{group}: {words}' for group, words in self.groups().items())
+
+
+def asked_or_why(number: int, text: str, reasons: list[str]) -> str:
+    """Returns what was looked at, and why not all was."""
+    why = f'not asked, since {", and ".join(reasons)}' if reasons else ''
+    return '; '.join(filter(None, [text if number else '', why]))

@@ -78,20 +78,31 @@ class ShownTable(NamedTuple):
     valid: Sequence[str] = ()
 
 
+class Headline(NamedTuple):
+    """With what a page begins that has another question than whether all is valid: how its heading
+    looks, what that says, the status of the command, and counts with their words and looks."""
+    look: str
+    words: str
+    status: int
+    counts: Sequence[tuple[int, str, str]] = ()
+
+
 def judged_page(seen: Sequence[Seen], allowed: Allowed, tables: Sequence[ShownTable],
-                of_each: Sequence[Sequence[ShownTable]] = ()) -> Iterator[bytes]:
-    """The page, in pieces, of recordings, what does not change the status, and the tables of all of
-    them and of each."""
+                of_each: Sequence[Sequence[ShownTable]] = (), headline: Headline | None = None,
+                last: Iterable[str] = ()) -> Iterator[bytes]:
+    """The page, in pieces, of recordings, what does not change the status, the tables of all of
+    them and of each, its headline if that is not about validity, and what comes last."""
     counts, names = counts_after(verdicts_in(seen)), [escaped(one.recording) for one in seen]
     more = f' and {len(names) - 1:,} more' if len(names) > 1 else ''
-    look, words = title_of(counts)
-    status = of_status(counts, status_of(verdicts_in(seen), allowed), allowed)
+    look, words, status, own = headline or Headline(
+        *title_of(counts), status_of(verdicts_in(seen), allowed))
     several = (f'<section>{of_table(table, "h2")}</section>' for table in tables)
-    recordings = (of_recording(one, own, len(names) > 1)
-                  for one, own in zip(seen, of_each or [()] * len(names)))
+    recordings = (of_recording(one, tables_of, len(names) > 1, headline is None)
+                  for one, tables_of in zip(seen, of_each or [()] * len(names)))
     notes = [line for verdict in verdicts_in(seen) for line in verdict_notes(verdict)]
     return markup.whole_page(f'{words}: {names[0]}{more}', look, words, chain(
-        [FORMS], of_counts(counts), status, [markup.bar('fault', 'row')], several, of_faults(seen),
+        [FORMS], of_counts(counts, own, headline is None), of_status(counts, status, allowed),
+        [markup.bar('fault', 'row')], several, last, of_faults(seen),
         chain.from_iterable(recordings),
         markup.section('Notes', markup.paragraphs(notes)) if notes else ()))
 
@@ -114,10 +125,21 @@ def title_of(counts: Counts) -> tuple[str, str]:
     return 'same', 'Every call of NFS and MOUNT version 3 is valid'
 
 
-def of_counts(counts: Counts) -> Iterator[str]:
-    """The counts, each with its word. One of nothing has no colour."""
-    look = BAD if counts.refused else GOOD if counts.ok else ''
-    shown = [(counts.judged, f'judged ({counts.ok:,} valid, {counts.refused:,} refused)', look),
+def headline_of(seen: Sequence[Seen], allowed: Allowed, words: str, look: str = '') -> Headline:
+    """Returns what is said of another question, or else that not all was judged."""
+    title = title_of(counts_after(verdicts_in(seen)))
+    return Headline(*((look, words) if title[0] == 'same' else title),
+                    status_of(verdicts_in(seen), allowed))
+
+
+def of_counts(counts: Counts, own: Sequence[tuple[int, str, str]] = (),
+              is_of_validity: bool = True) -> Iterator[str]:
+    """The counts, each with its word. One of nothing has no colour, and what is valid has none on
+    the page of another question."""
+    good, valid = (GOOD, 'valid') if is_of_validity else ('', 'ok')
+    look = BAD if counts.refused else good if counts.ok else ''
+    shown = [*own, (counts.judged,
+                    f'judged ({counts.ok:,} {valid}, {counts.refused:,} refused)', look),
              *((counts.numbers()[word], word, one) for word, one in LOOKS_OF_COUNTS)]
     if counts.unanswered:
         calls = plural(counts.unanswered, 'call', 'calls')
@@ -271,12 +293,14 @@ def of_fault(number: int, fault: ExplainedFault, seen: Seen) -> Iterator[str]:
 
 # --- Recordings ---
 
-def of_recording(seen: Seen, tables: Sequence[ShownTable], has_counts: bool) -> Iterator[str]:
+def of_recording(seen: Seen, tables: Sequence[ShownTable], has_counts: bool,
+                 is_of_validity: bool) -> Iterator[str]:
     """The time line of a recording, its own counts if that is asked for, and its tables: that of
     all its connections, and those of each folded."""
     shown = [of_table(table, 'h3') for table in tables]
     words = f'{count(len(shown) - 1, "table")} of single connections'
-    pieces = chain(of_counts(counts_after(seen.verdicts)) if has_counts else (),
+    counts = of_counts(counts_after(seen.verdicts), (), is_of_validity)
+    pieces = chain(counts if has_counts else (),
                    of_time_line(seen.line) if seen.line else (), shown[:1],
                    markup.folded('others', words, shown[1:]) if shown[1:] else ())
     is_empty = seen.line is None and not shown
