@@ -14,7 +14,7 @@ from .pages import (
     HERE, HOSTILE, SHOWN, VISIBLE, WIDTHS, Node, Written, asked_of_others, broken_links, find,
     in_chromium, light_of, table_of, tree_of)
 from .scripts import (
-    CALLS, EXAMPLES, FIRST, REPLIES, Tools, connection_of, exchange, measured, whole, write_faulty)
+    CALLS, EXAMPLES, FIRST, REPLIES, connection_of, exchange, measured, whole, write_faulty)
 
 GETATTR, LOOKUP = 1, 3
 CONCURRENT = str(EXAMPLES / 'concurrent_a.pcap')

@@ -80,8 +80,8 @@ def command_line_of_compare(words: list[str]) -> argparse.Namespace:
                         help='takes a file of accepted findings, which do not count')
     parser.add_argument('--accept-new', metavar='FILE',
                         help='writes a file that accepts the findings of this comparison')
-    add_gone(parser, '--marks', 'cut each recording with `editcap -A TIME -B TIME`, and compare the '
-             'parts')
+    add_gone(parser, '--marks', 'cut each recording with `editcap -A TIME -B TIME`, and compare '
+             'the parts')
     parser.add_argument('--all', action='store_true', help='prints each finding by itself; by '
                         f'default, equal ones are one, and {FINDINGS_AT_MOST} are printed')
     parser.add_argument('--brief', action='store_true', help='prints a line for each finding')
