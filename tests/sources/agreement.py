@@ -409,6 +409,36 @@ def what_is_not_proved(tools: Tools) -> None:
         tools.want(row, row[0].lower() + row[1:].strip() in told, True)
 
 
+CLAIM = re.compile(r'`(\w+)` \(`([\w/]+\.rt)`\): ((?:`\w+`(?:, )?)+)')
+
+
+def clauses_of_the_claims(tools: Tools) -> None:
+    """docs/PROOFS.md names clauses of functions, laws and files that are there."""
+    table = TEXTS['docs/PROOFS.md'].partition('## From claim to clause')[2].partition('\n## ')[0]
+    head_from = runpy.run_path(str(TOP / 'dev/api'))['head_from']
+    claims = CLAIM.findall(table)
+    tools.want('claims', len(claims) > 15, True)
+    for name, path, named in claims:
+        lines = (TOP / 'crates' / path).read_text().splitlines()
+        heads = [head_from(lines, at) for at, line in enumerate(lines)
+                 if re.match(rf' *(?:pub )?fn {name}\b', line)]
+        clauses = {clause or 'ensures' for head in heads
+                   for clause in re.findall(r'^ +ensures\*?(?: (\w+))? \{', head, re.M)}
+        tools.want(f'{name} of {path}', {*re.findall(r'\w+', named)} - clauses, set())
+    laws = '\n'.join(path.read_text() for path in sorted(TOP.glob('crates/*/src/laws.rt')))
+    named_laws = [law for some in re.findall(r'laws? ((?:`\w+`(?:, )?)+)', table)
+                  for law in re.findall(r'\w+', some)]
+    tools.want('laws', [law for law in named_laws if f'pub fn {law}' not in laws], [])
+
+
+def clauses_are_whole(tools: Tools) -> None:
+    """dev/believed prints each clause up to the brace that closes it."""
+    clauses_in = runpy.run_path(str(TOP / 'dev/believed'))['clauses_in']
+    text = '    ensures one { f (record { a = 1 }\n        ) c }\n    ensures { d };\n'
+    tools.want('clauses', clauses_in(text), [
+        '    ensures one { f (record { a = 1 }\n        ) c }', '    ensures { d }'])
+
+
 def clauses_of_each_function(tools: Tools) -> None:
     """dev/api gives a function its own clauses: those before its body, or before the semicolon that
     no bracket encloses."""
@@ -456,7 +486,8 @@ TESTS = [commands_of_the_pages, command_lines_of_the_pages, clause_on_the_page,
          examples_are_made_alike, pages_agree, pages_of_the_tools, what_is_believed,
          rooms_stand_apart, rooms_of_the_tools, names_of_the_tools, lines_of_the_tools,
          pages_are_plain, tables_are_whole, names_lead_somewhere, trees_are_of_the_code,
-         what_is_not_proved, clauses_of_each_function, pages_of_the_crates,
+         what_is_not_proved, clauses_of_each_function, clauses_of_the_claims, clauses_are_whole,
+         pages_of_the_crates,
          completions_of_the_tools, classes_of_the_mask]
 
 

@@ -60,12 +60,12 @@ def over(limit: int, clauses: Iterable[str]) -> set[str]:
 
 def with_many_arguments() -> list[str]:
     """Returns the relations that take too many arguments, with their files."""
-    found, pattern = set[str](), tool().CLAUSE
+    found, clauses_in = set[str](), tool().clauses_in
     for crate in libraries():
         sources = [(MOST_PUBLIC, *source) for source in public_texts(crate)]
         sources += [(MOST, path, path.read_text())
                     for path in sorted((TOP / 'crates' / crate / 'src').rglob('*.rt'))]
         for limit, path, text in sources:
-            clauses = [clause[2] for clause in pattern.finditer(text)]
+            clauses = [clause.partition('{')[2].removesuffix('}') for clause in clauses_in(text)]
             found |= {'%s: %s' % (path.relative_to(TOP), wrong) for wrong in over(limit, clauses)}
     return sorted(found)

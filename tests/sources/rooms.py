@@ -122,8 +122,8 @@ def reached(believed: ModuleType) -> Any:
     found = believed.Believed()
     for crate in libraries():
         for source in public_texts(crate):
-            clauses = [match[0] for pattern in (believed.CLAUSE, GHOST)
-                       for match in pattern.finditer(source.text)]
+            clauses = [*believed.clauses_in(source.text),
+                       *(match[0] for match in GHOST.finditer(source.text))]
             believed.reach_clauses(found, source.path, clauses)
     return found
 
@@ -168,8 +168,8 @@ def of_private_fields() -> list[str]:
     for crate in libraries():
         for path, text in public_texts(crate):
             private = private_fields(path.read_text())
-            named = {name for clause in believed.CLAUSE.finditer(text)
-                     for name in NAMED_FIELD.findall(clause[0])}
+            named = {name for clause in believed.clauses_in(text)
+                     for name in NAMED_FIELD.findall(clause)}
             found |= {'%s: %s' % (path.relative_to(TOP), name) for name in named & private}
     return sorted(found)
 
@@ -177,9 +177,9 @@ def of_private_fields() -> list[str]:
 def long_lines() -> list[str]:
     """Returns the lines over 100 columns of clauses, definitions and proofs, with their files.
     Imports do not count, nor what was built."""
-    pattern = tool().CLAUSE
+    clauses_in = tool().clauses_in
     sources = ((path, path.read_text()) for path in sorted(TOP.glob('crates/*/src/**/*.rt')))
-    texts = [(path, clause[0]) for path, text in sources for clause in pattern.finditer(text)]
+    texts = [(path, clause) for path, text in sources for clause in clauses_in(text)]
     texts += [(path, path.read_text()) for room in ('specs', 'proofs')
               for path in sorted(TOP.glob(f'crates/*/{room}/**/*.antt'))]
     return ['%s: %s' % (path.relative_to(TOP), line) for path, text in texts
