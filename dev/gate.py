@@ -188,8 +188,7 @@ def proved(top: Path, is_anew: bool, board: Board, count: Count) -> bool:
             board.note(found[1])
             say(f'{found[1]} is proved')
     try:
-        return counted(['nice', '-n', '5', 'rt', 'ci', *(['--anew'] if is_anew else [])], top,
-                       count, look)
+        return counted(['nice', '-n', '5', *kit.ci(is_anew)], top, count, look)
     finally:
         board.end()
 
@@ -237,7 +236,7 @@ def test_programs(count: Count) -> None:
 def alone(is_anew: bool, count: Count) -> None:
     """Has `rt ci` try the tree as it is, and tests the programs."""
     os.environ.setdefault('RT_JOBS', str(kit.processors()))
-    if counted(['rt', 'ci', *(['--anew'] if is_anew else [])], TOP, count):
+    if counted(kit.ci(is_anew), TOP, count):
         test_programs(count)
         everything.try_scripts(count, everything.ON_DIST, everything.ON_BUILT)
 

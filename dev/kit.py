@@ -49,6 +49,12 @@ def identity() -> str:
                           check=True).stdout.strip()
 
 
+def ci(is_anew: bool) -> list[str]:
+    """Returns the command that proves a repository. Kits before rattle-kit-13f take nothing from
+    earlier runs in any case, and no word."""
+    return ['rt', 'ci', *(['--anew'] if is_anew and hasattr(rt, 'stamp_of') else [])]
+
+
 def crates(top: Path) -> list[Crate]:
     """Returns the crates below a folder, each after those that it uses."""
     found: list[Crate] = sorted(rt.rtlib.crates_below(str(top)),
