@@ -19,7 +19,7 @@ AVOIDED_IN_DOCSTRINGS = re.compile(r'\b(?:tells|told|stands (?:for|in|at|there))
 AVOIDED = re.compile(AVOIDED_IN_DOCSTRINGS.pattern + r'|\b(?:so is|does so|besides|in another turn|'
                      r'belong together|one more)\b', re.I)
 # Pages whose words are not looked at: one is made, and one has notes.
-MADE_OR_NOTES = ('docs/API.md', 'dev/measure/NOTES.md')
+MADE_OR_NOTES = ('dev/measure/NOTES.md',)
 # A condition is `if`; `where` is for places.
 MOST_WHERES = 8
 BULLET = re.compile(r'\s*(?:- |\d+\. )')
