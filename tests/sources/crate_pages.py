@@ -1,4 +1,5 @@
-"""What the pages of the crates name: the code that they quote and the files; what dev/api prints."""
+"""What the pages of the crates name: the code that they quote and the files; what dev/api
+prints."""
 import pathlib
 import re
 import subprocess
