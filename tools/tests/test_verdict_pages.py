@@ -124,9 +124,8 @@ def tables_as_printed(tools: Written) -> None:
     tools.want('heads', heads, rows[0])
     for words in (['--sort', 'calls', FIRST], ['--total', FIRST], ['--beside', FIRST, CONCURRENT]):
         _, out, page = tools.page('procedures', *words)
-        # (errors are beside the counts there, and numbers have separators)
-        found = [[*row[:5], *row[6:], row[5]] for table in page.all('table')
-                 for row in table_of(table)]
+        # (numbers have separators there)
+        found = [row for table in page.all('table') for row in table_of(table)]
         printed = [row for row in rows_printed(out) if row[0] == 'procedure' or len(row) > 8]
         tools.want(' '.join(words), sorted([re.sub(r'(?<=\d),(?=\d{3})', '', cell) for cell in row]
                                            for row in found), sorted(printed))
@@ -302,8 +301,8 @@ VERDICTS_ARE_SEEN = """[...document.querySelectorAll(".cards td:last-child")].ev
   return box.left >= 0 && box.right <= innerWidth && box.height > 0 })"""
 NUMBERS = """[...document.querySelector(".wide table").tBodies[0].rows].map(
   row => Number(row.cells[1].textContent.replaceAll(",", "")))"""
-ERRORS = """(one => [one.textContent, one.getBoundingClientRect().right < innerWidth])(
-  document.querySelectorAll(".wide th")[5])"""
+MOST = """(one => [one.textContent, one.getBoundingClientRect().right < innerWidth])(
+  [...document.querySelectorAll(".wide th")].find(one => one.textContent == "most ms"))"""
 
 
 @in_chromium
@@ -343,7 +342,7 @@ def keys_and_buttons(tools: Written) -> None:
             browser.value('document.querySelectorAll(".wide th")[1].click()')
             tools.want(f'sorted {is_up}', browser.value(NUMBERS),
                        [*sorted(before[:-1], reverse=not is_up), before[-1]])
-        tools.want('errors are in sight', browser.value(ERRORS), ['errors', True])
+        tools.want('latencies are in sight', browser.value(MOST), ['most ms', True])
         tools.want('no keys without faults', browser.value(SHOWN % '#next'), [])
         tools.page('verdicts', FIRST, *BAD)
         browser.open(tools.path('page.html'))

@@ -325,10 +325,10 @@ def shown_table(title: str, table: TallyTable, column: str) -> ShownTable:
 
 
 def shown_of(title: str, styled: Sequence[Styled]) -> ShownTable:
-    """The same of rows, with the errors beside the counts."""
-    rows = [row._replace(cells=beside_calls(row.cells)) for row in styled]
-    numbers = [at for at, head in enumerate(rows[0].cells) if head in PROCEDURE_HEADS[1:-1]]
-    return as_printed(title, rows, numbers)
+    """The same of rows. Errors come last, and are folded."""
+    heads = styled[0].cells
+    return as_printed(title, styled,
+                      [at for at, head in enumerate(heads) if head in PROCEDURE_HEADS[1:-1]])
 
 
 # --- What is written ---

@@ -179,9 +179,10 @@ def of_table(table: ShownTable, level: str) -> str:
 
 def as_printed(title: str, rows: Sequence[Styled], numbers: Container[int]) -> ShownTable:
     """Returns a table of rows that are printed, that of the heads first. The columns of these
-    numbers are set to the right."""
+    numbers are set to the right, and the last one is folded."""
     heads, *others = (row.cells for row in rows)
-    return ShownTable(title, heads, [row_of_cells(cells, numbers) for cells in others])
+    return ShownTable(title, heads,
+                      [row_of_cells(cells, numbers, look='folded') for cells in others])
 
 
 def row_of_cells(cells: Sequence[str], numbers: Container[int], heads: Sequence[str] = (),

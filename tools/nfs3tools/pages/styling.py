@@ -89,6 +89,8 @@ article.here, article:target, .row:target { outline: 2px solid var(--here); outl
 .wide { overflow-x: auto; margin: 8px 0 }
 .wide td, .wide th { overflow-wrap: normal; white-space: nowrap; padding: 3px 6px; font-size: 13px }
 .wide td:last-child { white-space: normal; min-width: 20em }
+.wide td.folded { white-space: nowrap; max-width: 20em; overflow: hidden; text-overflow: ellipsis }
+.wide td.folded:hover { white-space: normal }
 .wide td:first-child, .wide th:first-child {
   position: sticky; left: -1px; background: Canvas; box-shadow: -2px 0 Canvas
 }
