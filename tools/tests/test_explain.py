@@ -19,7 +19,8 @@ from .scripts import (
     ALL, CALLS, FAULTS, REPLIES, TOP, WITH_TOOLS, Tools, measured, packed, stream, whole)
 
 AID = 'A reader\'s aid, and no part of what is proved.'
-ITEM = re.compile(r'byte (\d+): (\w+)( \((?:its length|residual bytes)\))? = '
+# The name of an item comes after whose it is.
+ITEM = re.compile(r'byte (\d+): (?:[\w ]+\.)?(\w+)( \((?:its length|residual bytes)\))? = '
                   r'(\'.*\'|b[\'"].*[\'"](?:\.\.)?|\S+)(?: \((.*)\))?')
 MOST_MEMORY = 56 << 20  # bytes
 MOST_OF_A_RECORDING = 34 << 20  # bytes, of one with many frames
@@ -51,12 +52,12 @@ def fields_of_a_reply(tools: Tools) -> None:
         'byte 8: reply_stat = 0 (MSG_ACCEPTED)', 'byte 12: verf_flavor = 0 (AUTH_NONE)',
         'byte 16: verf_body (its length) = 0',
         'byte 20: accept_stat = 0 (SUCCESS)', 'byte 24: status = 0 (NFS3_OK)',
-        'byte 28: type = 2 (NF3DIR)',
-        'byte 32: mode = 1005 (1755)', 'byte 36: nlink = 3', 'byte 40: uid = 7', 'byte 44: gid = 8',
-        'byte 48: size = 34', f'byte 56: used = {values[7] << 32 | values[8]}',
-        f'byte 64: rdev1 = {values[9]}', f'byte 68: rdev2 = {values[10]}',
-        f'byte 72: fsid = {values[11] << 32 | values[12]}',
-        'byte 80: fileid = 12', *(f'byte {at + 4}: {name} = {values[(at - 24) // 4]}'
+        'byte 28: obj.type = 2 (NF3DIR)',
+        'byte 32: obj.mode = 1005 (1755)', 'byte 36: obj.nlink = 3', 'byte 40: obj.uid = 7', 'byte 44: obj.gid = 8',
+        'byte 48: obj.size = 34', f'byte 56: obj.used = {values[7] << 32 | values[8]}',
+        f'byte 64: obj.rdev1 = {values[9]}', f'byte 68: obj.rdev2 = {values[10]}',
+        f'byte 72: obj.fsid = {values[11] << 32 | values[12]}',
+        'byte 80: obj.fileid = 12', *(f'byte {at + 4}: obj.{name} = {values[(at - 24) // 4]}'
                                   for at, name in times)])
 
 
@@ -66,8 +67,9 @@ def values_that_are_odd(tools: Tools) -> None:
     tools.write('a', messages.capture(([call(5, NFS, 3, 1, fh(b'abc'))],
                                        [success(5, ok(attributes))])))
     lines = explained(tools, 'a', 'connection 1 server record 1')
-    wanted = ['byte 32: mode = 33188 (100644: has bits of the type)',
-              'byte 92: atime_nsec = 1000000000 (a second or more)', 'byte 100: mtime_nsec = 0']
+    wanted = ['byte 32: obj.mode = 33188 (100644: has bits of the type)',
+              'byte 92: obj.atime_nsec = 1000000000 (a second or more)',
+              'byte 100: obj.mtime_nsec = 0']
     tools.want('lines', [line for line in lines if line in wanted], wanted)
 
 
@@ -126,10 +128,10 @@ def names_of_values(tools: Tools) -> None:
                           ('server record 2',
                            'properties = 27 (LINK|SYMLINK|HOMOGENEOUS|CANSETTIME)'),
                           ('server record 3', 'status = 13 (MNT3ERR_ACCES)'),
-                          ('client record 4', 'mode = 416 (0640)'),
+                          ('client record 4', 'set.mode = 416 (0640)'),
                           ('client record 4', 'set_size = 1 (TRUE)'),
                           ('client record 4', 'set_atime = 0 (DONT_CHANGE)'),
-                          ('client record 4', 'size = 9'),
+                          ('client record 4', 'set.size = 9'),
                           ('server record 4', 'status = 10002 (NFS3ERR_NOT_SYNC)'),
                           ('server record 5', 'status = 2 (NFS3ERR_NOENT)'),
                           ('client record 5', 'mtype = 0 (CALL)')):
@@ -175,7 +177,7 @@ def long_values(tools: Tools) -> None:
 
 
 # What is said of the items at fault in the examples.
-ITEMS = {'bad_client_record': 'mtype = 2', 'bad_status': 'status = 3', 'bad_bool': 'attr = 2',
+ITEMS = {'bad_client_record': 'mtype = 2', 'bad_status': 'status = 3', 'bad_bool': 'dir.attr = 2',
          'bad_length': 'fh (its length) = 65'}
 
 

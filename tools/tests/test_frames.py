@@ -131,9 +131,6 @@ def places_that_are_not_there(tools: Tools) -> None:
         tools.want(f'where {byte}', tool(tools, 'where', 'a.pcap', f'file {byte}'), (
             1,
             [], f'where: byte {byte} of the capture is not of a stream, so no frame carries it\n'))
-    for name in ('a', 'a.pcap'):
-        tools.want(f'explain {name}', tool(tools, 'explain', name, 'file 999999'),
-                   (1, [], 'explain: the capture has no byte 999999\n'))
 
 
 # --- As a recording ---

@@ -8,7 +8,8 @@ many of them.
 """
 from __future__ import annotations
 
-from collections.abc import Callable
+import contextlib
+from collections.abc import Callable, Iterator
 
 from ..shared.layouts import Body, BodyReader, PlacedItem, Procedure, procedure_of
 from ..shared.places import Place
@@ -74,6 +75,24 @@ def tell_heading(place: Place, body: Body, call: Call | None, tell: Tell) -> Pro
     return procedure
 
 
+class OwnedReader(BodyReader):
+    """A reader of items that knows whose each is, as `dir after`."""
+
+    def __init__(self, body: Body, tell: Callable[[PlacedItem], object]) -> None:
+        super().__init__(body, tell, ITEM_BYTES_AT_MOST)
+        self.owners: list[str] = []
+
+    @contextlib.contextmanager
+    def whose(self, name: str, number: int = 0) -> Iterator[None]:
+        self.owners.append(f'{name} {number}' if number else name)
+        yield
+        self.owners.pop()
+
+    def label(self, item: PlacedItem) -> str:
+        """The name of the item that was just read, with whose it is."""
+        return f'{" ".join(self.owners)}.{item.name}' if self.owners else item.name
+
+
 def tell_items(body: Body, is_call: bool, procedure: Procedure | None, tell: Tell) -> None:
     """All items that have bytes, up to the end or to the first that is at fault."""
     last = list[PlacedItem]()
@@ -81,9 +100,9 @@ def tell_items(body: Body, is_call: bool, procedure: Procedure | None, tell: Tel
     def look(item: PlacedItem) -> None:
         last[:] = [item]
         if item.begin < item.end or not item.is_whole:
-            tell(item_line(item))
+            tell(item_line(item, message.label(item), item.begin))
 
-    message = BodyReader(body, look, ITEM_BYTES_AT_MOST)
+    message = OwnedReader(body, look)
     if not message.read(is_call, procedure):
         tell('allowed: %s' % last[0].allowed)
     if message.at < len(body):
@@ -94,16 +113,17 @@ def tell_items(body: Body, is_call: bool, procedure: Procedure | None, tell: Tel
 def tell_item(body: Body, is_call: bool, procedure: Procedure | None, byte: int,
               tell: Tell) -> tuple[int, int]:
     """The item at a byte. Returns where it begins and ends."""
-    found = list[PlacedItem]()
+    found = list[tuple[PlacedItem, str]]()
 
     def look(item: PlacedItem) -> None:
         is_there = item.begin <= byte < item.end or item.begin == byte and not item.is_whole
         if not found and is_there:
-            found.append(item)
+            found.append((item, message.label(item)))
 
-    BodyReader(body, look, ITEM_BYTES_AT_MOST).read(is_call, procedure)
-    for item in found:
-        tell(item_line(item, byte))
+    message = OwnedReader(body, look)
+    message.read(is_call, procedure)
+    for item, label in found:
+        tell(item_line(item, label, byte))
         tell('allowed: %s' % item.allowed)
         return item.begin, item.end
     is_within = byte < len(body)
@@ -112,11 +132,11 @@ def tell_item(body: Body, is_call: bool, procedure: Procedure | None, byte: int,
     return byte, len(body)
 
 
-def item_line(item: PlacedItem, byte: int | None = None) -> str:
+def item_line(item: PlacedItem, label: str, byte: int) -> str:
     """The line of an item, which is at this byte."""
     value = item.value + '..' if item.end - item.begin > ITEM_BYTES_AT_MOST else item.value
     remarks = ': '.join(filter(None, (item.meaning, remark_on_item(item))))
-    return 'byte %d: %s = %s%s' % (item.begin if byte is None else byte, item.name,
+    return 'byte %d: %s = %s%s' % (byte, label,
                                    value or 'nothing, since the body ends here',
                                    ' (%s)' % remarks if remarks else '')
 
