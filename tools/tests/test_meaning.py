@@ -261,11 +261,11 @@ GUARDED_CASES = [
            wrote(), committed(0, 0, RESTARTED), wrote(4, 4, FILE_SYNC, RESTARTED)),
     before('not-committed', [], [committed(0, 4)], wrote(), CUT),
     # Only this file need not be committed if it is removed.
-    before('not-committed', [removed(b'b')], [REMOVED], NAMED, wrote()),
+    before('not-committed', [removed(b'b')], [REMOVED], NAMED, UNCOMMITTED),
     before('not-committed', [renamed(b'b', FOLDER, b'c')], [renamed(b'b', FOLDER, b'a')],
-           NAMED, wrote()),
-    before('not-committed', [committed(0, 0, RESTARTED), removed(b'b')],
-           [committed(), removed(b'b')], NAMED, wrote()),
+           NAMED, UNCOMMITTED),
+    before('not-committed', [COMMITTED_ANEW, removed(b'b')], [COMMITTED, removed(b'b')],
+           NAMED, UNCOMMITTED),
     # After an error the client knows, and without a reply it may go on.
     before('not-committed', [], [WRITE_FAILED], wrote()),
     before('not-committed', [], [(*committed()[:2], None)], wrote()),

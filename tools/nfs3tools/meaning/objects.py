@@ -238,19 +238,20 @@ class Objects:
             (clock[at - 1][1][0] - ctime[0]) * SECOND + clock[at - 1][1][1] - ctime[1] >= tick)
 
     def find(self, one: RecordedExchange, known: Object, rule: str, text: str, source: Evidence,
-             *unless: Hashable, waits: bool = True) -> None:
+             *unless: Hashable, waits: bool = True, whose: Hashable = None) -> None:
         """Adds what does not agree with an earlier exchange, if a change after that would be seen:
         not if the object was not at rest, nor within the tick of a clock that has whole seconds.
         Within that of another clock, for which data do not wait, or if a change since does not show
-        what was before, nobody else may be seen to change any object of the server."""
+        what was before, nobody else may be seen to change any object of the server, or any other
+        one than `whose`."""
         if known.seen is None or known.found is None:
             return
         ctime = known.found.ctime
         is_over = not waits and ctime[1] > 0 or self.is_over(known, ctime, source)
         if is_over or ctime[1]:
             is_sure = is_over and known.loose < source.frame
-            self.add(rule, one.source, text, source, None if is_sure else (one.server, OTHERS),
-                     *unless)
+            self.add(rule, one.source, text, source,
+                     None if is_sure else (whose or one.server, OTHERS), *unless)
 
     def observe(self, one: RecordedExchange, told: StatedAttributes) -> None:
         """Takes what a reply says of an object before it is known what the call did."""
@@ -336,8 +337,8 @@ class Objects:
             names, now = Attributes._fields[:3], found[:3]
             text = changes_in_words(names, now, was, seen.source)
             self.find(one, known, 'wcc-before', f'before the call {text}', seen.source,
-                      self.started(one.server, seen.epoch),
-                      waits=found.ctime == was.ctime)
+                      self.started(one.server, seen.epoch), waits=found.ctime == was.ctime,
+                      whose=known.key)
 
     def other(self, known: Object, seen: Sight, now: Sight) -> None:
         """Looks at attributes that are others, though no recorded change came between. They do not
