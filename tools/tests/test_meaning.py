@@ -523,6 +523,9 @@ def pages_of_findings(tools: Written) -> None:
                ['rule', 'section', 'by', 'server', 'found', 'first'])
     tools.want('its words', [text for text in page.texts('td') if 'byte 4' in text], [FIRST_FOUND])
     tools.want('its frames', page.texts('code', 'filter'), ['frame.number in {5, 7}'])
+    _, _, page = tools.page('meaning', 'a.pcap', 'a.pcap')
+    tools.want('two recordings', page.texts('h2')[:1] + page.texts('h3')[:2],
+               ['a.pcap', '1 read-data a.pcap', '1 read-data a.pcap'])
 
 
 def rules_in_words(tools: Tools) -> None:
