@@ -316,6 +316,9 @@ MAY_BE = {
     'a name is made, and the reply does not show the folder': [
         AT_REST, listed(entry(6, b'b', 1)),
         ('LOOKUP', dirop(FOLDER, b'a'), ok(fh(FILE) + post_op_attr(shown()) + post_op_attr()))],
+    'a name is moved to one that may be removed meanwhile': [
+        AT_REST, NAMED, ('REMOVE', dirop(OTHER, b'b'), None), renamed(b'a', OTHER, b'b'),
+        AT_REST_LATER, listed(mtime=LATER)],
     'a directory on which something is mounted': [
         ('READDIRPLUS', fh(FOLDER) + hyper(0) + bytes(8) + word(4096) + word(4096),
          ok(entries(folder(), bytes(8), [entryplus(5, b'a', 1, shown(DIR, 2), None)], True)))],
@@ -503,11 +506,11 @@ def pages_of_findings(tools: Written) -> None:
     silent = timed(enumerate(frames_of(1, [('NULL', b'', b'')])), 1_000)
     lost = [frame for at, frame in enumerate(frames_of(1, [asked()] * 3)) if at != 5]
     for name, recording, look, words in (
-            ('found', FAULTY, 'differ', '1 answer by 1 rule cannot be right'),
             ('clean', timed(enumerate(frames_of(1, [asked()])), 1_000), 'same',
              'No answer is known to be wrong'),
             ('silent', silent, 'part', 'No call was looked at'),
-            ('lost', timed(enumerate(lost), 1_000), 'part', 'Not all was judged')):
+            ('lost', timed(enumerate(lost), 1_000), 'part', 'Not all was judged'),
+            ('found', FAULTY, 'differ', '1 answer by 1 rule cannot be right')):
         tools.write('a.pcap', recording)
         status, out, page = tools.page('meaning', 'a.pcap')
         heading, = page.all('h1')
@@ -516,10 +519,8 @@ def pages_of_findings(tools: Written) -> None:
         tools.want(f'{name}: valid', 'valid' in page.text(), False)
         tools.want(f'{name}: looked at', [line for line in out.splitlines() if line[:2] == '  '],
                    [f'  {text}' for text in page.texts('p') if text.split(':')[0] in GROUPS])
-    tools.write('a.pcap', FAULTY)
-    _, _, page = tools.page('meaning', 'a.pcap')
-    first = page.all('table')[0]
-    tools.want('the finding first', [cell.attributes.get('data-head') for cell in first.all('td')],
+    cells = page.all('table')[0].all('td')
+    tools.want('the finding first', [cell.attributes.get('data-head') for cell in cells],
                ['rule', 'section', 'by', 'server', 'found', 'first'])
     tools.want('its words', [text for text in page.texts('td') if 'byte 4' in text], [FIRST_FOUND])
     tools.want('its frames', page.texts('code', 'filter'), ['frame.number in {5, 7}'])

@@ -288,7 +288,7 @@ class Across(Objects):
         is_known = says is not None and self.is_shown(one, folder)
         if is_known:
             self.compare(one, folder, name, found if says else False)
-        if one.procedure != 'LOOKUP' and one.is_unsure(folder.key[1], name):
+        if one.procedure != 'LOOKUP' and one.is_unsure():
             folder.forget_name(name)
         elif one.is_ok and one.procedure == 'RENAME':
             self.rename(one, number)
