@@ -29,9 +29,8 @@ from .cases import PROGRAM
 from .pages import Written
 from .scripts import TOP, Tools, in_turn, timed
 
-FOLDER, FILE, OTHER = b'folder', b'file', b'other'
+FOLDER, FILE, OTHER, VERIFIER, RESTARTED = b'folder', b'file', b'other', b'verifier', b'restart.'
 EARLY, LATER, LATEST = (nfstime(seconds, 250_000_000) for seconds in (100, 200, 300))
-VERIFIER, RESTARTED = b'verifier', b'restart.'
 SECONDS, NOSPC = 10**9, 28
 # Recordings of the repository, or all of a folder.
 FOLDER_OF_RECORDINGS = os.environ.get('RECORDINGS')
