@@ -2,6 +2,7 @@
 import collections
 import contextlib
 import functools
+import itertools
 import json
 import os
 import random
@@ -28,9 +29,8 @@ from .cases import PROGRAM
 from .pages import Written
 from .scripts import TOP, Tools, in_turn, timed
 
-FOLDER, FILE, OTHER = b'folder', b'file', b'other'
+FOLDER, FILE, OTHER, VERIFIER, RESTARTED = b'folder', b'file', b'other', b'verifier', b'restart.'
 EARLY, LATER, LATEST = (nfstime(seconds, 250_000_000) for seconds in (100, 200, 300))
-VERIFIER, RESTARTED = b'verifier', b'restart.'
 SECONDS, NOSPC = 10**9, 28
 # Recordings of the repository, or all of a folder.
 FOLDER_OF_RECORDINGS = os.environ.get('RECORDINGS')
@@ -98,13 +98,13 @@ def wrote(at: int = 0, size: int = 8, stable: int = UNSTABLE, verifier: bytes = 
             ok(changed(shown(size=8), 8), word(size), word(stable), verifier))
 
 
-def committed(at: int = 0, size: int = 0, verifier: bytes = VERIFIER) -> Step:
-    return 'COMMIT', fh(FILE) + hyper(at) + word(size), ok(changed(shown(size=8), 8), verifier)
+def committed(at: int = 0, size: int = 0, verifier: bytes = VERIFIER, held: int = 8) -> Step:
+    return ('COMMIT', fh(FILE) + hyper(at) + word(size),
+            ok(changed(shown(size=held), held), verifier))
 
 
-def cut(size: int) -> Step:
-    return ('SETATTR', fh(FILE) + sattr(size=size) + guard(),
-            ok(changed(shown(size=size, mtime=LATER, ctime=LATER), 8)))
+def setting(wanted: bytes, now: bytes, size: int = 5) -> Step:
+    return 'SETATTR', fh(FILE) + wanted + guard(), ok(changed(now, size))
 
 
 def removed(name: bytes) -> Step:
@@ -129,8 +129,7 @@ def symbolic(text: bytes) -> Step:
 
 def time_set(nanoseconds: int) -> Step:
     time = nfstime(9, nanoseconds)
-    return ('SETATTR', fh(FILE) + sattr(mtime=set_to_client_time(time)) + guard(),
-            ok(changed(shown(mtime=time, ctime=LATER))))
+    return setting(sattr(mtime=set_to_client_time(time)), shown(mtime=time, ctime=LATER))
 
 
 def looked_up(name: bytes, handle: bytes = FILE, fileid: int = 5, mtime: bytes = EARLY,
@@ -160,11 +159,6 @@ def set_mode(mode: int, ctime: bytes) -> Step:
             ok(changed(shown(mode=mode, ctime=LATEST), was=ctime)))
 
 
-def chmod(size: int) -> Step:
-    return ('SETATTR', fh(FILE) + sattr(mode=0o600) + guard(),
-            ok(changed(shown(mode=0o600, ctime=LATEST), size)))
-
-
 def listed_plus(fileid: int) -> Step:
     one = entryplus(5, b'a', 1, shown(fileid=fileid), None)
     return ('READDIRPLUS', fh(FOLDER) + hyper(0) + bytes(8) + word(4096) + word(4096),
@@ -185,9 +179,7 @@ REMOVED = removed(b'a')
 CREATED: Step = ('CREATE', dirop(FOLDER, b'a') + how(GUARDED, sattr(mode=0o644)),
                  ok(made(FILE, shown(size=0, mtime=LATER, ctime=LATER),
                          changed(folder(LATER), 4096))))
-COMMITTED, COMMITTED_ANEW = (
-    ('COMMIT', fh(FILE) + hyper(0) + word(0), ok(changed(shown()), verifier))
-    for verifier in (VERIFIER, RESTARTED))
+COMMITTED, COMMITTED_ANEW = committed(held=5), committed(verifier=RESTARTED, held=5)
 NAMED, ANEW = looked_up(b'a'), wrote(0, 8, FILE_SYNC, RESTARTED, OTHER)
 UNCHECKED_CREATED: Step = (
     'CREATE', dirop(FOLDER, b'a') + how(UNCHECKED, sattr(mode=0o644)),
@@ -198,6 +190,7 @@ EXCLUSIVELY_CREATED: Step = (
     ok(made(FILE, shown(), changed(folder(), 4096))))
 ODD = nfstime(9, 0xffffffff)
 BY_OTHERS = asked(OTHER), asked(OTHER, shown(mtime=LATER, ctime=LATER))
+CUT = setting(sattr(size=4), shown(size=4, mtime=LATER, ctime=LATER), 8)
 WRITE_FAILED: Step = (
     'WRITE', fh(FILE) + hyper(0) + word(5) + word(UNSTABLE) + opaque(b'alpha'),
     failed(NOSPC, optional(None) + post_op_attr(shown(size=8))))
@@ -254,7 +247,8 @@ CASES = [
     Case('readlink-text', [symbolic(b'there')], [symbolic(b'here')], [symbolic(b'there')]),
     Case('link-nlink', [], [linked(1)], [linked(2)]),
     Case('link-nlink', [asked()], [linked(3)], [linked(2)]),
-    Case('wcc-before', [asked(), asked()], [chmod(6)], [chmod(5)])]
+    Case('wcc-before', [asked(), asked()], *(
+        [setting(sattr(mode=0o600), shown(mode=0o600, ctime=LATEST), size)] for size in (6, 5)))]
 # What takes a finding away, beside the same without it.
 GUARDED_CASES = [
     # A COMMIT or a WRITE of a part, or a cut, takes this part.
@@ -264,16 +258,16 @@ GUARDED_CASES = [
     before('not-committed', [wrote(0, 4, UNSTABLE, RESTARTED)],
            [wrote(0, 4, UNSTABLE, RESTARTED), committed(0, 4, RESTARTED)],
            wrote(), committed(0, 0, RESTARTED), wrote(4, 4, FILE_SYNC, RESTARTED)),
-    before('not-committed', [], [committed(0, 4)], wrote(), cut(4)),
+    before('not-committed', [], [committed(0, 4)], wrote(), CUT),
     # Only this file need not be committed if it is removed.
-    before('not-committed', [removed(b'b')], [REMOVED], NAMED, wrote()),
+    before('not-committed', [removed(b'b')], [REMOVED], NAMED, UNCOMMITTED),
     before('not-committed', [renamed(b'b', FOLDER, b'c')], [renamed(b'b', FOLDER, b'a')],
-           NAMED, wrote()),
-    before('not-committed', [committed(0, 0, RESTARTED), removed(b'b')],
-           [committed(), removed(b'b')], NAMED, wrote()),
+           NAMED, UNCOMMITTED),
+    before('not-committed', [COMMITTED_ANEW, removed(b'b')], [COMMITTED, removed(b'b')],
+           NAMED, UNCOMMITTED),
     # After an error the client knows, and without a reply it may go on.
     before('not-committed', [], [WRITE_FAILED], wrote()),
-    before('not-committed', [], [('COMMIT', fh(FILE) + hyper(0) + word(0), None)], wrote()),
+    before('not-committed', [], [(*committed()[:2], None)], wrote()),
     # What is not committed, or was within the tick of a ctime, is lost by a new start.
     before('read-data', [read(b'alphb')], [ANEW, read(b'alphb')],
            wrote(0, 8, FILE_SYNC, VERIFIER, OTHER), read(b'alpha')),
@@ -321,6 +315,9 @@ MAY_BE = {
     'a name is made, and the reply does not show the folder': [
         AT_REST, listed(entry(6, b'b', 1)),
         ('LOOKUP', dirop(FOLDER, b'a'), ok(fh(FILE) + post_op_attr(shown()) + post_op_attr()))],
+    'a name is moved to one that may be removed meanwhile': [
+        AT_REST, NAMED, ('REMOVE', dirop(OTHER, b'b'), None), renamed(b'a', OTHER, b'b'),
+        AT_REST_LATER, listed(mtime=LATER)],
     'a directory on which something is mounted': [
         ('READDIRPLUS', fh(FOLDER) + hyper(0) + bytes(8) + word(4096) + word(4096),
          ok(entries(folder(), bytes(8), [entryplus(5, b'a', 1, shown(DIR, 2), None)], True)))],
@@ -334,10 +331,8 @@ MAY_BE = {
         ('CREATE', dirop(FOLDER, b'a') + how(EXCLUSIVE, b'\xff' * 8),
          ok(made(FILE, shown(mtime=nfstime(0xffffffff, 0xffffffff)), changed(folder(), 4096))))],
     'a READ moves atime, and a uid that is not set stays': [
-        ('SETATTR', fh(FILE) + sattr(uid=0xffffffff, atime=set_to_client_time(LATEST)) + guard(),
-         ok(changed(shown())))],
-    'a symbolic link has no mode': [
-        ('SETATTR', fh(FILE) + sattr(mode=0o600) + guard(), ok(changed(shown(LNK, mode=0o777))))],
+        setting(sattr(uid=0xffffffff, atime=set_to_client_time(LATEST)), shown())],
+    'a symbolic link has no mode': [setting(sattr(mode=0o600), shown(LNK, mode=0o777))],
     'a server takes no WRITE': [limits(4096, 0)],
     'a preferred size is no multiple': [limits(4000)]}
 
@@ -460,8 +455,8 @@ def one_wrong_answer(tools: Tools) -> None:
         tools.want(rule, [(one['rule'], one['frame'], one['text']) for one in found],
                    [(rule, frame, text)])
     tools.write('a.pcap', timed(enumerate(frames_of(1, [time_set(SECONDS), asked()])), 1_000))
-    tools.want('whose', [(one['by'], one['frame'], one['text'])
-                         for one in meaning(tools, 'a.pcap')[1]['findings']],
+    found = meaning(tools, 'a.pcap')[1]['findings']
+    tools.want('whose', [(one['by'], one['frame'], one['text']) for one in found],
                [('client', 4, 'sets mtime 9 s and 1,000,000,000 ns')])
 
 
@@ -510,11 +505,11 @@ def pages_of_findings(tools: Written) -> None:
     silent = timed(enumerate(frames_of(1, [('NULL', b'', b'')])), 1_000)
     lost = [frame for at, frame in enumerate(frames_of(1, [asked()] * 3)) if at != 5]
     for name, recording, look, words in (
-            ('found', FAULTY, 'differ', '1 answer by 1 rule cannot be right'),
             ('clean', timed(enumerate(frames_of(1, [asked()])), 1_000), 'same',
              'No answer is known to be wrong'),
             ('silent', silent, 'part', 'No call was looked at'),
-            ('lost', timed(enumerate(lost), 1_000), 'part', 'Not all was judged')):
+            ('lost', timed(enumerate(lost), 1_000), 'part', 'Not all was judged'),
+            ('found', FAULTY, 'differ', '1 answer by 1 rule cannot be right')):
         tools.write('a.pcap', recording)
         status, out, page = tools.page('meaning', 'a.pcap')
         heading, = page.all('h1')
@@ -523,17 +518,19 @@ def pages_of_findings(tools: Written) -> None:
         tools.want(f'{name}: valid', 'valid' in page.text(), False)
         tools.want(f'{name}: looked at', [line for line in out.splitlines() if line[:2] == '  '],
                    [f'  {text}' for text in page.texts('p') if text.split(':')[0] in GROUPS])
-    tools.write('a.pcap', FAULTY)
-    _, _, page = tools.page('meaning', 'a.pcap')
-    first = page.all('table')[0]
-    tools.want('the finding first', [cell.attributes.get('data-head') for cell in first.all('td')],
+    cells = page.all('table')[0].all('td')
+    tools.want('the finding first', [cell.attributes.get('data-head') for cell in cells],
                ['rule', 'section', 'by', 'server', 'found', 'first'])
     tools.want('its words', [text for text in page.texts('td') if 'byte 4' in text], [FIRST_FOUND])
     tools.want('its frames', page.texts('code', 'filter'), ['frame.number in {5, 7}'])
+    _, _, page = tools.page('meaning', 'a.pcap', 'a.pcap')
+    tools.want('two recordings', page.texts('h2')[:1] + page.texts('h3')[:2],
+               ['a.pcap', '1 read-data a.pcap', '1 read-data a.pcap'])
 
 
-def explained_rules(tools: Tools) -> None:
-    """A rule comes with what to do next, and another word with the rules near it."""
+def rules_in_words(tools: Tools) -> None:
+    """A rule comes with what to do next, and another word with the rules near it. A finding has the
+    section of its procedure, and a row all of them."""
     for name, about in (('read-data', 'section 3.3.6'), ('same-ctime', 'fattr3'),
                         ('made-type', 'section 3.3.8, 3.3.9, 3.3.10, 3.3.11')):
         status, out, _ = tools.tool('meaning', '--explain', name)
@@ -542,10 +539,6 @@ def explained_rules(tools: Tools) -> None:
     status, _, error = tools.tool('meaning', '--explain', 'read-dta')
     tools.want('near', (status, error.splitlines()[-1].partition(': no rule: ')[2]),
                (2, 'read-dta; near it: read-data, read-count-data, read-eof'))
-
-
-def sections_by_procedure(tools: Tools) -> None:
-    """A finding has the section of its procedure, and a row all of them."""
     plus = ('READDIRPLUS', fh(FOLDER) + hyper(0) + bytes(8) + word(4096) + word(16),
             ok(entries(folder(), bytes(8), [], True)))
     tools.write('a.pcap', timed(enumerate(frames_of(1, [listed(count=16), plus])), 1_000))
@@ -571,11 +564,10 @@ def findings_that_are_accepted(tools: Tools) -> None:
                            b'failures="0"' in tools.read('a.xml')), (0, True))
     os.link(tools.path('a.json'), tools.path('hard'))
     os.symlink('a.json', tools.path('soft'))
-    for option in ('--html', '--junit'):
-        for name in ('a.json', './a.json', 'hard', 'soft'):
-            before = tools.read('a.json')
-            tools.want(f'{option} {name}', run(option, name, 'a.pcap')[0], 2)
-            tools.want('the file', tools.read('a.json') == before, True)
+    for option, name in itertools.product(('--html', '--junit'),
+                                          ('a.json', './a.json', 'hard', 'soft')):
+        tools.want(f'{option} {name}', (run(option, name, 'a.pcap')[0],
+                                        json.loads(tools.read('a.json'))['accepted']), (2, known))
     for wrong in (b'', b'[]', b'{"version": 2, "accepted": []}', b'\xff',
                   b'{"version": 1, "accepted": [{"rule": "none", "server": "*"}]}'):
         tools.write('a.json', wrong)

@@ -182,12 +182,13 @@ class RecordingFindings:
 
     def articles(self) -> Iterator[str]:
         """What a page says of each finding, up to some: its frames, its words, and its rule."""
+        name = f' {escape(self.recording)}' if len(self.chosen.recordings) > 1 else ''
         shown = ((one, row) for one, row in self.all if row.kind != NOTE)
         for number, (one, row) in enumerate(islice(shown, SHOWN_FINDINGS), 1):
             frames = [self.frame(one), *([one.source.frame] if one.source else [])]
             filters = markup.filters(self.parts, sorted(filter(None, frames)))
             look = BAD if row.kind == FINDING else PARTIAL
-            yield f'<article><h3>{number} {one.rule}</h3>'
+            yield f'<article><h3>{number} {one.rule}{name}</h3>'
             yield f'<p class={look}>{escape(self.words(one))}{filters}</p>'
             yield from markup.folded('others', 'the rule', markup.paragraphs(explained(one.rule)))
             yield '</article>'
@@ -304,9 +305,11 @@ def findings_page(told: FindingsReport) -> Iterator[bytes]:
     headline = headline._replace(counts=[
         (numbers[kind], kind if kind == ACCEPTED else f'{kind}s', look)
         for kind, look in ((FINDING, BAD), (ACCEPTED, PARTIAL), (NOTE, PARTIAL))])
-    rows = [row_of_cells(row.cells, FINDING_NUMBERS, FINDING_HEADS,
-                         BAD if row.kind == FINDING else PARTIAL) for row in told.rows]
-    tables = [ShownTable('Findings', FINDING_HEADS, rows, 'cards')] if rows else []
+    names = dict.fromkeys(row.recording for row in told.rows)
+    tables = [ShownTable(name if len(told.seen) > 1 else 'Findings', FINDING_HEADS, [
+        row_of_cells(row.cells, FINDING_NUMBERS, FINDING_HEADS,
+                     BAD if row.kind == FINDING else PARTIAL)
+        for row in told.rows if row.recording == name], 'cards') for name in names]
     looked = markup.section('Looked at', markup.paragraphs(
         [*told.no_longer_found(), *told.looked.lines()]))
     each = markup.section('Each finding', told.articles) if told.articles else ()

@@ -16,8 +16,8 @@ from ..exchanges.values import seconds
 from ..recordings.selection import count
 from .alone import BESIDE, broken, broken_by, of_made, of_sent_times
 from .objects import (
-    HIDDEN, NO_VERIFIER, Epoch, FileContent, FilePart, KnownName, KnownText, NameTarget, Object,
-    Objects)
+    HIDDEN, NO_VERIFIER, OTHERS, Epoch, FileContent, FilePart, KnownName, KnownText, NameTarget,
+    Object, Objects)
 from .recorded import (
     END, LISTS, NEVER, OF_CONTENT, OF_NAMES, OWNERS_OF_NAMES, REMOVES, UNCHECKED, Recorded,
     RecordedExchange)
@@ -71,7 +71,7 @@ class Across(Objects):
         """Finds what counts only once all exchanges are taken. What was found of names at servers
         whose times do not show changes does not count: those of others are not seen."""
         still = self.stood - self.moved
-        self.denied |= still
+        self.denied |= still | {(key, OTHERS) for key in self.known if self.others[key[0]] - {key}}
         for server in sorted(still):
             self.looked.leave('names', f'the ctimes of folders at {server} do not move')
         for server in sorted(self.recorded.insensitive):
@@ -288,7 +288,7 @@ class Across(Objects):
         is_known = says is not None and self.is_shown(one, folder)
         if is_known:
             self.compare(one, folder, name, found if says else False)
-        if one.procedure != 'LOOKUP' and one.is_unsure(folder.key[1], name):
+        if one.procedure != 'LOOKUP' and one.is_unsure():
             folder.forget_name(name)
         elif one.is_ok and one.procedure == 'RENAME':
             self.rename(one, number)

@@ -20,7 +20,7 @@ TICK, COARSE_TICK = 20_000_000, 2_100_000_000
 HIDDEN = '.'  # begins names that may be in no listing
 # Attributes that stay with the ctime. Of type, fsid and fileid another rule speaks.
 LASTING = 'size', 'mtime', 'ctime', 'mode', 'uid', 'gid', 'nlink'
-OTHERS = 'others'  # of a server: someone else is seen to change one of its objects
+OTHERS = 'others'  # of a server: someone else is seen to change an object; of one: another object
 NO_VERIFIER = ''  # a write verifier that no reply has shown
 STARTED_ANEW = 'started anew'  # denies what a new start of a server may have changed
 SizeAndTime = tuple[int, Time]  # the first attributes: size and mtime
@@ -193,6 +193,7 @@ class Objects:
         meanwhile
     epochs: the last write verifier of each server
     clocks: the latest ctime that each server has shown, each with the frame from which on
+    others: the objects of each server that somebody changed who is not recorded
     """
 
     def __init__(self, looked: Looked) -> None:
@@ -201,6 +202,7 @@ class Objects:
         self.known, self.shown = dict[ObjectKey, Object](), set[str]()
         self.relinked, self.epochs = defaultdict[str, int](int), dict[str, Epoch]()
         self.clocks = defaultdict[str, list[tuple[int, Time]]](list)
+        self.others = defaultdict[str, set[ObjectKey]](set)
 
     def add(self, rule: str, one: Evidence, text: str, source: Evidence | None = None,
             *unless: Hashable, by: str = '') -> None:
@@ -236,19 +238,20 @@ class Objects:
             (clock[at - 1][1][0] - ctime[0]) * SECOND + clock[at - 1][1][1] - ctime[1] >= tick)
 
     def find(self, one: RecordedExchange, known: Object, rule: str, text: str, source: Evidence,
-             *unless: Hashable, waits: bool = True) -> None:
+             *unless: Hashable, waits: bool = True, whose: Hashable = None) -> None:
         """Adds what does not agree with an earlier exchange, if a change after that would be seen:
         not if the object was not at rest, nor within the tick of a clock that has whole seconds.
         Within that of another clock, for which data do not wait, or if a change since does not show
-        what was before, nobody else may be seen to change any object of the server."""
+        what was before, nobody else may be seen to change any object of the server, or any other
+        one than `whose`."""
         if known.seen is None or known.found is None:
             return
         ctime = known.found.ctime
         is_over = not waits and ctime[1] > 0 or self.is_over(known, ctime, source)
         if is_over or ctime[1]:
             is_sure = is_over and known.loose < source.frame
-            self.add(rule, one.source, text, source, None if is_sure else (one.server, OTHERS),
-                     *unless)
+            self.add(rule, one.source, text, source,
+                     None if is_sure else (whose or one.server, OTHERS), *unless)
 
     def observe(self, one: RecordedExchange, told: StatedAttributes) -> None:
         """Takes what a reply says of an object before it is known what the call did."""
@@ -316,6 +319,7 @@ class Objects:
             known.forget()
             if not known.is_blind:
                 self.denied.add((known.key[0], OTHERS))
+                self.others[known.key[0]].add(known.key)
         if is_moved:
             return
         self.looked.attributes += 1
@@ -333,8 +337,8 @@ class Objects:
             names, now = Attributes._fields[:3], found[:3]
             text = changes_in_words(names, now, was, seen.source)
             self.find(one, known, 'wcc-before', f'before the call {text}', seen.source,
-                      self.started(one.server, seen.epoch),
-                      waits=found.ctime == was.ctime)
+                      self.started(one.server, seen.epoch), waits=found.ctime == was.ctime,
+                      whose=known.key)
 
     def other(self, known: Object, seen: Sight, now: Sight) -> None:
         """Looks at attributes that are others, though no recorded change came between. They do not
@@ -342,10 +346,13 @@ class Objects:
         what was between was never there."""
         server, earlier = known.key[0], known.earlier
         has_links = self.relinked[server] < seen.source.end
+        is_same = now.now.ctime == seen.now.ctime
         values, was = lasting(now.now, has_links), lasting(seen.now, has_links)
         start = self.started(server, (earlier or seen).epoch)
-        if now.now.ctime != seen.now.ctime:
+        is_over = not is_same or self.is_over(known, seen.now.ctime, seen.source)
+        if not is_same:
             self.denied.add(now.source.number)
+        known.earlier = seen
         if earlier and values == lasting(earlier.now, has_links) != was \
                 and earlier.source.end < seen.source.begin \
                 and seen.source.end < now.source.begin:
@@ -353,14 +360,11 @@ class Objects:
             self.denied.add((known.key, seen.source.number))
             where = f'before ({earlier.source.words}) and after ({now.source.words})'
             self.add('returns', seen.source, changes_in_words(LASTING, was, values, where),
-                     now.source, start)
+                     now.source, start, None if is_over else (known.key, OTHERS))
             known.earlier = None
-            return
-        if now.now.ctime == seen.now.ctime and values != was \
-                and self.is_over(known, seen.now.ctime, seen.source):
+        elif is_same and values != was and is_over:
             self.add('same-ctime', now.source, changes_in_words(LASTING, values, was, seen.source),
                      seen.source, (known.key, now.source.number), start)
-        known.earlier = seen
 
     def settle(self, one: RecordedExchange, told: StatedAttributes) -> None:
         """Takes the attributes of an object as those of rest, if nothing else changed it."""

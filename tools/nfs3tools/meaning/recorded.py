@@ -117,10 +117,10 @@ class RecordedExchange:
             return None
         return False if self.is_ok else True if self.status == EXIST else None
 
-    def is_unsure(self, handle: str, name: str) -> bool:
-        """Whether it cannot be known what the call did to a name."""
+    def is_unsure(self) -> bool:
+        """Whether it cannot be known what the call did to its names."""
         return self.status in UNSURE or self.sent > 1 or any(
-            (handle, name) in change.names for change in self.beside(handle))
+            name in change.names for name in self.names for change in self.beside(name[0]))
 
     def beside(self, handle: str | None = None) -> Iterator['PossibleChange']:
         """Iterates over the other changes of an object that overlap the exchange in time: of that
