@@ -20,7 +20,7 @@ from .scripts import (
 
 AID = 'A reader\'s aid, and no part of what is proved.'
 # The name of an item comes after whose it is.
-ITEM = re.compile(r'byte (\d+): (?:[\w ]+\.)?(\w+)( \((?:its length|residual bytes)\))? = '
+ITEM = re.compile(r'byte (\d+): (?:[\w -]+\.)?(\w+)( \((?:its length|residual bytes)\))? = '
                   r'(\'.*\'|b[\'"].*[\'"](?:\.\.)?|\S+)(?: \((.*)\))?')
 MOST_MEMORY = 56 << 20  # bytes
 MOST_OF_A_RECORDING = 34 << 20  # bytes, of one with many frames
@@ -53,7 +53,8 @@ def fields_of_a_reply(tools: Tools) -> None:
         'byte 16: verf_body (its length) = 0',
         'byte 20: accept_stat = 0 (SUCCESS)', 'byte 24: status = 0 (NFS3_OK)',
         'byte 28: obj.type = 2 (NF3DIR)',
-        'byte 32: obj.mode = 1005 (1755)', 'byte 36: obj.nlink = 3', 'byte 40: obj.uid = 7', 'byte 44: obj.gid = 8',
+        'byte 32: obj.mode = 1005 (1755)', 'byte 36: obj.nlink = 3', 'byte 40: obj.uid = 7',
+        'byte 44: obj.gid = 8',
         'byte 48: obj.size = 34', f'byte 56: obj.used = {values[7] << 32 | values[8]}',
         f'byte 64: obj.rdev1 = {values[9]}', f'byte 68: obj.rdev2 = {values[10]}',
         f'byte 72: obj.fsid = {values[11] << 32 | values[12]}',
