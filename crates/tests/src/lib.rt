@@ -16,4 +16,6 @@ mod messages;
 #[cfg(test)]
 mod programs;
 #[cfg(test)]
+mod recordings;
+#[cfg(test)]
 mod samples;

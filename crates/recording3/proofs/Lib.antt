@@ -1,0 +1,11 @@
+pub mod Exactly
+pub mod ExtensionHeaders
+pub mod IpLemmas
+pub mod Ipv6Reasons
+pub mod LinkLemmas
+pub mod PcapLemmas
+pub mod PcapngLemmas
+pub mod ReasonsLemmas
+pub mod SegmentsLemmas
+pub mod TcpLemmas
+pub mod TunnelsLemmas

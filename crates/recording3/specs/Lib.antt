@@ -1,0 +1,9 @@
+pub mod Ip
+pub mod Link
+pub mod Octets
+pub mod Pcap
+pub mod Pcapng
+pub mod Reasons
+pub mod Segments
+pub mod Tcp
+pub mod Tunnels
