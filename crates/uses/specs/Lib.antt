@@ -1,3 +1,4 @@
 pub mod Counting
 pub mod Naming
+pub mod Recordings
 pub mod Summing
