@@ -1,7 +1,8 @@
 -- A tunnel leads to one datagram.
 use Rattle.std.proofs.Common.{◌≡◌, ◌≢◌, ◌⊎◌, ℕ, ◌+◌, ◌∙◌, inl, inr, sym, subst, List, arith}
 use Rattle.recording3.specs.Link.{IsTyped, NoTyped, ether_type_of}
-use Rattle.recording3.specs.Tunnels.{IsBare, IsGre, IsInner, IsTunnel, IsUdpTunnel, NoBare, NoGre, NoInner, NoTunnel, NoUdpTunnel}
+use Rattle.recording3.specs.Octets.{octets}
+use Rattle.recording3.specs.Tunnels.{IsBare, IsGre, IsInner, IsTunnel, IsUdpTunnel, NoBare, NoGre, NoInner, NoTunnel, NoUdpTunnel, IsTunnelPort, IsVxlan, IsGeneve}
 use Rattle.recording3.specs.declared.link.Placed.{Placed}
 use Rattle.recording3.specs.declared.parts.Datagram.{Datagram}
 use Rattle.recording3.specs.declared.parts.NoSegment.{NoSegment}
@@ -37,13 +38,24 @@ same_udp frame at p q (w, inl h) (v, inr g) =
 same_udp frame at p q (w, inr h) (v, inl g) =
     absurd (let a = h.port in let b = g.port in omega arith)
 
+either_port : (port : ℕ) → (port ≡ 4789) ⊎ (port ≡ 8472) → IsTunnelPort port
+either_port port (inl e) = inl e
+either_port port (inr e) = inr (inl e)
+
+to_tunnel_port : (frame : List ℕ) (at : ℕ) (p : Placed) → IsVxlan frame at p ⊎ IsGeneve frame at p
+    → IsTunnelPort (octets frame (at + 2) 2)
+to_tunnel_port frame at p (inl h) = either_port _ h.port
+to_tunnel_port frame at p (inr h) = inr (inr h.port)
+
 some_udp : (frame : List ℕ) (at : ℕ) (p : Placed) → IsUdpTunnel frame at p
     → IsNone (NoUdpTunnel frame at)
 some_udp frame at p h =
-    none _ _ _ (λ f. let w = h.0 in omega arith) (none _ _ _ (λ f. f p h) none_never)
+    none _ _ _ (λ f. let w = h.0 in omega arith)
+    (none _ _ _ (λ f. f (to_tunnel_port frame at p h.1))
+    (none _ _ _ (λ f. let w = h.0 in omega arith) (none _ _ _ (λ f. f p h) none_never)))
 
 one_udp : (frame : List ℕ) (at : ℕ) → IsOne (NoUdpTunnel frame at)
-one_udp frame at = one _ _ _ (one _ _ _ one_never)
+one_udp frame at = one _ _ _ (one _ _ _ (one _ _ _ (one _ _ _ one_never)))
 
 same_tunnel : (frame : List ℕ) (d : Datagram) (p q : Placed) → IsTunnel frame d p
     → IsTunnel frame d q → p ≡ q

@@ -51,12 +51,18 @@ pub record IsGeneve (frame : List ℕ) (at : ℕ) (p : Placed) : Type 0 where
 abbrev pub IsUdpTunnel : List ℕ → ℕ → Placed → Type 0
 IsUdpTunnel frame at p = (at + 16 ≤ length frame) × (IsVxlan frame at p ⊎ IsGeneve frame at p)
 
+-- a port to which tunnels are sent
+abbrev pub IsTunnelPort : ℕ → Type 0
+IsTunnelPort port = (port ≡ 4789) ⊎ (port ≡ 8472) ⊎ (port ≡ 6081)
+
 -- why it is none: the first of these reasons
 abbrev pub NoUdpTunnel : List ℕ → ℕ → NoSegment → Type 0
 NoUdpTunnel frame at =
-    When (length frame < at + 16) Cut
+    When (length frame < at + 8) Cut
+    (When (IsTunnelPort (octets frame (at + 2) 2) → ⊥) NotTcp
+    (When (length frame < at + 16) Cut
     (When ((p : Placed) → IsUdpTunnel frame at p → ⊥) NotTcp
-    Never)
+    Never)))
 
 -- What the datagram carries as a tunnel: IPv4 (RFC 2003), IPv6 (RFC 4213), GRE, or UDP with a
 -- tunnel in it. An Ethernet type and where what it names begins.

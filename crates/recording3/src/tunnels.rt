@@ -74,11 +74,18 @@ fn in_udp(frame: &[u8], at: usize) -> Result<Placed, NoSegment>
     ensures near { IfOk result (λ p. p.at < length frame.now + 8192) }
     ensures err { IfErr result (NoUdpTunnel frame.now at) }
 {
+    if frame.len() < at + 8 {
+        return Err(NoSegment::Cut);
+    }
+    let port = two(frame, at + 2);
+    if port != 4789 && port != 8472 && port != 6081 {
+        return Err(NoSegment::NotTcp);
+    }
     if frame.len() < at + 16 {
         return Err(NoSegment::Cut);
     }
     let flags = frame[at + 8];
-    match two(frame, at + 2) {
+    match port {
         4789 | 8472 if flags / 8 % 2 == 1 => Ok(Placed {
             kind: 0x6558,
             at: at + 16,
