@@ -11,7 +11,7 @@ from .test_rules import (
     ACCESS, CREATE, FSINFO, GETATTR, LOOKUP, NOENT, READDIR, READDIRPLUS, RENAME, SETATTR, WRITE,
     ROOT, Step, any_order, got, looked)
 
-READLINK, READ, COMMIT, FSSTAT, PATHCONF = 5, 6, 21, 18, 20
+READLINK, FSSTAT, PATHCONF = 5, 18, 20
 W, NAME = b'folder', b'handle f'
 FOLDER, FILE = looked(b'w', W, 3), looked(b'f', NAME, 7, folder=W)
 START = [ROOT, FOLDER, FILE, got(W, 3, kind=2), got(NAME, 7)]
