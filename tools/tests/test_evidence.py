@@ -94,6 +94,14 @@ def a_value_that_nothing_set(place: Comparisons) -> None:
                   [set_to(0o600), wrote(4, 4, mode=mode)], wanted)
 
 
+def a_change_that_was_sent_again(place: Comparisons) -> None:
+    """It may be carried out until its last reply, or later if it was sent more often."""
+    old, new = got(NAME, 7), got(NAME, 7, mode=0o600)
+    for answered, wanted in ((1, 0), (2, 1)):
+        change = set_to(0o600, sent=2, answered=answered)
+        explained(place, f'{answered}', [old, change, new], [old, change, old], wanted)
+
+
 def bits_that_a_write_clears(place: Comparisons) -> None:
     """A WRITE may clear the bits of set-user-id and set-group-id, and no other ones."""
     first = set_to(0o6755, shown=0o6755)._replace(client=0)

@@ -166,8 +166,8 @@ class Outlines:
                     continue
                 said_before[at].add(own)
             self.add_reply(at, line.record, said)
-            if line.procedure in CHANGING and not is_done(line.text):
-                self.unmade.add(at)
+            if line.procedure in CHANGING:
+                self.take_status(at, is_done(line.text), line.record == self.replies[at])
             self.learn(at, line.procedure, line.text, named.get(at, 0))
 
     def add_call(self, line: Line, said: int) -> None:
@@ -188,6 +188,13 @@ class Outlines:
             self.further.setdefault(at, []).append(record)
         else:
             self.replies[at] = record
+
+    def take_status(self, at: int, is_ok: bool, is_first: bool) -> None:
+        """Notes whether a call has changed something: one of its replies says so."""
+        if is_ok:
+            self.unmade.discard(at)
+        elif is_first:
+            self.unmade.add(at)
 
     def learn(self, at: int, procedure: str, rest: str, name: int) -> None:
         """Learns from a reply which objects its call has reached."""

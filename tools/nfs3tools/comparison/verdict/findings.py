@@ -319,7 +319,7 @@ class Explaining:
 
     def of_the_silent(self, is_strict: bool) -> Iterator[Finding]:
         for pair, changes in self.by_order.items():
-            why = self.named(changes[0]) if changes else 'names of removed files'
+            why = self.named(changes[0]) if changes else 'other places of its entries'
             yield self.of_both('explained', pair, why)
         yield from () if is_strict else self.of_sent_again()
         for own in self.runs:
