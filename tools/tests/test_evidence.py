@@ -228,6 +228,22 @@ def results_that_no_other_answer_has(place: Comparisons) -> None:
         alone(place, what, both, extra, wanted)
 
 
+def equal_answers_that_a_run_does_not_allow(place: Comparisons) -> None:
+    """They are noted in each form, and change no status."""
+    old, new = got(NAME, 7), got(NAME, 7, mode=0o600)
+    for last, wanted in ((old, 1), (new, 0)):
+        said = any_order(place, [*START, listed(b'f'), old, set_to(0o600), ROOT, new],
+                         [*START, set_to(0o600), listed(b'f', mode=0o600), last, ROOT, new])
+        notes = [line for line in said.lines if line.startswith('note: ')]
+        place.want(f'{wanted}', (said.status, len(notes), len(said.json.get('noted', []))),
+                   (0, wanted, wanted))
+        place.want('why', ['mode: the changes and the other answers of the second run do not '
+                           'allow it' in line for line in notes], [True] * wanted)
+        place.compare('--order', 'any', '--html', 'out.html', '--junit', 'out.xml', 'a', 'b')
+        place.want('pages', [b'note: ' in (place.read(name) or b'')
+                             for name in ('out.html', 'out.xml')], [bool(wanted)] * 2)
+
+
 def why_an_answer_is_not_explained(place: Comparisons) -> None:
     """A finding says whether its run does not allow a value, or does not know it."""
     for mode, shown, words in (
