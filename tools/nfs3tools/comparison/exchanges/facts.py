@@ -8,7 +8,7 @@ from collections.abc import Container, Hashable, Iterable
 from functools import cache
 
 from ...exchanges.answering import REPLY_STATUS
-from ...exchanges.history import STILL, CarriedOut, History
+from ...exchanges.history import CarriedOut, History
 from ...exchanges.listing import Line
 from ...exchanges.procedures import ACCESS, CHANGING, LISTINGS, LOOKUP, is_of_files
 from ...exchanges.statements import names_in_call, statements_in
