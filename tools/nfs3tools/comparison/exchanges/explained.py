@@ -292,10 +292,11 @@ class OrderRule:
             lines = [history.timeline(key) for history in self.histories]
             for pair in ((one.source, pairing.partners[one.source]) for one in lines[0].sights.begun
                          if not lines[0].changes.of_source.get(one.source)):
-                wrong = [run for run, (line, at) in enumerate(zip(lines, pair))
+                is_asked = pair[1] != NOBODY and self.otherwise.change(pair, key)
+                wrong = [run for run, (line, at) in enumerate(zip(lines, pair)) if is_asked
                          for one in line.sights.of_source.get(at, ())
                          if self.allows(run, at, Claim(key, one.value)) is False]
-                if wrong and pair[1] != NOBODY and self.otherwise.change(pair, key):
+                if wrong:
                     label = 'name' if key[1][0] == '/' else key[1]
                     yield pair, f'{label}: {NOT_ALLOWED.format(RUN_WORDS[wrong[0]])}'
 
