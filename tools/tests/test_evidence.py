@@ -237,8 +237,8 @@ def equal_answers_that_a_run_does_not_allow(place: Comparisons) -> None:
         notes = [line for line in said.lines if line.startswith('note: ')]
         place.want(f'{wanted}', (said.status, len(notes), len(said.json.get('noted', []))),
                    (0, wanted, wanted))
-        place.want('why', ['mode: the changes and the other answers of the second run do not '
-                           'allow it' in line for line in notes], [True] * wanted)
+        place.want('why', ['mode: the recorded changes and the other answers of the second run '
+                           'do not allow it' in line for line in notes], [True] * wanted)
         place.compare('--order', 'any', '--html', 'out.html', '--junit', 'out.xml', 'a', 'b')
         place.want('pages', [b'note: ' in (place.read(name) or b'')
                              for name in ('out.html', 'out.xml')], [bool(wanted)] * 2)
@@ -247,8 +247,8 @@ def equal_answers_that_a_run_does_not_allow(place: Comparisons) -> None:
 def why_an_answer_is_not_explained(place: Comparisons) -> None:
     """A finding says whether its run does not allow a value, or does not know it."""
     for mode, shown, words in (
-            (0o777, None, 'obj.mode: the changes and the other answers of the second run do not '
-             'allow it'),
+            (0o777, None, 'obj.mode: the recorded changes and the other answers of the second run '
+             'do not allow it'),
             (0o600, 0o600, '')):
         said = any_order(place, [*START, got(NAME, 7), set_to(0o600)],
                          [*START, set_to(0o600, shown=shown), got(NAME, 7, mode=mode)])

@@ -33,8 +33,8 @@ TIMES_OF_FILES = frozenset(('atime', 'mtime', 'ctime', 'used'))
 FOLLOWING_ITEMS = {'fileid': 'ids', 'fsid': 'fsids', 'cookie': 'cookies',
                    'cookieverf': 'cookieverfs'}
 NOT_KNOWN, NOT_ALLOWED = (
-    'not known: no change and no other answer of the {} run says what it was',
-    'the changes and the other answers of the {} run do not allow it')
+    'not known: no recorded change and no other answer of the {} run says what it was',
+    'the recorded changes and the other answers of the {} run do not allow it')
 RUN_WORDS = ('first', 'second')
 EntryKey = object  # the name of an entry, or the object of one whose name is masked
 
