@@ -1,4 +1,5 @@
 """Tests of what `tools/compare --order any` explains: a wrong answer, and beside it a sound one."""
+import random
 from collections.abc import Iterable, Sequence
 from typing import Any
 
@@ -6,6 +7,7 @@ from examples import messages
 from examples.messages import (
     dirop, failed, fattr, fh, guard, hyper, made, ok, opaque, post_op_attr, sattr, wcc, word)
 
+from ..nfs3tools.exchanges.timelines import Highest, Sighting, Spans
 from .comparisons import Comparisons
 from .test_rules import (
     ACCESS, CREATE, FSINFO, GETATTR, LOOKUP, NOENT, READDIR, READDIRPLUS, RENAME, SETATTR, WRITE,
@@ -52,6 +54,25 @@ def wrote(end: int, size: int, client: int = 0, mode: int = 0o644, **options: An
     arguments = fh(NAME) + hyper(end - 4) + word(4) + word(0) + opaque(b'data')
     results = ok(wcc(None, fattr(1, 7, size, mode=mode)), word(4), word(0), b'verifier')
     return Step(WRITE, arguments, results, client=client, **options)
+
+
+def what_is_found_by_frames(place: Comparisons) -> None:
+    """Changes and answers are those that a look at all of them finds."""
+    chance = random.Random(5)
+    for _ in range(200):
+        some = [Sighting(begin, begin + chance.randrange(9), source, None)
+                for source in range(chance.randrange(12)) for begin in [chance.randrange(40)]]
+        spans, begin = Spans(some), chance.randrange(40)
+        end = begin + chance.randrange(9)
+        before = [one for one in some if one.end < begin]
+        last = max((one.begin for one in before), default=0)
+        place.want('between', sorted(spans.between(begin, end)),
+                   sorted(one for one in some if one.begin <= end and one.end >= begin))
+        place.want('latest', sorted(spans.latest(begin)),
+                   sorted(one for one in before if one.end >= last))
+        ends = [one.end for one in some]
+        first = len(ends) // 3
+        place.want('highest', Highest(ends).of(first, len(ends)), max(ends[first:], default=0))
 
 
 # --- Attributes ---
