@@ -203,42 +203,6 @@ def arguments(step: Step, folder: bytes, handle: bytes) -> bytes:
 
 # --- Clients ---
 
-def script_of(chance: random.Random, number: int, clients: int) -> list[Step]:
-    """The calls of a client. Names of its own begin with its number, and client 0 alone sets what
-    a shared file has."""
-    own, out = dict[bytes, int](), list[Step]()
-    for turn in range(chance.randrange(6, 16)):
-        name, mode = b'%d-%d' % (number, turn), chance.choice((0o600, 0o644, 0o4755, 0o755))
-        shared = chance.choice(SHARED)
-        others = b'%d-%d' % (chance.randrange(clients), chance.randrange(8))
-        choices = [question(chance, others), question(chance, others), Step(READDIR),
-                   Step(WRITE, SHARED[0], 100 * chance.randrange(20)), Step(CREATE, name, mode),
-                   Step(MKDIR, name, 0o755), Step(LINK, shared, other=name)]
-        if number == 0:
-            # (a WRITE clears bits of a mode, so these come in one order)
-            choices += [Step(SETATTR, SHARED[1], mode, 'mode'), Step(WRITE, SHARED[1], 700),
-                        Step(SETATTR, SHARED[0], mode & ~SET_ID, 'mode'),
-                        Step(SETATTR, SHARED[0], chance.randrange(1000, 1004), 'uid')]
-        for old, procedure in own.items():
-            removing = RMDIR if procedure == MKDIR else REMOVE
-            choices += [Step(RENAME, old, other=name), Step(removing, old)]
-        step = chance.choice(choices)
-        if step.procedure in (CREATE, MKDIR, LINK):
-            own[name] = step.procedure
-        elif step.name in own:
-            procedure = own.pop(step.name)
-            own.update({name: procedure} if step.procedure == RENAME else {})
-        out.append(step)
-    return out
-
-
-def question(chance: random.Random, name: bytes) -> Step:
-    """A call that asks for a name, for a shared file, or for the folder."""
-    shared = chance.choice(SHARED)
-    return chance.choice([Step(GETATTR), Step(GETATTR, shared), Step(ACCESS, shared),
-                          Step(LOOKUP, name), Step(LOOKUP, shared), Step(READDIRPLUS)])
-
-
 @dataclass
 class Client:
     """A client: the rest of its script, its call that waits for a reply, and the results of that

@@ -1,4 +1,5 @@
 """Tests of what `tools/compare --order any` explains: a wrong answer, and beside it a sound one."""
+import random
 from collections.abc import Iterable, Sequence
 from typing import Any
 
@@ -6,12 +7,13 @@ from examples import messages
 from examples.messages import (
     dirop, failed, fattr, fh, guard, hyper, made, ok, opaque, post_op_attr, sattr, wcc, word)
 
+from ..nfs3tools.exchanges.timelines import Highest, Sighting, Spans
 from .comparisons import Comparisons
 from .test_rules import (
     ACCESS, CREATE, FSINFO, GETATTR, LOOKUP, NOENT, READDIR, READDIRPLUS, RENAME, SETATTR, WRITE,
     ROOT, Step, any_order, got, looked)
 
-READLINK, READ, COMMIT, FSSTAT, PATHCONF = 5, 6, 21, 18, 20
+READLINK, FSSTAT, PATHCONF = 5, 18, 20
 W, NAME = b'folder', b'handle f'
 FOLDER, FILE = looked(b'w', W, 3), looked(b'f', NAME, 7, folder=W)
 START = [ROOT, FOLDER, FILE, got(W, 3, kind=2), got(NAME, 7)]
@@ -54,6 +56,25 @@ def wrote(end: int, size: int, client: int = 0, mode: int = 0o644, **options: An
     return Step(WRITE, arguments, results, client=client, **options)
 
 
+def what_is_found_by_frames(place: Comparisons) -> None:
+    """Changes and answers are those that a look at all of them finds."""
+    chance = random.Random(5)
+    for _ in range(200):
+        some = [Sighting(begin, begin + chance.randrange(9), source, None)
+                for source in range(chance.randrange(12)) for begin in [chance.randrange(40)]]
+        spans, begin = Spans(some), chance.randrange(40)
+        end = begin + chance.randrange(9)
+        before = [one for one in some if one.end < begin]
+        last = max((one.begin for one in before), default=0)
+        place.want('between', sorted(spans.between(begin, end)),
+                   sorted(one for one in some if one.begin <= end and one.end >= begin))
+        place.want('latest', sorted(spans.latest(begin)),
+                   sorted(one for one in before if one.end >= last))
+        ends = [one.end for one in some]
+        first = len(ends) // 3
+        place.want('highest', Highest(ends).of(first, len(ends)), max(ends[first:], default=0))
+
+
 # --- Attributes ---
 
 def attributes_of_a_folder_in_which_something_is_made(place: Comparisons) -> None:
@@ -92,6 +113,14 @@ def a_value_that_nothing_set(place: Comparisons) -> None:
                   [set_to(0o600), listed(b'f', mode=mode)], wanted)
         explained(place, f'{mode:o} in a WRITE', [wrote(4, 4), set_to(0o600)],
                   [set_to(0o600), wrote(4, 4, mode=mode)], wanted)
+
+
+def a_change_that_was_sent_again(place: Comparisons) -> None:
+    """It may be carried out until its last reply, or later if it was sent more often."""
+    old, new = got(NAME, 7), got(NAME, 7, mode=0o600)
+    for answered, wanted in ((1, 0), (2, 1)):
+        change = set_to(0o600, sent=2, answered=answered)
+        explained(place, f'{answered}', [old, change, new], [old, change, old], wanted)
 
 
 def bits_that_a_write_clears(place: Comparisons) -> None:
@@ -220,11 +249,27 @@ def results_that_no_other_answer_has(place: Comparisons) -> None:
         alone(place, what, both, extra, wanted)
 
 
+def equal_answers_that_a_run_does_not_allow(place: Comparisons) -> None:
+    """They are noted in each form, and change no status."""
+    old, new = got(NAME, 7), got(NAME, 7, mode=0o600)
+    for last, wanted in ((old, 1), (new, 0)):
+        said = any_order(place, [*START, listed(b'f'), old, set_to(0o600), ROOT, new],
+                         [*START, set_to(0o600), listed(b'f', mode=0o600), last, ROOT, new])
+        notes = [line for line in said.lines if line.startswith('note: ')]
+        place.want(f'{wanted}', (said.status, len(notes), len(said.json.get('noted', []))),
+                   (0, wanted, wanted))
+        place.want('why', ['mode: the recorded changes and the other answers of the second run '
+                           'do not allow it' in line for line in notes], [True] * wanted)
+        place.compare('--order', 'any', '--html', 'out.html', '--junit', 'out.xml', 'a', 'b')
+        place.want('pages', [b'note: ' in (place.read(name) or b'')
+                             for name in ('out.html', 'out.xml')], [bool(wanted)] * 2)
+
+
 def why_an_answer_is_not_explained(place: Comparisons) -> None:
     """A finding says whether its run does not allow a value, or does not know it."""
     for mode, shown, words in (
-            (0o777, None, 'obj.mode: the changes and the other answers of the second run do not '
-             'allow it'),
+            (0o777, None, 'obj.mode: the recorded changes and the other answers of the second run '
+             'do not allow it'),
             (0o600, 0o600, '')):
         said = any_order(place, [*START, got(NAME, 7), set_to(0o600)],
                          [*START, set_to(0o600, shown=shown), got(NAME, 7, mode=mode)])

@@ -512,4 +512,4 @@ def each_error_names_its_run(place: Findings) -> None:
         for words in ((name, 'a'), ('a', name)):
             status, out, error = place.compare(*words)
             place.want(f'{words}', (status, out, error.startswith(f'compare: {name}: {told}'),
-                                    error.count('\n')), (2 + (name == 'absent'), [], True, 1))
+                                    error.count('\n')), (2, [], True, 1))

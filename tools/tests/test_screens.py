@@ -23,7 +23,7 @@ from tests.shared.running import ended
 from ..nfs3tools.recordings.frames import Recording, Source, opened
 from ..nfs3tools.recordings.taken import share_of, size_of
 from ..nfs3tools.shared.progress import Progress
-from ..nfs3tools.shared.screens import Colour, Screen, Styled, panels, table_lines
+from ..nfs3tools.shared.screens import Colour, Screen, Styled, table_lines
 from .comparisons import Comparisons
 from .scripts import TOP, Tools, connection_of, sums, whole
 from .test_accepted import run
@@ -77,41 +77,21 @@ def recording(status: int = 0) -> bytes:
     return pcap(connection_of(calls, replies))
 
 
-def lines_that_fit_are_as_elsewhere(tools: Tools) -> None:
-    """Cells that do not fit are wrapped, or below if need be."""
-    rows = [Styled(['name', 'n', 'what']),
-            Styled(['abc', '12', 'one two three four five six seven']),
-            Styled(['abcdefgh', '3', '-'], Colour.RED)]
-    fitting = ['name      n   what', 'abc       12  one two three four five six seven',
-               'abcdefgh  3   -']
-    for width in (None, 47):
-        tools.want(f'{width} columns', list(table_lines(rows, Screen(width))), fitting)
-    tools.want('wrapped', list(table_lines(rows, Screen(38))),
-               ['name      n   what', 'abc       12  one two three four five',
-                ' ' * 14 + 'six seven', 'abcdefgh  3   -'])
-    tools.want('below', list(table_lines(rows, Screen(37))),
-               ['name      n', '    what', 'abc       12', '    one two three four five six seven',
-                'abcdefgh  3', '    -'])
-    tools.want('colour', list(table_lines(rows, Screen(None, True))),
-               [*fitting[:2], f'abcdefgh  3   {RED}-{END}'])
-    tools.want('to the right', list(table_lines(rows, Screen(), [1]))[2], 'abcdefgh   3  -')
-
-
-def panels_repeat_the_first_column(tools: Tools) -> None:
-    """A table that is too wide has its columns below each other, each part with the first one."""
-    rows = [Styled(['name', 'one', 'two', 'three', 'text']), Styled(['a', '1', '22', '333', 'x'])]
-    tools.want('as it is', list(panels(rows, Screen(), range(1, 4))),
-               ['name  one  two  three  text', 'a       1   22    333  x'])
-    tools.want('two', list(panels(rows, Screen(16), range(1, 4))),
-               ['name  one  two', 'a       1   22', 'name  three  text', 'a       333  x'][:2]
-               + ['name  three', 'a       333', 'name  text', 'a     x'])
-
-
-def a_long_word_is_broken(tools: Tools) -> None:
-    """Nothing is wider than the terminal, and nothing is lost."""
-    lines = Screen(10).wrapped('a-b-c ' + 'x' * 25, 2)
-    tools.want('widths', [len(line) for line in lines], [8, 8, 8, 7][:len(lines)])
-    tools.want('all', ''.join(lines).replace(' ', ''), 'a-b-c' + 'x' * 25)
+def tables(tools: Tools) -> None:
+    """Columns are aligned, the last cell has the colour, and a table may be cut."""
+    rows = [Styled(['name', 'n', 'what']), Styled(['abc', '12', 'one two']),
+            Styled(['abcdefgh', '3', 'three'], Colour.RED)]
+    whole_lines = ['name      n   what', 'abc       12  one two', 'abcdefgh  3   three']
+    for width in (None, 10):
+        tools.want(f'{width} columns', list(table_lines(rows, Screen(width))), whole_lines)
+    tools.want('colour', list(table_lines(rows, Screen(None, True)))[2],
+               f'abcdefgh  3   {RED}three{END}')
+    tools.want('to the right', list(table_lines(rows, Screen(), [1]))[2], 'abcdefgh   3  three')
+    for width in (3, 12, 16, 40):
+        tools.want(f'cut at {width}', list(table_lines(rows, Screen(width), is_cut=True)),
+                   [line[:width] for line in whole_lines])
+    tools.want('cut, in colour', list(table_lines(rows, Screen(16, True), is_cut=True))[2],
+               f'abcdefgh  3   {RED}th{END}')
 
 
 # --- Colours ---
@@ -121,10 +101,11 @@ def verdicts_have_colours(tools: Tools) -> None:
     tools.write('a.pcap', pcap(whole()))
     tools.write('lost.pcap', pcap(whole()[:4] + whole()[5:]))
     bad = str(TOP / 'examples/bad_status.pcap')
-    status, lines = on_terminal(tools, 200, 'verdicts', 'a.pcap', 'lost.pcap', bad, 'absent')
+    tools.write('text', b'text')
+    status, lines = on_terminal(tools, 200, 'verdicts', 'a.pcap', 'lost.pcap', bad, 'text')
     words = [re.findall('\x1b\\[(\\d+)m(\\w+ ?\\w*)', line) for line in lines]
     tools.want('words', [found[0] for found in words if found],
-               [('32', 'ok'), ('33', 'ok in'), ('31', 'server record'), ('31', 'absent')])
+               [('32', 'ok'), ('33', 'ok in'), ('31', 'server record'), ('31', 'it is')])
     tools.want('heads and sums', (words[0], words[-1], status), ([], [], 1))
 
 
@@ -175,57 +156,22 @@ def comparisons_have_colours_as_diff(tools: Tools) -> None:
                                                   'b')[1][1][:5], colour)
 
 
-# --- Tables that fit ---
+# --- Tables on a terminal ---
 
-def verdicts_fit(tools: Tools) -> None:
-    """In 60 columns nothing is lost, and a long verdict is below its row."""
-    tools.write('a.pcap', pcap(whole()))
-    lines = bare(on_terminal(tools, 60, 'verdicts', 'a.pcap')[1])
-    tools.want('lines', lines, [
-        'a.pcap:', 'connection  client         server          calls  replies', '    verdict',
-        '1           192.0.2.7:700  192.0.2.1:2049  39     39', '    ok',
-        '1 judged (1 ok, 0 refused), 0 in part, 0 left out, 0 not', 'checked, 0 errors'])
-    tools.want('quiet', bare(on_terminal(tools, 60, 'verdicts', '-q', 'a.pcap')[1]), lines[5:])
-    wide = bare(on_terminal(tools, 200, 'verdicts', 'a.pcap')[1])
-    tools.want('wide', wide, tools.tool('verdicts', 'a.pcap')[1].splitlines())
-
-
-def calls_fit(tools: Tools) -> None:
-    """In 70 columns a long call is wrapped, and its answer below it."""
+def rows_are_as_in_a_pipe(tools: Tools) -> None:
+    """Lines that end with a text are left to the terminal; numbers are cut at its width."""
     tools.write('a.pcap', recording())
-    lines = bare(on_terminal(tools, 70, 'calls', 'a.pcap')[1])
-    tools.want('wide', [line for line in lines if len(line) > 70 and 'judged' not in line], [])
-    indent = len('0.000003  0.001      4   1:1  ')
-    tools.want('short', lines[1][indent:], 'LOOKUP  ?/x' + ' ' * 15 + 'OK')
-    tools.want('long', [line[indent:] for line in lines[2:5]],
-               ['LOOKUP  ?/' + 'y' * 30, 'y' * 30, '  NFS3ERR_NOENT'])
-    coloured = on_terminal(tools, 70, 'calls', 'a.pcap')[1]
-    tools.want('red', [line[indent:] for line in coloured if '\x1b' in line],
-               [f'  {RED}NFS3ERR_NOENT{END}'])
-
-
-def procedures_fit(tools: Tools) -> None:
-    """In 80 columns there are panels or blocks, also in a pipe by --width."""
-    tools.write('a.pcap', recording())
-    lines = bare(on_terminal(tools, 80, 'procedures', '--total', 'a.pcap')[1])
-    tools.want('wide', [line for line in lines if len(line) > 80], [])
-    heads = [line for line in lines if line.startswith('procedure ')]
-    tools.want('heads', [line.split('  ')[0] for line in heads], ['procedure'] * len(heads))
-    words = re.split('  +', ' '.join(line.removeprefix('procedure') for line in heads).strip())
-    tools.want('columns', words, ['calls', 'again', 'replies', 'no reply', 'errors', 'call bytes',
-                                  'reply bytes', 'median ms', '99 % ms',
-                                  'most ms', 'mean ms', 'sum ms', 'longest'])
-    tools.want('errors beside calls', len(heads[0].split('  ')) > 5 and 'errors' in heads[0], True)
-    block = ['NFSPROC3_LOOKUP', '  calls        2', '  replies      2', '  call bytes   176',
-             '  reply bytes  168']
-    for found in (bare(on_terminal(tools, 80, 'procedures', '--beside', 'a.pcap', 'a.pcap')[1]),
-                  tools.tool('procedures', '--beside', '--width', '80',
-                             'a.pcap', 'a.pcap')[1].splitlines()):
-        at = found.index('NFSPROC3_LOOKUP')
-        tools.want('block', (found[at:at + 5], found[at + 10]),
-                   (block, '  errors       NFS3ERR_NOENT 1'))
-    plain = tools.tool('procedures', '--beside', 'a.pcap', 'a.pcap')[1].splitlines()
-    tools.want('a pipe', (len(plain), len(plain[2]) > 120), (5, True))
+    for tool in ('verdicts', 'calls'):
+        tools.want(tool, bare(on_terminal(tools, 60, tool, 'a.pcap')[1]),
+                   tools.tool(tool, 'a.pcap')[1].splitlines())
+    for words in (['--total', 'a.pcap'], ['--beside', 'a.pcap', 'a.pcap']):
+        plain = tools.tool('procedures', *words)[1].splitlines()
+        cut = [line if 'judged' in line else line[:80] for line in plain]
+        tools.want(f'{words}', bare(on_terminal(tools, 80, 'procedures', *words)[1]), cut)
+        tools.want(f'{words}, by --width',
+                   tools.tool('procedures', '--width', '80', *words)[1].splitlines(), cut)
+        tools.want(f'{words}, whole',
+                   bare(on_terminal(tools, 80, 'procedures', '--width', '0', *words)[1]), plain)
 
 
 def help_fits(tools: Tools) -> None:
@@ -236,9 +182,6 @@ def help_fits(tools: Tools) -> None:
         status, out, _ = tools.tool(tool, '--help')
         tools.want(tool, (status, [line for line in out.splitlines()
                                    if len(line) > 80 and str(TOP) not in line]), (0, []))
-    tools.write('a.pcap', recording())
-    out = tools.tool('calls', '--width', '60', 'a.pcap')[1]
-    tools.want('--width', [line for line in out.splitlines()[:-2] if len(line) > 60], [])
     tools.want('--mask', tools.tool('compare', '--mask', '-times', 'a', 'b'), (
         2, '', 'compare: error: argument --mask: expected one argument, and -times is none, since '
         'it begins with `-`\n'))

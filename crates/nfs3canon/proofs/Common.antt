@@ -9,4 +9,4 @@ pub use Rattle.program3.specs.Readings.{FileReading, IsByFailedRead, IsUnread, M
 pub use Rattle.program3.specs.declared.outcome.Outcome.{Outcome}
 pub use Rattle.std.proofs.Common.{Any, Err, Global, IfErr, IfSome, List, Ok, Option, Result, Some, String, [], ap, append_assoc, ap₂, arith, false, if◌then◌else◌, inl, inr, is_err, is_ok, length, map, refl, slice_index_or, string_bytes, subst, suc, sym, take, take_all, zero, ℕ, ◌*◌, ◌++◌, ◌+◌, ◌/◌, ◌<◌, ◌∙◌, ◌∷◌, ◌≡◌, ◌≢◌, ◌≤◌, ◌⊎◌}
 pub use Rattle.std.proofs.lemmas.List.{length-map, map-append, take_more}
-pub use Rattle.nfs3canon.specs.Files.{AreReadStreams, ComparesFiles, CountsFile, IsReadWhole, ListsFile, OneHasFailed, PacksFile, WriterRun}
+pub use Rattle.nfs3canon.specs.Files.{AreOfFirst, AreReadStreams, ComparesFiles, CountsFile, IsReadWhole, ListsFile, OneHasFailed, PacksFile, PacksNone, RefusesStreams, WriterRun}

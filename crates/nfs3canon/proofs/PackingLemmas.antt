@@ -1,21 +1,36 @@
 -- Streams that are packed pair by pair.
-use Rattle.nfs3canon.proofs.Common.{◌≡◌, ◌<◌, ◌+◌, ◌*◌, ◌/◌, ap, ap₂, sym, refl, subst, inl, inr, arith, false, is_ok, is_err, if◌then◌else◌, append_assoc, ◌∙◌, zero, suc, ℕ, List, [], ◌∷◌, ◌++◌, Option, Result, Ok, Err, Any, String, Global, length, map, take, slice_index_or, string_bytes, length-map, map-append, take_more, TracedReader, Streams, Gave, IsSpent, Error, CountsReadings, IsUnread, FileReading, reading_in, reading_under, Outcome, one_failed, observed_of, AreReadStreams, OneHasFailed, IsReadWhole, PacksFile}
+use Rattle.std.specs.Prelude.{drop}
+use Rattle.std.proofs.lemmas.List.{take-append-drop}
+use Rattle.nfs3canon.proofs.Common.{◌≡◌, ◌⊎◌, ◌<◌, ◌+◌, ◌*◌, ◌/◌, ap, ap₂, sym, refl, subst, inl, inr, arith, false, is_ok, is_err, if◌then◌else◌, append_assoc, ◌∙◌, zero, suc, ℕ, List, [], ◌∷◌, ◌++◌, Option, Result, Ok, Err, Any, String, Global, length, map, take, slice_index_or, string_bytes, length-map, map-append, take_more, TracedReader, Streams, Gave, IsSpent, Error, CountsReadings, IsUnread, FileReading, reading_in, reading_under, Outcome, one_failed, observed_of, AreOfFirst, AreReadStreams, OneHasFailed, IsReadWhole, PacksFile, PacksNone, RefusesStreams}
 use Rattle.capture3.specs.declared.fault.Error.TheVariants as errors
 use Rattle.capture3.proofs.Lemmas.Reader.ObservedLemmas.{prefix_of_observed}
+use Rattle.capture3.specs.declared.fault.Fault.{Fault}
+use Rattle.packing3.specs.Stopped.{BreaksOff, HasNoRoom}
 use Rattle.program3.specs.Files.{FailsToMake, FailsToOpenStream, FilesRun, FinishesNone}
 use Rattle.program3.specs.declared.reading.Closed.{Closed}
 use Rattle.program3.specs.declared.outcome.Outcome.TheVariants as outcomes
 use Rattle.nfs3canon.specs.machinery.Packing.{StopsPacking}
 
+-- the names under which files were opened
+abbrev pub names_read : List FileReading → List (List ℕ)
+names_read readings = map (λ reading. reading.name) readings
+
 -- ---- why a packing stops
 
-module _ (names : List (List ℕ)) (readings : List FileReading) where
+module _ (holds : List ℕ → Option (List ℕ)) (names : List (List ℕ))
+    (readings : List FileReading) where
   -- a stream was not opened
   pub stops : (outcome : Outcome) → Any (λ name. FailsToOpenStream name outcome) names
-      → StopsPacking names readings outcome
+      → StopsPacking holds names readings outcome
   stops (outcomes.Packed (Ok done)) (k, name, within, is, inl named) = absurd named
   stops (outcomes.Packed (Ok done)) (k, name, within, is, inr (inl other)) = absurd (cc)
   stops (outcomes.Packed (Ok done)) (k, name, within, is, inr (inr other)) = absurd (cc)
+  stops (outcomes.Packed (Err (errors.Refused fault))) (k, name, within, is, inl named) =
+      absurd named
+  stops (outcomes.Packed (Err (errors.Refused fault))) (k, name, within, is, inr (inl other)) =
+      absurd (cc)
+  stops (outcomes.Packed (Err (errors.Refused fault))) (k, name, within, is, inr (inr other)) =
+      absurd (cc)
   stops (outcomes.Packed (Err errors.Read)) (k, name, within, is, inl named) = absurd named
   stops (outcomes.Packed (Err errors.Read)) (k, name, within, is, inr (inl other)) = absurd (cc)
   stops (outcomes.Packed (Err errors.Read)) (k, name, within, is, inr (inr other)) = absurd (cc)
@@ -24,35 +39,57 @@ module _ (names : List (List ℕ)) (readings : List FileReading) where
 
   -- the packing met an error
   pub stops_error : (error : Error) → (error ≡ errors.Read → OneHasFailed readings)
-      → StopsPacking names readings (outcomes.Packed (Err error))
-  stops_error errors.Read failed = failed refl
-  stops_error error failed = tt
+      → ((fault : Fault) → error ≡ errors.Refused fault → RefusesStreams holds readings fault)
+      → StopsPacking holds names readings (outcomes.Packed (Err error))
+  stops_error errors.Read failed refused = failed refl
+  stops_error (errors.Refused fault) failed refused = refused fault refl
+  stops_error error failed refused = tt
+
+-- what an error says of a pair that was not added
+abbrev pub StopsAdding : (old new : Option (List ℕ)) → (pairs : List Streams) → Streams → Error
+    → Type 0
+StopsAdding old new pairs streams error =
+    ((streams ≡ record { client = []; server = [] }) × HasNoRoom old new pairs error)
+    ⊎ BreaksOff old new (pairs ++ streams ∷ []) error
 
 module _ (run : FilesRun) (output : List ℕ) (names : List (List ℕ))
-    (same : FinishesNone run.finished) where
+    (none : PacksNone run names) where
   -- no file was finished
-  pub packs_stopped : (outcome : Outcome) → StopsPacking names run.readings outcome
+  pub packs_stopped : (outcome : Outcome) → StopsPacking run.holds names run.readings outcome
       → PacksFile run output names outcome
   packs_stopped (outcomes.Packed (Ok done)) stopped = absurd stopped
-  packs_stopped (outcomes.Packed (Err errors.Read)) stopped = (stopped, same)
-  packs_stopped (outcomes.Packed (Err error)) stopped = same
-  packs_stopped outcome stopped = (inr stopped, same)
+  packs_stopped (outcomes.Packed (Err (errors.Refused fault))) stopped = (stopped, none)
+  packs_stopped (outcomes.Packed (Err errors.Read)) stopped = (stopped, none)
+  packs_stopped (outcomes.Packed (Err error)) stopped = none
+  packs_stopped outcome stopped = (inr stopped, none)
 
   not_made : (outcome : Outcome) → FailsToOpenStream output outcome
       → PacksFile run output names outcome
   not_made (outcomes.Packed (Ok done)) (inl named) = absurd named
   not_made (outcomes.Packed (Ok done)) (inr (inl other)) = absurd (cc)
   not_made (outcomes.Packed (Ok done)) (inr (inr other)) = absurd (cc)
+  not_made (outcomes.Packed (Err (errors.Refused fault))) (inl named) = absurd named
+  not_made (outcomes.Packed (Err (errors.Refused fault))) (inr (inl other)) = absurd (cc)
+  not_made (outcomes.Packed (Err (errors.Refused fault))) (inr (inr other)) = absurd (cc)
   not_made (outcomes.Packed (Err errors.Read)) (inl named) = absurd named
   not_made (outcomes.Packed (Err errors.Read)) (inr (inl other)) = absurd (cc)
   not_made (outcomes.Packed (Err errors.Read)) (inr (inr other)) = absurd (cc)
-  not_made (outcomes.Packed (Err error)) fails = same
-  not_made outcome fails = (inl fails, same)
+  not_made (outcomes.Packed (Err error)) fails = none
+  not_made outcome fails = (inl fails, none)
 
-  pub packs_none : (outcome : Outcome) → FailsToMake output names outcome
+  packs_failed : (outcome : Outcome) → FailsToMake output names outcome
       → PacksFile run output names outcome
-  packs_none outcome (inl fails) = not_made outcome fails
-  packs_none outcome (inr any) = packs_stopped outcome (stops names run.readings outcome any)
+  packs_failed outcome (inl fails) = not_made outcome fails
+  packs_failed outcome (inr any) =
+      packs_stopped outcome (stops run.holds names run.readings outcome any)
+
+-- the output was not made
+pub packs_none : (run : FilesRun) (output : List ℕ) (names : List (List ℕ)) → run.readings ≡ []
+    → FinishesNone run.finished → (outcome : Outcome) → FailsToMake output names outcome
+    → PacksFile run output names outcome
+packs_none run output names nothing same outcome fails =
+    packs_failed run output names
+    ((names, ap (λ readings. names_read readings ++ names) (sym nothing)), same) outcome fails
 
 -- the name of the stream at an index
 pub name_at : (streams : List (String Global)) (k : ℕ) (stream : String Global)
@@ -62,14 +99,16 @@ name_at [] k stream is = refl
 name_at (x ∷ streams) zero stream is = ap string_bytes (sym is)
 name_at (x ∷ streams) (suc k) stream is = name_at streams k stream is
 
-pub stops_at : (streams : List (String Global)) (readings : List FileReading) (k : ℕ)
-    (stream : String Global) (name : List ℕ) (outcome : Outcome) → k < length streams
+pub stops_at : (holds : List ℕ → Option (List ℕ)) (streams : List (String Global))
+    (readings : List FileReading) (k : ℕ) (stream : String Global) (name : List ℕ)
+    (outcome : Outcome) → k < length streams
     → stream ≡ slice_index_or streams k stream → name ≡ string_bytes stream
-    → FailsToOpenStream name outcome → StopsPacking (map string_bytes streams) readings outcome
-stops_at streams readings k stream name outcome low is named fails =
+    → FailsToOpenStream name outcome
+    → StopsPacking holds (map string_bytes streams) readings outcome
+stops_at holds streams readings k stream name outcome low is named fails =
     let within : k < length (map string_bytes streams) =
     omega (arith, low, length-map streams string_bytes) in
-    stops (map string_bytes streams) readings outcome (
+    stops holds (map string_bytes streams) readings outcome (
       k,
       string_bytes stream,
       within,
@@ -136,6 +175,12 @@ pub pushed : {A X E : Type 0} (result : Result X E) (old new : List A) (value : 
 pushed (Ok x) old new value not_failed is = is
 pushed (Err error) old new value not_failed is = absurd (cc)
 
+-- what was read of a file since it was opened
+pub given_since : {R : Type 0} (remaining : R → Option (List ℕ)) (was now : TracedReader R)
+    → was.given ≡ [] → (given : List ℕ)
+    → Gave (observed_of remaining was) (observed_of remaining now) given → now.given ≡ given
+given_since remaining was now none given gave = gave.1 ∙ ap (λ (l : List ℕ). l ++ given) none
+
 -- a file that was read to its end
 pub whole : {R : Type 0} (remaining : R → Option (List ℕ)) (holds : List ℕ → Option (List ℕ))
     (name : List ℕ) (was now : TracedReader R) → IsUnread remaining (holds name) was
@@ -143,8 +188,7 @@ pub whole : {R : Type 0} (remaining : R → Option (List ℕ)) (holds : List ℕ
     → IsSpent (observed_of remaining now) → IsReadWhole holds (reading_under name now) name given
 whole remaining holds name was now unread given gave spent = record {
   named = refl;
-  given =
-      gave.1 ∙ ap (λ (l : List ℕ). l ++ given) unread.given;
+  given = given_since remaining was now unread.given given gave;
   spent = spent.0;
   held =
       λ content is.
@@ -179,3 +223,78 @@ pair_failed X readings client server was now other other_now none other_none
       failed =
           one_failed {X = X} server other.failures other_now other_none (Err errors.Read) counts;
     }
+
+-- ---- the names of what was read
+
+module _ (holds : List ℕ → Option (List ℕ)) where
+  pub names_are_read : (names : List (List ℕ)) (readings : List FileReading) (pairs : List Streams)
+      → AreReadStreams holds names readings pairs → names_read readings ≡ names
+  names_are_read [] [] [] are = refl
+  names_are_read [] [] (pair ∷ pairs) are = absurd are
+  names_are_read [] (one ∷ readings) pairs are = absurd are
+  names_are_read (client ∷ []) readings pairs are = absurd are
+  names_are_read (client ∷ server ∷ names) [] pairs are = absurd are
+  names_are_read (client ∷ server ∷ names) (one ∷ []) pairs are = absurd are
+  names_are_read (client ∷ server ∷ names) (one ∷ other ∷ readings) [] are = absurd are
+  names_are_read (client ∷ server ∷ names) (one ∷ other ∷ readings) (pair ∷ pairs) (a, b, rest) =
+      ap₂ (λ c l. c ∷ l) a.named
+      (ap₂ (λ s l. s ∷ l) b.named (names_are_read names readings pairs rest))
+
+pub of_first : (names : List (List ℕ)) (k : ℕ) (readings : List FileReading)
+    → names_read readings ≡ take k names → AreOfFirst names readings
+of_first names k readings are = (
+  drop k names,
+  sym (take-append-drop k names) ∙ ap (λ (l : List (List ℕ)). l ++ drop k names) (sym are),
+)
+
+pub pairs_first : (holds : List ℕ → Option (List ℕ)) (names : List (List ℕ)) (k : ℕ)
+    (readings : List FileReading) (pairs : List Streams)
+    → AreReadStreams holds (take k names) readings pairs → AreOfFirst names readings
+pairs_first holds names k readings pairs are =
+    of_first names k readings (names_are_read holds (take k names) readings pairs are)
+
+module _ (streams : List (String Global)) (k : ℕ) (old new : List Closed) (one : Closed)
+    (stream : String Global) (within : k < length streams)
+    (stands : stream ≡ slice_index_or streams k stream)
+    (named : one.name.bytes ≡ string_bytes stream)
+    (are : names_read (map reading_in old) ≡ take k (map string_bytes streams)) where
+  -- one file more was read
+  pub one_more : new ≡ old ++ one ∷ []
+      → names_read (map reading_in new) ≡ take (k + 1) (map string_bytes streams)
+  one_more is =
+      let names = map string_bytes streams in
+      let low : k < length names = omega (arith, within, length-map streams string_bytes) in
+      ap (λ (l : List Closed). names_read (map reading_in l)) is
+      ∙ ap names_read (map-append reading_in old (one ∷ []))
+      ∙ map-append (λ reading. reading.name) (map reading_in old) (reading_in one ∷ [])
+      ∙ ap₂ (λ l n. l ++ n ∷ []) are named
+      ∙ sym (take_more names k (string_bytes stream) low
+      ∙ ap (λ n. take k names ++ n ∷ []) (name_at streams k stream stands))
+
+  -- or it was read, and there was no memory to note it
+  pub one_noted : {X E : Type 0} (result : Result X E)
+      → new ≡ (if is_ok result then old ++ one ∷ [] else old)
+      → AreOfFirst (map string_bytes streams) (map reading_in new)
+  one_noted (Ok x) is =
+      of_first (map string_bytes streams) (k + 1) (map reading_in new) (one_more is)
+  one_noted (Err error) is =
+      of_first (map string_bytes streams) k (map reading_in new)
+      (ap (λ (l : List Closed). names_read (map reading_in l)) is ∙ are)
+
+-- both files of a pair were read, and the first is noted
+pub both_noted : {X E : Type 0} (streams : List (String Global)) (k : ℕ)
+    (old between new : List Closed) (one other : Closed) (client server : String Global)
+    → k < length streams / 2 → client ≡ slice_index_or streams (2 * k) client
+    → server ≡ slice_index_or streams (2 * k + 1) server
+    → one.name.bytes ≡ string_bytes client → other.name.bytes ≡ string_bytes server
+    → names_read (map reading_in old) ≡ take (2 * k) (map string_bytes streams)
+    → between ≡ old ++ one ∷ [] → (result : Result X E)
+    → new ≡ (if is_ok result then between ++ other ∷ [] else between)
+    → AreOfFirst (map string_bytes streams) (map reading_in new)
+both_noted streams k old between new one other client server low client_stands server_stands
+    client_named server_named are first result second =
+    let within : 2 * k < length streams = omega (arith, low) in
+    let other_within : 2 * k + 1 < length streams = omega (arith, low) in
+    one_noted streams (2 * k + 1) between new other server other_within server_stands server_named
+    (one_more streams (2 * k) old between one client within client_stands client_named are first)
+    result second

@@ -1,7 +1,9 @@
 -- What came of a job, by what was read of its files.
-use Rattle.std.specs.Prelude.{◌≡◌, ◌≢◌, ◌⊎◌, ℕ, true, List, [], ◌∷◌, ◌++◌, IfErr, IfSome, Option, Some, Ok, Err, ⊤}
+use Rattle.std.specs.Prelude.{◌≡◌, ◌≢◌, ◌≤◌, ◌⊎◌, ℕ, true, List, [], ◌∷◌, ◌++◌, length, map, IfErr, IfSome, Option, Some, Ok, Err, ⊤}
 use Rattle.capture3.specs.declared.fault.Error.TheVariants as errors
-use Rattle.capture3.specs.Capture.{One, IsCapture}
+use Rattle.capture3.specs.declared.fault.Fault.{Fault}
+use Rattle.capture3.specs.Capture.{One, IsCapture, max_connections, total_size}
+use Rattle.capture3.specs.Chunks.{max_bytes}
 use Rattle.capture3.specs.SidedChunks.{Streams}
 use Rattle.canon3.specs.Comparison.{CountsReadingOf, DecidesSame}
 use Rattle.canon3.specs.EntryWriter.{WritesAllCounted}
@@ -10,6 +12,7 @@ use Rattle.canon3.specs.declared.comparison.verdict.Which.{Which}
 use Rattle.canon3.specs.declared.comparison.verdict.Which.TheVariants.{First, Second}
 use Rattle.listing3.specs.Listing.{shown}
 use Rattle.packing3.specs.Packed.{IsPacked}
+use Rattle.packing3.specs.Stopped.{BreaksOff, HasNoRoom}
 use Rattle.program3.specs.Files.{FailsToMake, FilesRun, FinishesNone, ReadsFile}
 use Rattle.program3.specs.Opening.{IsOfName}
 use Rattle.program3.specs.Readings.{FileReading, MayContain}
@@ -92,15 +95,50 @@ pub record OneHasFailed (readings : List FileReading) : Type 0 where
   pub split : readings ≡ front ++ reading ∷ back
   pub failed : reading.failures ≡ 1
 
+-- A capture of these pairs has no room for another, and nothing was read of these streams. Or with
+-- what was read of them it passes the limit. The fault is at the byte after all that was written.
+abbrev pub LacksRoom : (pairs : List Streams) → Streams → Fault → Type 0
+LacksRoom pairs streams fault = (written : Option (List ℕ))
+    × (((streams ≡ record { client = []; server = [] })
+    × HasNoRoom (Some []) written pairs (errors.Refused fault))
+    ⊎ BreaksOff (Some []) written (pairs ++ streams ∷ []) (errors.Refused fault))
+
+-- The streams of the last two files that were read are refused. All files before them were read to
+-- their ends, and have these pairs, which a capture may have.
+pub record RefusesStreams (holds : List ℕ → Option (List ℕ)) (readings : List FileReading)
+    (fault : Fault) : Type 0 where
+  pub names : List (List ℕ)
+  pub before : List FileReading
+  pub pairs : List Streams
+  pub whole : AreReadStreams holds names before pairs
+  pub few : length pairs ≤ max_connections
+  pub small : total_size pairs ≤ max_bytes
+  pub client : FileReading
+  pub server : FileReading
+  pub split : readings ≡ before ++ client ∷ server ∷ []
+  pub lacks : LacksRoom pairs (record { client = client.given; server = server.given }) fault
+
+-- the readings are of the first of these names, in their order
+abbrev pub AreOfFirst : (names : List (List ℕ)) → List FileReading → Type 0
+AreOfFirst names readings =
+    (others : List (List ℕ)) × (names ≡ map (λ reading. reading.name) readings ++ others)
+
+-- no file was finished, and the files that were read have the first of these names
+abbrev pub PacksNone : FilesRun → (names : List (List ℕ)) → Type 0
+PacksNone run names = AreOfFirst names run.readings × FinishesNone run.finished
+
 -- What came of packing the streams of these names. All were read to their ends, and the one file
--- that was finished has the output's name and is a capture of them. Or no file was finished: a read
--- failed, or the packing met another error, or the output was not made, or a stream not opened.
+-- that was finished has the output's name and is a capture of them. Or no file was finished: the
+-- streams were refused, or a read failed, or a write, or memory ran out, or the output was not
+-- made, or a stream not opened.
 abbrev pub PacksFile : FilesRun → (output : List ℕ) → (names : List (List ℕ)) → Outcome → Type 0
 PacksFile run output names (outcomes.Packed (Ok done)) = (pairs : List Streams)
     × AreReadStreams run.holds names run.readings pairs × ((file : List ℕ) × IsPacked file pairs
     × IsCapture One file pairs
     × (run.finished.1 ≡ record { name = output; bytes = Some file } ∷ run.finished.0))
+PacksFile run output names (outcomes.Packed (Err (errors.Refused fault))) =
+    RefusesStreams run.holds run.readings fault × PacksNone run names
 PacksFile run output names (outcomes.Packed (Err errors.Read)) =
-    OneHasFailed run.readings × FinishesNone run.finished
-PacksFile run output names (outcomes.Packed (Err error)) = FinishesNone run.finished
-PacksFile run output names outcome = FailsToMake output names outcome × FinishesNone run.finished
+    OneHasFailed run.readings × PacksNone run names
+PacksFile run output names (outcomes.Packed (Err error)) = PacksNone run names
+PacksFile run output names outcome = FailsToMake output names outcome × PacksNone run names

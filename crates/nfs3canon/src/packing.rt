@@ -3,7 +3,7 @@
 ghost use Rattle.std.specs.Prelude.{◌≡◌, ◌%◌, [], Some, IfErr, IfOk, length, map, string_bytes};
 ghost use Rattle.program3.specs.Files.{files_run};
 ghost use Rattle.program3.specs.Readings.{reading_in, readings_in};
-ghost use Rattle.nfs3canon.specs.Files.{PacksFile};
+ghost use Rattle.nfs3canon.specs.Files.{AreOfFirst, PacksFile};
 ghost use Rattle.nfs3canon.specs.machinery.Packing.{StopsPacking, WritesStreams};
 
 use canon3::ToWrite;
@@ -14,6 +14,7 @@ use std::alloc::Global;
 
 /// Packs the streams of these names, pair by pair, into a capture of another name. The output is made first,
 /// and then each pair is opened in turn. Returns what came of it, and what was read.
+#[tactic(auto, using(crate::proofs::PackingLemmas::packs_none))]
 pub fn run_pack<F: Files>(
     alloc: Global,
     files: &mut F,
@@ -70,7 +71,9 @@ fn pack_streams<F: Files>(
     ensures written { length streams.now % 2 ≡ 0 → F.Output.contents file ≡ Some []
         → IfOk result (λ file. WritesStreams (F.holds files.now) (map string_bytes streams.now)
         (map reading_in closed.new.items) (F.Output.contents file)) }
-    ensures failed { IfErr result (StopsPacking (map string_bytes streams.now)
+    ensures first { AreOfFirst (map string_bytes streams.now) (map reading_in closed.new.items) }
+    ensures failed { F.Output.contents file ≡ Some []
+        → IfErr result (StopsPacking (F.holds files.now) (map string_bytes streams.now)
         (map reading_in closed.new.items)) }
 {
     let mut packing = match Packing::start(alloc, ToWrite::new(file)) {

@@ -165,7 +165,7 @@ stops_in_chunk l0 l1 l2 w0 w1 w2 e0 e1 error full it =
       consumed = gave_both l0 l1 l2 (concat full.full) it.chunk full.consumed it.consumed;
       packed = packed_so_far full.full it.chunk full.each it.within;
       stopped = subst (λ n. IsStopped w0 w2 ((done ++ bytes) ++ word_bytes 0) e0.at n error) total
-          (stopped_before w0 w2 (done ++ bytes) (word_bytes 0) e0.at (e1.streamed + length it.chunk)
+          (stopped_before w0 w2 (done ++ bytes) e0.at (e1.streamed + length it.chunk)
           error
           (stopped_after w0 w1 w2 done bytes e0.at e1.at (e1.streamed + length it.chunk) error
           full.appended full.grows.at it.stopped));
@@ -241,7 +241,7 @@ chunk_refused l0 l1 w0 e0 error chunk n consumed many within room over is =
     (e0.at + length {A = ℕ} []) (flat_map chunk_bytes (last_chunk chunk))
     (e0.streamed + length chunk) = record {
       chunk = chunk;
-      more = [];
+      words = 0;
       begins = are;
       over = omega (arith, many, over);
       within = omega (arith, many, room);

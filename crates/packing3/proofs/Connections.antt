@@ -88,7 +88,7 @@ stops_in_client c0 c1 s0 w0 w1 w2 e0 e1 error word begun it =
       stopped =
           subst (λ n. IsStopped w0 w2 (word_bytes 1 ++ (it.bytes ++ more)) e0.at n error) total
           (stopped_after w0 w1 w2 (word_bytes 1) (it.bytes ++ more) e0.at e1.at all error word
-          begun.at (stopped_before w1 w2 it.bytes more e1.at all error it.stopped));
+          begun.at (stopped_before w1 w2 it.bytes e1.at all error it.stopped));
     }
 
 stops_in_server : (c0 c1 s0 s1 : Observed) (w0 w1 w2 w3 : Option (List ℕ)) (e0 e1 e2 : Extent)

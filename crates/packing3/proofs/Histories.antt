@@ -88,7 +88,7 @@ module _ {W : Type 0} (written : W → Option (List ℕ)) where
   broken_off old sources first w1 pairs error it h =
       let before = old.extent.streamed + size it.streams in
       let all : IsStopped first w1 ((h.front ++ it.bytes) ++ word_bytes 0) 0 before error =
-      stopped_before first w1 (h.front ++ it.bytes) (word_bytes 0) 0 before error
+      stopped_before first w1 (h.front ++ it.bytes) 0 before error
       (stopped_after first (written old.sink) w1 h.front it.bytes 0 old.extent.at before error
       h.appended (omega (arith, h.at)) it.stopped) in
       let total : before ≡ total_size (pairs ++ it.streams ∷ []) =

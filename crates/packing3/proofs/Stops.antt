@@ -1,34 +1,46 @@
 -- Where packing has stopped, in a part of the bytes and in the whole.
-use Rattle.packing3.proofs.Common.{◌≡◌, ℕ, ◌+◌, List, ◌++◌, length, length-append, ap, sym, subst, ◌∙◌, append_assoc, arith, Option, Appends, Appends-trans, Error, chunk_bytes, AppendsFront, Explains, IsStopped}
+use Rattle.packing3.proofs.Common.{◌≡◌, ℕ, ◌+◌, List, ◌++◌, length, length-append, ap, refl, sym, subst, ◌∙◌, append_assoc, arith, Option, Appends, Appends-trans, Error, chunk_bytes, AppendsFront, Explains, IsStopped}
+use Rattle.std.specs.Prelude.{replicate, suc, zero}
+use Rattle.std.specs.List.{flat_map}
+use Rattle.xdr3.specs.Item.{word_bytes}
 use Rattle.capture3.specs.declared.fault.Error.TheVariants as errors
 
--- more bytes come at the end
-pub explains_with : (error : Error) (at total : ℕ) (next more : List ℕ)
-    → Explains error at next total
-    → Explains error at (next ++ more) total
-explains_with (errors.Refused fault) at total next more observed = record {
+one_word_more : (words : ℕ) → flat_map word_bytes (replicate words 0) ++ word_bytes 0
+    ≡ flat_map word_bytes (replicate (suc words) 0)
+one_word_more zero = refl
+one_word_more (suc words) =
+    append_assoc (word_bytes 0) (flat_map word_bytes (replicate words 0)) (word_bytes 0)
+    ∙ ap (λ (l : List ℕ). word_bytes 0 ++ l) (one_word_more words)
+
+-- one word 0 more comes at the end
+pub explains_with : (error : Error) (at total : ℕ) (next : List ℕ) → Explains error at next total
+    → Explains error at (next ++ word_bytes 0) total
+explains_with (errors.Refused fault) at total next observed = record {
   chunk = observed.chunk;
-  more = observed.more ++ more;
+  words = suc observed.words;
   begins =
-      ap (λ (l : List ℕ). l ++ more) observed.begins
-      ∙ append_assoc (chunk_bytes observed.chunk) observed.more more;
+      ap (λ (l : List ℕ). l ++ word_bytes 0) observed.begins
+      ∙ append_assoc (chunk_bytes observed.chunk)
+      (flat_map word_bytes (replicate observed.words 0)) (word_bytes 0)
+      ∙ ap (λ (l : List ℕ). chunk_bytes observed.chunk ++ l) (one_word_more observed.words);
   over = observed.over;
   within = observed.within;
   is = observed.is;
 }
-explains_with errors.Read at total next more observed = tt
-explains_with errors.Write at total next more observed = tt
-explains_with errors.Memory at total next more observed = absurd observed
+explains_with errors.Read at total next observed = tt
+explains_with errors.Write at total next observed = tt
+explains_with errors.Memory at total next observed = absurd observed
 
-pub stopped_before : (old new : Option (List ℕ)) (bytes more : List ℕ) (at total : ℕ)
-    (error : Error) → IsStopped old new bytes at total error
-    → IsStopped old new (bytes ++ more) at total error
-stopped_before old new bytes more at total error s = record {
+pub stopped_before : (old new : Option (List ℕ)) (bytes : List ℕ) (at total : ℕ) (error : Error)
+    → IsStopped old new bytes at total error
+    → IsStopped old new (bytes ++ word_bytes 0) at total error
+stopped_before old new bytes at total error s = record {
   front = s.front;
-  next = s.next ++ more;
-  split = ap (λ (l : List ℕ). l ++ more) s.split ∙ append_assoc s.front s.next more;
+  next = s.next ++ word_bytes 0;
+  split =
+      ap (λ (l : List ℕ). l ++ word_bytes 0) s.split ∙ append_assoc s.front s.next (word_bytes 0);
   appended = s.appended;
-  observed = explains_with error (at + length s.front) total s.next more s.observed;
+  observed = explains_with error (at + length s.front) total s.next s.observed;
 }
 
 -- what was written before stands at the front

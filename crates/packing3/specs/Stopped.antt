@@ -1,6 +1,8 @@
 -- What an error says of what was packed.
-use Rattle.std.specs.Prelude.{◌≡◌, ℕ, ◌+◌, ◌<◌, ◌≤◌, List, ◌++◌, length, Option, ⊤}
+use Rattle.std.specs.Prelude.{◌≡◌, ℕ, ◌+◌, ◌<◌, ◌≤◌, List, ◌++◌, length, replicate, Option, ⊤}
+use Rattle.std.specs.List.{flat_map}
 use Rattle.std.specs.Io.KnownBytes.{Appends}
+use Rattle.xdr3.specs.Item.{word_bytes}
 use Rattle.xdr3.specs.declared.reason.Reason.TheVariants as reasons
 use Rattle.capture3.specs.declared.fault.Error.{Error}
 use Rattle.capture3.specs.declared.fault.Error.TheVariants as errors
@@ -12,12 +14,12 @@ use Rattle.capture3.specs.Chunks.{max_bytes}
 use Rattle.canon3.specs.Bytes.{chunk_bytes}
 use Rattle.packing3.specs.Packed.{ArePacked, IsPacked}
 
--- A chunk comes next. With it the stream bytes of all that was read, `total`, pass the limit, and
--- without it they keep it. The fault is at its length word.
+-- A chunk comes next, and after it words 0 alone. With it the stream bytes of all that was read,
+-- `total`, pass the limit, and without it they keep it. The fault is at its length word.
 pub record ChunkPassesLimit (fault : Fault) (at : ℕ) (next : List ℕ) (total : ℕ) : Type 0 where
   pub chunk : List ℕ
-  pub more : List ℕ
-  pub begins : next ≡ chunk_bytes chunk ++ more
+  pub words : ℕ
+  pub begins : next ≡ chunk_bytes chunk ++ flat_map word_bytes (replicate words 0)
   pub over : max_bytes < total
   pub within : total ≤ max_bytes + length chunk
   pub is : fault ≡ record { place = places.File at; reason = reasons.TooManyBytes }

@@ -32,11 +32,11 @@ from ..judgement.window import ALL, DAY, add_window, window_of
 from ..recordings.coverage import PROCEDURES
 from ..recordings.selection import count, plural
 from ..recordings.taken import Taken
-from ..reporting.messages import add_recordings, allowed_of, parser_of, run
+from ..reporting.messages import add_gone, add_recordings, allowed_of, parser_of, run
 from ..reporting.rows import add_forms, form_of
 from ..shared.layouts import BY_NAME, RAW
 from ..shared.printed import escaped, printable
-from ..shared.screens import GAP, NARROWEST, Colour, Screen, add_width, screen_of
+from ..shared.screens import Colour, Screen, screen_of
 from .verdicts import Judge, judge_of
 
 CALL_HEADS = ('time', 'ms', 'frame', 'conn', 'call', 'answer')
@@ -148,7 +148,7 @@ def answer_of(one: KeptExchange) -> str:
 
 class AlignedLines:
     """Lines of cells. Each block of them is as wide as its cells are, and at least as the block
-    before. A long call moves its answer. On a terminal both are wrapped if they are too long."""
+    before. A long call moves its answer."""
 
     def __init__(self, screen: Screen) -> None:
         self.screen, self.widths = screen, [0] * (len(CALL_HEADS) - 1)
@@ -165,7 +165,7 @@ class AlignedLines:
     def print(self) -> None:
         columns = zip(self.widths, zip(*self.rows))
         self.widths = [max(width, *map(len, column)) for width, column in columns]
-        self.widths[RIGHT] = min(self.widths[RIGHT], WIDEST, self.room_of_calls())
+        self.widths[RIGHT] = min(self.widths[RIGHT], WIDEST)
         right = (f'{{:>{width}}}' for width in self.widths[:RIGHT])
         line = '  '.join([*right, f'{{:<{self.widths[RIGHT]}}}', '{}'])
         if self.screen == Screen():
@@ -175,28 +175,10 @@ class AlignedLines:
                                   for number, row in enumerate(self.rows))
         self.rows, self.errors = [], set()
 
-    def indent(self) -> int:
-        """Returns how many columns are before the call."""
-        return sum(self.widths[:RIGHT]) + len(GAP) * RIGHT
-
-    def room_of_calls(self) -> int:
-        """Returns how wide the column of the calls may be, so that many answers fit beside it."""
-        if self.screen.width is None:
-            return WIDEST
-        return max(NARROWEST, self.screen.width - self.indent() - len(GAP) - NARROWEST)
-
     def styled(self, number: int, row: tuple[str, ...], line: str) -> str:
-        """Returns the line of a row for a terminal, or its lines: the answer is below the call if
-        it does not fit."""
-        screen, colour = self.screen, Colour.RED if number in self.errors else None
-        answer, before = row[-1], line[:len(line) - len(row[-1])]
-        if screen.width is None or len(line) <= screen.width:
-            return before + screen.painted(answer, colour)
-        indent = self.indent()
-        calls = screen.wrapped(row[RIGHT], indent)
-        answers = [screen.painted(one, colour) for one in screen.wrapped(answer, indent + len(GAP))]
-        return '\n'.join([before[:indent] + calls[0], *(' ' * indent + call for call in calls[1:]),
-                          *(' ' * indent + GAP + one for one in answers)])
+        """Returns the line of a row for a terminal."""
+        colour = Colour.RED if number in self.errors else None
+        return line[:len(line) - len(row[-1])] + self.screen.painted(row[-1], colour)
 
 
 def tell_verdicts(verdicts: list[Verdict]) -> None:
@@ -314,7 +296,7 @@ def command_line_of_calls(words: list[str]) -> argparse.Namespace:
     parser.add_argument('--utc', action='store_true',
                         help='prints the time of day (UTC) of each call')
     add_window(parser)
-    add_width(parser)
+    add_gone(parser, '--width', '`tools/calls .. | cut -c -N`, since lines are whole')
     add_recordings(parser)
     return parser.parse_args(words)
 
@@ -322,7 +304,7 @@ def command_line_of_calls(words: list[str]) -> argparse.Namespace:
 def main(words: list[str]) -> int:
     chosen, verdicts = command_line_of_calls(words), list[Verdict]()
     judge, form = judge_of(chosen), form_of(chosen, VERDICTS_VERSION, 'calls', CALL_COLUMNS)
-    text = Text(len(chosen.recordings) == 1, screen_of(chosen.color, chosen.width))
+    text = Text(len(chosen.recordings) == 1, screen_of(chosen.color))
     for recording in chosen.recordings:
         found = listed(judge, recording, chosen, verdicts)
         with contextlib.closing(found.kept):

@@ -240,8 +240,9 @@ def print_comparison(words: argparse.Namespace, whole: Whole, report: Report, co
                                         None if words.all else FINDINGS_AT_MOST, left_out,
                                         words.brief):
             print(coloured(text, screen))
-    for text in telling.of_silent(compared, whole.framings(),
-                                  None if words.all else SILENT_AT_MOST):
+    most = None if words.all else SILENT_AT_MOST
+    for text in (*telling.of_silent(compared, whole.framings(), most),
+                 *telling.of_notes(compared, whole.framings(), most)):
         print(text)
     print(summary.compared_in_words(compared))
 

@@ -15,7 +15,6 @@ import argparse
 import contextlib
 import csv
 import io
-import itertools
 import json
 import sys
 import typing
@@ -40,7 +39,7 @@ from ..shared.outputs import writing
 from ..shared.places import Place
 from ..shared.printed import escaped, printable
 from ..shared.screens import (
-    Colour, Screen, Styled, add_width, is_as_wide, panels, screen_of, table_lines)
+    Colour, Screen, Styled, add_width, screen_of, table_lines)
 from .verdicts import Judge, judge_of
 
 QUANTILES = (0.5, 0.99, 1)  # of the latencies: the median, the 99th percentile, and the longest
@@ -48,8 +47,6 @@ TALLY_COUNTS = ('calls', 'again', 'replies', 'unanswered', 'call_bytes', 'reply_
 RANKS = ('median_ns', 'p99_ns', 'most_ns', 'mean_ns', 'sum_ns')
 PROCEDURE_HEADS = ('procedure', 'calls', 'again', 'replies', 'no reply', 'call bytes',
                    'reply bytes', 'median ms', '99 % ms', 'most ms', 'mean ms', 'sum ms', 'errors')
-# Columns of a table's first panel in a narrow terminal: the counts, and the errors
-NARROW_COLUMNS = 6
 PROCEDURE_NUMBERS = range(1, len(PROCEDURE_HEADS) - 1)  # the columns that are set to the right
 LONGEST_COLUMN = 'longest'  # is before the errors in tables of one recording
 IN_ALL = 'in all'
@@ -174,15 +171,7 @@ def print_table(title: str, table: TallyTable, column: str, screen: Screen) -> N
     if not table.tallies:
         return
     rows = table_rows(table, column, screen)
-    if screen.width is not None and not is_as_wide(rows, screen.width):
-        rows = [row._replace(cells=beside_calls(row.cells)) for row in rows]
-    for line in panels(rows, screen, PROCEDURE_NUMBERS, NARROW_COLUMNS):
-        print(line)
-
-
-def beside_calls(cells: Sequence[str]) -> list[str]:
-    """Returns the cells of a row with the errors beside the counts."""
-    return [*cells[:NARROW_COLUMNS - 1], cells[-1], *cells[NARROW_COLUMNS - 1:-1]]
+    print(*table_lines(rows, screen, PROCEDURE_NUMBERS, is_cut=True), sep='\n')
 
 
 def table_rows(table: TallyTable, column: str, screen: Screen) -> list[Styled]:
@@ -217,7 +206,7 @@ def print_tables(found: Sequence[CountedRecording], is_total: bool, column: str,
             if is_row(verdict) and (verdict.state == 'error' or verdict.connection is None):
                 print('\n' + table_title(verdict, screen))
         title = printable(f'{escaped(one.seen.recording)} in all: {sums_of(one.seen.verdicts)}')
-        print_table('\n'.join(screen.wrapped(title, 0)), one.in_all, column, screen)
+        print_table(title, one.in_all, column, screen)
     if len(found) > 1:
         sums = sums_of(verdicts_in(one.seen for one in found))
         print_table(f'all recordings: {sums}', in_all_of(found), column, screen)
@@ -237,8 +226,9 @@ def print_beside(first: CountedRecording, second: CountedRecording, column: str,
             if is_row(verdict) and verdict.state != 'ok':
                 print(printable(f'{subject_of(verdict)}: {verdict.message}'))
         title = printable(f'{name}: {escaped(seen.recording)}: {sums_of(seen.verdicts)}{told}')
-        print(*screen.wrapped(title, 0), sep='\n')
-    print_rows_beside(rows_beside(first, second, column, screen), screen)
+        print(title)
+    rows = rows_beside(first, second, column, screen)
+    print(*table_lines(rows, screen, PROCEDURE_NUMBERS, is_cut=True), sep='\n')
 
 
 def rows_beside(first: CountedRecording, second: CountedRecording, column: str,
@@ -250,23 +240,6 @@ def rows_beside(first: CountedRecording, second: CountedRecording, column: str,
     return [Styled(PROCEDURE_HEADS), *(
         Styled(cells_beside(name, here.get(name, Tally()), there.get(name, Tally()), screen))
         for name in names)]
-
-
-def print_rows_beside(rows: Sequence[Styled], screen: Screen) -> None:
-    """Prints a table of two recordings, or if it is too wide a block for each procedure."""
-    if screen.width is None or is_as_wide(rows, screen.width):
-        lines = table_lines(rows, screen, PROCEDURE_NUMBERS)
-    else:
-        lines = itertools.chain.from_iterable(block_of(row, screen) for row in rows[1:])
-    print(*lines, sep='\n')
-
-
-def block_of(row: Styled, screen: Screen) -> Iterator[str]:
-    """The lines of a block: the procedure, and below it what there is of it."""
-    yield row.cells[0]
-    rows = [Styled(['', head, cell]) for head, cell in zip(PROCEDURE_HEADS[1:], row.cells[1:])
-            if cell not in ('-', '0')]
-    yield from table_lines(rows, screen)
 
 
 def cells_beside(name: str, first: Tally, second: Tally, screen: Screen) -> list[str]:

@@ -14,7 +14,6 @@ from __future__ import annotations
 import argparse
 import concurrent.futures
 import contextlib
-import itertools
 import json
 import os
 import signal
@@ -41,7 +40,7 @@ from ..shared.outputs import writing
 from ..shared.places import Place, parse_fault
 from ..shared.printed import escaped, printable
 from ..shared.programs import CHECKED, Died, Missing, program_path, run_program
-from ..shared.screens import Screen, Styled, is_as_wide, positive, screen_of, table_lines
+from ..shared.screens import Screen, Styled, positive, screen_of, table_lines
 
 CONNECTIONS_AT_ONCE = 32  # of a recording
 Look = typing.Callable[[Taken, list[Verdict]], object]
@@ -213,23 +212,11 @@ def print_verdicts(verdicts: list[Verdict], is_quiet: bool, screen: Screen) -> N
     """Prints a row for each verdict but those on connections that show no call, which with all
     notes go to standard error."""
     tell_notes(verdicts)
-    for line in verdict_lines([verdict for verdict in verdicts if is_row(verdict, is_quiet)],
-                              not is_quiet, screen):
+    rows = [Styled(verdict_row(verdict, screen), colour_of(verdict)) for verdict in verdicts
+            if is_row(verdict, is_quiet)]
+    for line in table_lines([*([] if is_quiet else [Styled(VERDICT_HEADS)]), *rows], screen):
         print(line)
-    print(*screen.wrapped(sums_of(verdicts), 0), sep='\n')
-
-
-def verdict_lines(verdicts: list[Verdict], has_heads: bool, screen: Screen) -> typing.Iterator[str]:
-    """The lines of a table. If it is too wide for the terminal, each recording has its own."""
-    heads = [Styled(VERDICT_HEADS)] if has_heads else []
-    rows = [Styled(verdict_row(verdict, screen), colour_of(verdict)) for verdict in verdicts]
-    if screen.width is None or is_as_wide([*heads, *rows], screen.width):
-        yield from table_lines([*heads, *rows], screen)
-        return
-    for name, some in itertools.groupby(rows, lambda row: row.cells[0]):
-        yield from screen.wrapped(f'{name}:', 0)
-        yield from table_lines([row._replace(cells=row.cells[1:]) for row in (*heads, *some)],
-                               screen)
+    print(sums_of(verdicts))
 
 
 def junit_of_verdicts(verdicts: list[Verdict], allowed: Allowed) -> bytes:

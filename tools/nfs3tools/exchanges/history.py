@@ -4,7 +4,8 @@
     for exchange in exchanges:
         history.take(exchange)
     history.settle()
-    history.allows(Claim((folder, '/a name'), GONE), asked)     # True, False, or None: not known
+    # Whether exchange 7 may say that a name is not there: True, False, or None for not known.
+    history.allows(7, Claim(name_key(folder, 'a name'), GONE))
 
 A change is a call that changes objects or names, and was answered OK or not at all. Its effects are
 those of `effects_of`, by objects and items, and by folders and names. What an answer says are its
@@ -20,8 +21,8 @@ from operator import itemgetter
 from typing import NamedTuple, Optional
 
 from .procedures import (
-    ACCESS, DONE, FOLDER_TYPE, FREE_ITEMS, LINK, LISTINGS, LOOKUP, MAKING, MKDIR, NO_ENTRY,
-    REMOVE, REMOVING, RENAME, RMDIR, STEADY, WRITE)
+    ACCESS, DONE, FOLDER_TYPE, FREE_ITEMS, LINK, LISTINGS, LOOKUP, MAKING, MKDIR, NO_ENTRY, REMOVE,
+    REMOVING, RENAME, RMDIR, STEADY, WRITE)
 from .statements import Statement, names_in_call, statements_in
 from .timelines import (
     Adds, Clears, Effect, FileSize, FolderSize, Grows, LinkCount, Mode, SaidValues, Sets, Sighting,

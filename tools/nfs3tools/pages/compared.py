@@ -315,6 +315,9 @@ class ComparedContent:
         lines = list(telling.of_silent(self.compared, self.framings, OTHERS_AT_MOST))
         if lines:
             yield from markup.section('Left out', markup.paragraphs(lines))
+        notes = list(telling.of_notes(self.compared, self.framings, OTHERS_AT_MOST))
+        if notes:
+            yield from markup.section('Notes', markup.paragraphs(notes))
 
     def accepted_ones(self) -> Iterator[str]:
         """How many findings were accepted, and these folded."""

@@ -47,6 +47,9 @@ def json_of_comparison(report: Report, compared: Compared, left_out: Counter[tup
         'left_out': [{'procedure': one.message.procedure, 'path': one.path,
                       **both_positions(one, framings), 'kind': one.kind, 'why': one.remark or None}
                       for one in compared.silent],
+        **({'noted': [{'procedure': one.message.procedure, 'path': one.path,
+                       **both_positions(one, framings), 'why': one.remark}
+                      for one in compared.noted]} if compared.noted else {}),
         'accepted': report.accepted and {
             'count': len(report.accepted.findings),
             'findings': [of_finding(one, framings) for one in report.accepted.findings],
@@ -161,7 +164,8 @@ def junit_of_comparison(line: str, report: Report, compared: Compared, framings:
     cases = Cases(report.names, report.covers, report.accepted)
     more = more_than_cases(groups, ' have no case')
     silent = [*telling.of_accepted(report.accepted, framings, True),
-              *of_silent(compared, framings, CASES_AT_MOST)]
+              *of_silent(compared, framings, CASES_AT_MOST),
+              *telling.of_notes(compared, framings, CASES_AT_MOST)]
     if is_good:
         cases.add('the runs are the same', text=[line, *silent])
     else:

@@ -213,6 +213,15 @@ def silent_line(some: Sequence[Finding], framings: Sequence[Framing]) -> str:
             f'{", first" * (len(some) > 1)}: {places_text(call, framings)}{why}')
 
 
+def of_notes(compared: Compared, framings: Sequence[Framing], most: int | None) -> Iterator[str]:
+    """The pairs whose answers are equal and which their run does not allow, up to `most`."""
+    for one in compared.noted[:most]:
+        yield (f'note: {one.message.procedure}{f" {one.path}" if one.path else ""}, equal in both '
+               f'runs: {places_text(one, framings)}, {one.remark}')
+    if most is not None and len(compared.noted) > most:
+        yield f'.. and {len(compared.noted) - most:,} more notes (--all prints them)'
+
+
 def places_text(one: Finding, framings: Sequence[Framing]) -> str:
     """Returns the places of messages in both runs, with their frames."""
     return ' | '.join(f'{message.place}{frames_text(message, framing)}'

@@ -7,7 +7,7 @@ use Rattle.program3.specs.Files.{FailsToOpenStream}
 use Rattle.program3.specs.Readings.{FileReading}
 use Rattle.program3.specs.declared.outcome.Outcome.{Outcome}
 use Rattle.program3.specs.declared.outcome.Outcome.TheVariants as outcomes
-use Rattle.nfs3canon.specs.Files.{AreReadStreams, OneHasFailed}
+use Rattle.nfs3canon.specs.Files.{AreReadStreams, OneHasFailed, RefusesStreams}
 
 -- all streams were read to their ends, and the capture of them is written to a file that was empty
 abbrev pub WritesStreams : (holds : List ℕ → Option (List ℕ)) → List (List ℕ) → List FileReading
@@ -15,10 +15,12 @@ abbrev pub WritesStreams : (holds : List ℕ → Option (List ℕ)) → List (Li
 WritesStreams holds names readings written = (pairs : List Streams)
     × AreReadStreams holds names readings pairs × HasWrittenCapture (Some []) written pairs
 
--- a stream was not opened, or a read of one failed, or the packing met another error
-abbrev pub StopsPacking : List (List ℕ) → List FileReading → Outcome → Type 0
-StopsPacking names readings (outcomes.Packed (Ok done)) = ⊥
-StopsPacking names readings (outcomes.Packed (Err errors.Read)) =
-    OneHasFailed readings
-StopsPacking names readings (outcomes.Packed (Err error)) = ⊤
-StopsPacking names readings outcome = Any (λ name. FailsToOpenStream name outcome) names
+-- a stream was not opened, or streams were refused, or a read failed, or a write, or memory ran out
+abbrev pub StopsPacking : (holds : List ℕ → Option (List ℕ)) → List (List ℕ) → List FileReading
+    → Outcome → Type 0
+StopsPacking holds names readings (outcomes.Packed (Ok done)) = ⊥
+StopsPacking holds names readings (outcomes.Packed (Err (errors.Refused fault))) =
+    RefusesStreams holds readings fault
+StopsPacking holds names readings (outcomes.Packed (Err errors.Read)) = OneHasFailed readings
+StopsPacking holds names readings (outcomes.Packed (Err error)) = ⊤
+StopsPacking holds names readings outcome = Any (λ name. FailsToOpenStream name outcome) names

@@ -26,10 +26,12 @@ class Explanation:
     counted: calls of the first and of the second run alone that only ask and count all the same,
         each with the reason
     remarks: why answers of others are not explained, if it is not for want of a change
+    noted: pairs whose answers are equal, and which their run does not allow, with why
     """
     pairs: dict[Pair, list[Change]] = field(default_factory=dict)
     counted: ReasonsOfCalls = field(default_factory=lambda: (dict[int, str](), dict[int, str]()))
     remarks: dict[Pair, str] = field(default_factory=dict)
+    noted: dict[Pair, str] = field(default_factory=dict)
 
 
 class TwoRuns:
@@ -90,6 +92,10 @@ class TwoRuns:
                 out.pairs[pair] = rule.explained(pair)
             except Unexplained as why:
                 out.remarks[pair] = str(why)
+        if self.turns:
+            unequal = {*self.unequal}
+            out.noted = {pair: why for pair, why in sorted(rule.equal_and_wrong(self.pairing))
+                         if pair not in unequal}
         if any(self.extras):
             out.counted = refused(*(Extras(rule, run, some, set(self.pairing.matched(run)))
                                     for run, some in enumerate(self.extras)))

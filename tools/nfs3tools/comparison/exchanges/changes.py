@@ -39,22 +39,22 @@ class Turns:
         self.outlines, self.named = pairing.runs[run], partial(pairing.name_of, run)
         self.begins, self.ends = array('Q'), array('Q')
         connections = {one.number: one for one in taken.connections}
-        late = dict[int, int]()  # ends of calls that were sent again
+        replies = list['array[int]']()
         for place, number in enumerate(self.outlines.connections):
             own = self.outlines.exchanges_of(place)
             calls = array('Q', connections[number].client.first_frames())
             self.begins.extend(calls[record - 1]
                                for record in self.outlines.records[own.start:own.stop])
-            replies = array('Q', connections[number].server.first_frames())
-            self.ends.extend(replies[record - 1] if record else STILL
+            replies.append(array('Q', connections[number].server.first_frames()))
+            self.ends.extend(replies[place][record - 1] if record else STILL
                              for record in self.outlines.replies[own.start:own.stop])
-            for at in (at for at in self.outlines.again if at in own):
-                records = self.outlines.all_records_of(at, False)
-                is_over = len(records) >= len(self.outlines.all_records_of(at, True))
-                late[at] = max(replies[record - 1] for record in records) if is_over else STILL
         self.done = self.ends[:]
-        for at, end in late.items():
-            self.done[at] = end
+        for at in self.outlines.again:
+            sent, answered = (self.outlines.all_records_of(at, is_call)
+                              for is_call in (True, False))
+            frames = replies[self.outlines.connection_of(at)]
+            self.done[at] = STILL if len(answered) < len(sent) else max(
+                frames[record - 1] for record in answered)
 
     def is_change(self, at: int) -> bool:
         return self.outlines.procedure_of(at) in CHANGING and at not in self.outlines.unmade

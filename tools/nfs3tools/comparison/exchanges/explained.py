@@ -26,15 +26,15 @@ from ..values.classes import CLASSES, Mask, Way
 from .changes import Change, Otherwise
 from .facts import Facts, is_silly
 from .matching import Pair
-from .pairing import Pairing
+from .pairing import NOBODY, Pairing
 
 TIMES_OF_FILES = frozenset(('atime', 'mtime', 'ctime', 'used'))
 # Values that follow their objects and entries.
 FOLLOWING_ITEMS = {'fileid': 'ids', 'fsid': 'fsids', 'cookie': 'cookies',
                    'cookieverf': 'cookieverfs'}
 NOT_KNOWN, NOT_ALLOWED = (
-    'not known: no change and no other answer of the {} run says what it was',
-    'the changes and the other answers of the {} run do not allow it')
+    'not known: no recorded change and no other answer of the {} run says what it was',
+    'the recorded changes and the other answers of the {} run do not allow it')
 RUN_WORDS = ('first', 'second')
 EntryKey = object  # the name of an entry, or the object of one whose name is masked
 
@@ -281,6 +281,24 @@ class OrderRule:
         if own not in self.present:
             self.present[own] = Present(reply.history, *own[1:])
         return 'it lacks a name' if self.present[own].lacking(listed) else ''
+
+    # --- Two answers that are equal ---
+
+    def equal_and_wrong(self, pairing: Pairing) -> Iterator[tuple[Pair, str]]:
+        """Iterates over pairs that say the same of a value, which one of their runs does not allow
+        though a change of it stands otherwise: each with why."""
+        keys = self.histories[0].changes.keys() & self.histories[1].changes.keys()
+        for key in (key for key in keys if key[1] != TIMES_ITEM):
+            lines = [history.timeline(key) for history in self.histories]
+            for pair in ((one.source, pairing.partners[one.source]) for one in lines[0].sights.begun
+                         if not lines[0].changes.of_source.get(one.source)):
+                is_asked = pair[1] != NOBODY and self.otherwise.change(pair, key)
+                wrong = [run for run, (line, at) in enumerate(zip(lines, pair)) if is_asked
+                         for one in line.sights.of_source.get(at, ())
+                         if self.allows(run, at, Claim(key, one.value)) is False]
+                if wrong:
+                    label = 'name' if key[1][0] == '/' else key[1]
+                    yield pair, f'{label}: {NOT_ALLOWED.format(RUN_WORDS[wrong[0]])}'
 
     # --- An answer of one run alone ---
 

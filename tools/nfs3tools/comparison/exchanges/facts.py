@@ -8,7 +8,7 @@ from collections.abc import Container, Hashable, Iterable
 from functools import cache
 
 from ...exchanges.answering import REPLY_STATUS
-from ...exchanges.history import STILL, CarriedOut, History
+from ...exchanges.history import CarriedOut, History
 from ...exchanges.listing import Line
 from ...exchanges.procedures import ACCESS, CHANGING, LISTINGS, LOOKUP, is_of_files
 from ...exchanges.statements import names_in_call, statements_in
@@ -69,7 +69,8 @@ class Facts:
     def take_reply(self, at: int, line: Line) -> None:
         if at in self.wanted:
             self.keep(at, line)
-        if not is_of_files(line.procedure) or not self.is_asked(at, line):
+        is_further = at in self.history.frames
+        if is_further or not is_of_files(line.procedure) or not self.is_asked(at, line):
             return
         status, reply = read_reply(line.procedure, without_long(line.text), self.values)
         one = self.carried_out(at, status, reply)
@@ -93,12 +94,10 @@ class Facts:
         """Returns an exchange with a reply."""
         procedure, turns = self.outlines.procedure_of(at), self.turns
         call = self.calls.get(at) or handles_asked(self.outlines, at)
-        is_change = at not in self.history.frames and turns is not None and turns.is_change(at)
         if turns is None:
             return CarriedOut(at, at, at, at, procedure, call, status, reply)
-        return CarriedOut(at, turns.begins[at], turns.ends[at],
-                          turns.done[at] if is_change else STILL, procedure, call, status, reply,
-                          is_change)
+        return CarriedOut(at, turns.begins[at], turns.ends[at], turns.done[at], procedure, call,
+                          status, reply, turns.is_change(at))
 
 
 def is_silly(name: str) -> bool:

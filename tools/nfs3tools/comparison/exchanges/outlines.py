@@ -166,8 +166,8 @@ class Outlines:
                     continue
                 said_before[at].add(own)
             self.add_reply(at, line.record, said)
-            if line.procedure in CHANGING and not is_done(line.text):
-                self.unmade.add(at)
+            if line.procedure in CHANGING:
+                self.take_status(at, is_done(line.text), line.record == self.replies[at])
             self.learn(at, line.procedure, line.text, named.get(at, 0))
 
     def add_call(self, line: Line, said: int) -> None:
@@ -188,6 +188,13 @@ class Outlines:
             self.further.setdefault(at, []).append(record)
         else:
             self.replies[at] = record
+
+    def take_status(self, at: int, is_ok: bool, is_first: bool) -> None:
+        """Notes whether a call has changed something: one of its replies says so."""
+        if is_ok:
+            self.unmade.discard(at)
+        elif is_first:
+            self.unmade.add(at)
 
     def learn(self, at: int, procedure: str, rest: str, name: int) -> None:
         """Learns from a reply which objects its call has reached."""
@@ -305,18 +312,18 @@ class Outlines:
         return [handle for handle in (self.folders[at], self.seconds.get(at, 0)) if handle]
 
     @cached_property
-    def first_turns(self) -> dict[int, int]:
-        """When each handle was first found, or asked for."""
-        out = dict[int, int]()
+    def users(self) -> dict[int, list[int]]:
+        """The exchanges that ask for an object, or find it, by handles."""
+        out = defaultdict[int, list[int]](list)
         for at in range(len(self)):
-            turn = self.turn_of(at)
-            for handle in (self.folders[at], self.seconds.get(at, 0), self.found[at]):
-                out[handle] = min(out.get(handle, turn), turn)
+            for handle in (*self.objects_of(at), self.found[at]):
+                out[handle].append(at)
         return out
 
     def is_new(self, at: int) -> bool:
         """Whether no call before an exchange knows the object that it finds."""
-        return self.turn_of(at) <= self.first_turns[self.found[at]]
+        turn, users = self.turn_of(at), self.users[self.found[at]]
+        return all(self.turn_of(other) >= turn for other in users)
 
     def calls_alike(self, lines: Iterable[str], wanted: set[int]) -> dict[int, tuple[object, ...]]:
         """Returns of some exchanges what alike calls have in common: procedure, objects, names and

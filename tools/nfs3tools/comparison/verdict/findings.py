@@ -42,7 +42,8 @@ class Finding:
     say that the other run does not have.
 
     A call that is left out is of kind 'only', 'explained' or 'sent again'. The remark is the change
-    that explains it, or how often it was sent.
+    that explains it, or how often it was sent. One of kind 'noted' says why its run does not allow
+    an answer.
     """
     # 'changed', 'only', 'moved', 'sent again', 'replies', 'order', 'connection' or 'explained'
     kind: str
@@ -80,6 +81,7 @@ class Compared:
     left_out: how often a procedure was left out of the first and of the second run, that one run
         alone has
     silent: all calls that are left out
+    noted: pairs whose answers are equal, and which a run does not allow; they count for nothing
     beside: what differs with some pairs before and after it, for those who show both runs side by
         side
     explained: how many pairs are left out whose answers differ as an order explains
@@ -96,6 +98,7 @@ class Compared:
     left_out: tuple[Counter[str], Counter[str]] = field(
         default_factory=lambda: (Counter[str](), Counter[str]()))
     silent: list[Finding] = field(default_factory=list)
+    noted: list[Finding] = field(default_factory=list)
     explained: int = 0
     beside: Beside = field(default_factory=Beside)
     mask: Mask = field(default_factory=dict)
@@ -202,8 +205,8 @@ class Explaining:
     def __init__(self, runs: Sequence[Run], pairing: Pairing, leaves_out: frozenset[str],
                  explanation: Explanation) -> None:
         """Pairs that are explained were taken apart again, and are left out."""
-        self.pairing, self.by_order, self.remarks = (
-            pairing, explanation.pairs, explanation.remarks)
+        self.pairing, self.by_order = pairing, explanation.pairs
+        self.remarks, self.noted = explanation.remarks, explanation.noted
         first, second = (OneOfTwo(number, run, pairing, leaves_out, explanation)
                          for number, run in enumerate(runs))
         self.runs = first, second
@@ -230,6 +233,7 @@ class Explaining:
             late=sum(number for _, number, _ in pairing.late_replies),
             lonely=(here.number_told(), there.number_told()),
             left_out=(here.left_out, there.left_out), silent=list(self.of_the_silent(tells_order)),
+            noted=[self.of_both('noted', *note) for note in self.noted.items()],
             explained=sum(map(bool, self.by_order.values())), mask=mask,
             beside=self.beside([*(pair for pair, _ in changed), *moved], around) if around
             else Beside())
@@ -255,7 +259,7 @@ class Explaining:
             for own in self.runs]
         turns = {turn for turn, (at, to) in enumerate(zip(here.order, there.order))
                  if at in first or to in second}
-        left_out = [*self.by_order, *self.pairing.sent_again]
+        left_out = [*self.by_order, *self.pairing.sent_again, *self.noted]
         causes = [change for some in self.by_order.values() for change in some[:1]]
         for own, some in zip(self.runs, both):
             some.update(own.silent, (pair[own.number] for pair in left_out),
@@ -319,7 +323,7 @@ class Explaining:
 
     def of_the_silent(self, is_strict: bool) -> Iterator[Finding]:
         for pair, changes in self.by_order.items():
-            why = self.named(changes[0]) if changes else 'names of removed files'
+            why = self.named(changes[0]) if changes else 'other places of its entries'
             yield self.of_both('explained', pair, why)
         yield from () if is_strict else self.of_sent_again()
         for own in self.runs:

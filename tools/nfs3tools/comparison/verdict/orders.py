@@ -163,6 +163,7 @@ class Orders:
         if self.explanation.pairs or any(self.explanation.counted):
             self.take(self.two.pairing, self.explanation)
         self.explaining.remarks = self.explanation.remarks
+        self.explaining.noted = self.explanation.noted
 
     def follow(self, classes: frozenset[str]) -> None:
         """Takes the second run with the first run's values of some classes."""
