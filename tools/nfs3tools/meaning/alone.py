@@ -104,7 +104,7 @@ def odd_times(one: RecordedExchange, by: str, *times: Time) -> str:
 
 def of_access(one: RecordedExchange) -> RuleChecks:
     granted, asked = one.reply['access'], one.call['access']
-    now, wanted = (number_named('access', str(bits)) for bits in (granted, asked))
+    now, wanted = (number_named('access', bits) for bits in (granted, asked))
     yield granted & ~asked, 'access-asked', f'{now}, asked for {wanted}'
 
 

@@ -17,14 +17,13 @@ from operator import attrgetter
 
 from ...exchanges.answering import REPLY_STATUS, Answering
 from ...exchanges.listing import Line, LinePlace, Message, line_of, place_of
-from ...exchanges.objects import GIVING_HANDLES
+from ...exchanges.objects import NAMING
 from ...exchanges.procedures import CHANGING, LOOKUP, READDIRPLUS
 from ...exchanges.searches import (
     alike_in, entries_in, first_handle_in, first_name_in, handles_in, pattern_of_items)
 from ..values.bindings import RENAMED
 from ..values.classes import CLASSES, Mask, Way
 
-NAMING = GIVING_HANDLES | {'MOUNTPROC3_MNT'}  # calls whose answers have the handle of a name
 SILLY = next(one for one in CLASSES if one.name == 'sillynames')
 DOT_HASHES = hash('.'), hash('..')  # the folder itself, and the one above it
 UNSEEN, SEEN, MADE = range(3)  # how well it is known where an object is
