@@ -23,7 +23,7 @@ from typing import NamedTuple, Optional
 from .procedures import (
     ACCESS, DONE, FOLDER_TYPE, FREE_ITEMS, LINK, LISTINGS, LOOKUP, MAKING, MKDIR, NO_ENTRY, REMOVE,
     REMOVING, RENAME, RMDIR, STEADY, WRITE)
-from .statements import Statement, names_in_call, statements_in
+from .statements import Statement, handle_items, names_in_call, statements_in
 from .timelines import (
     Adds, Clears, Effect, FileSize, FolderSize, Grows, LinkCount, Mode, SaidValues, Sets, Sighting,
     Timeline, ValueChange)
@@ -67,8 +67,7 @@ class CarriedOut(NamedTuple):
     @property
     def handle(self) -> str:
         """The first handle of the call."""
-        return next((str(value) for name, value in self.call.items()
-                     if name.rpartition('.')[2] == 'fh'), '')
+        return str(self.call.get(handle_items(self.procedure)[0], ''))
 
 
 class Claim(NamedTuple):
