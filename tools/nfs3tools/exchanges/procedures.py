@@ -1,8 +1,8 @@
 """Which procedures of NFS version 3 change, make, remove and list."""
 from __future__ import annotations
 
-GETATTR, SETATTR, LOOKUP, ACCESS, READLINK, READ, WRITE = (f'NFSPROC3_{name}' for name in (
-    'GETATTR', 'SETATTR', 'LOOKUP', 'ACCESS', 'READLINK', 'READ', 'WRITE'))
+NULL, GETATTR, SETATTR, LOOKUP, ACCESS, READLINK, READ, WRITE = (f'NFSPROC3_{name}' for name in (
+    'NULL', 'GETATTR', 'SETATTR', 'LOOKUP', 'ACCESS', 'READLINK', 'READ', 'WRITE'))
 CREATE, MKDIR, SYMLINK, MKNOD, REMOVE, RMDIR, RENAME, LINK = (f'NFSPROC3_{name}' for name in (
     'CREATE', 'MKDIR', 'SYMLINK', 'MKNOD', 'REMOVE', 'RMDIR', 'RENAME', 'LINK'))
 READDIR, READDIRPLUS, FSSTAT, FSINFO, PATHCONF, COMMIT = (f'NFSPROC3_{name}' for name in (

@@ -12,14 +12,13 @@ from typing import NamedTuple
 from ..exchanges.in_words import short
 from ..exchanges.kept import Kept
 from ..exchanges.procedures import (
-    CHANGING, COMMIT, CREATE, DONE, LOOKUP, NO_ENTRY, PATHCONF, REMOVING, RENAME, WRITE,
+    CHANGING, COMMIT, CREATE, DONE, LOOKUP, NO_ENTRY, NULL, PATHCONF, REMOVING, RENAME, WRITE,
     is_of_files)
 from ..exchanges.statements import names_in_call, owners_in
 from ..exchanges.stored import LongValues
 from ..exchanges.values import Attributes, Values, attributes, read_call, read_reply
 from .rules import Evidence
 
-NOTHING_ASKED = 'NFSPROC3_NULL'
 UNLINKING = REMOVING | {RENAME}  # calls that take a name away
 NEVER = sys.maxsize  # the end of a call that may still be carried out
 END = 1 << 64  # no file is larger
@@ -200,7 +199,7 @@ class Recorded:
         ends = [self.end_of(number) for number in range(len(self.kept))]
         for number in sorted(range(len(ends)), key=ends.__getitem__):
             name = self.kept.listed_name(number)
-            if self.kept.firsts[number] and is_of_files(name) and name != NOTHING_ASKED:
+            if self.kept.firsts[number] and is_of_files(name) and name != NULL:
                 one = self.exchange(number)
                 if one.status is not None:
                     yield one
