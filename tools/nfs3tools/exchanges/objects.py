@@ -41,15 +41,15 @@ def below(folder: str, name: str) -> str:
 
 
 def handles_given(procedure: str, said: str) -> Iterator[tuple[str | None, str]]:
-    """Iterates over the handles that a reply gives: that of the name that was asked for, or those
-    of a listing, each with the name of its entry."""
+    """Iterates over the handles that a reply gives, but for empty ones: that of the name that was
+    asked for, or those of a listing, each with the name of its entry."""
     if procedure in NAMING:
         handle = handle_found(procedure, said)
         if handle:
             yield None, handle
     elif procedure == READDIRPLUS:
         for entry in read_reply(procedure, said)[1].get('entries', ()):
-            if 'fh' in entry:
+            if entry.get('fh'):
                 yield entry['name'], entry['fh']
 
 

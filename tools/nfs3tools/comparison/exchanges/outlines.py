@@ -206,8 +206,8 @@ class Outlines:
     def learn(self, at: int, procedure: str, rest: str, name: int) -> None:
         """Learns from a reply which objects its call has reached."""
         folder = self.folders[at]
-        for entry, handle in ((entry, int(text, 16)) for entry, text in handles_given(
-                procedure, rest)):
+        for entry, digits in handles_given(procedure, rest):
+            handle = int(digits, 16)
             if entry is None:
                 self.found[at] = handle
                 known = SEEN if procedure == LOOKUP else MADE
