@@ -655,7 +655,7 @@ class Plant(NamedTuple):
         """Returns an exchange with the change, or None if it has no such item."""
         values = one.call if self.is_call else one.reply
         names = [name for name in values if name == self.item or name.endswith('.' + self.item)]
-        if not one.is_ok or one.procedure not in self.procedures.split() or not names \
+        if not one.is_ok or one.source.procedure not in self.procedures.split() or not names \
                 or not self.is_fit(one):
             return None
         new = self.value(values[names[-1]], one)

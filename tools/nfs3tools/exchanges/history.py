@@ -21,9 +21,9 @@ from operator import itemgetter
 from typing import NamedTuple, Optional
 
 from .procedures import (
-    ACCESS, DONE, FOLDER_TYPE, FREE_ITEMS, LINK, LISTINGS, LOOKUP, MAKING, MKDIR, NO_ENTRY, REMOVE,
+    ACCESS, DIRECTORY, DONE, FREE_ITEMS, LINK, LISTINGS, LOOKUP, MAKING, MKDIR, NO_ENTRY, REMOVE,
     REMOVING, RENAME, RMDIR, STEADY, WRITE)
-from .statements import Statement, names_in_call, statements_in
+from .statements import Statement, handle_items, names_in_call, statements_in
 from .timelines import (
     Adds, Clears, Effect, FileSize, FolderSize, Grows, LinkCount, Mode, SaidValues, Sets, Sighting,
     Timeline, ValueChange)
@@ -67,8 +67,7 @@ class CarriedOut(NamedTuple):
     @property
     def handle(self) -> str:
         """The first handle of the call."""
-        return next((str(value) for name, value in self.call.items()
-                     if name.rpartition('.')[2] == 'fh'), '')
+        return str(self.call.get(handle_items(self.procedure)[0], ''))
 
 
 class Claim(NamedTuple):
@@ -292,7 +291,7 @@ class History:
     def is_file(self, own: Hashable) -> bool:
         """Whether an object is known, and no folder."""
         shown = self.shown.get(own)
-        return shown is not None and type_of(shown) != FOLDER_TYPE
+        return shown is not None and type_of(shown) != DIRECTORY
 
     # --- What an answer may say ---
 
@@ -334,7 +333,7 @@ class History:
         own, item = key
         shown, at = self.shown.get(own, []), SHOWN_ITEMS.index(item)
         sights = [Sighting(*self.frames[source], source, items[at]) for source, items in shown]
-        is_folder = bool(shown) and type_of(shown) == FOLDER_TYPE
+        is_folder = bool(shown) and type_of(shown) == DIRECTORY
         kinds: dict[str, type[Timeline]] = {
             'mode': Mode, 'nlink': LinkCount, 'size': FolderSize if is_folder else FileSize}
         kind: type[Timeline] = kinds.get(item, Timeline) if self.has_frames else Timeline

@@ -9,7 +9,6 @@ for.
 """
 from __future__ import annotations
 
-import re
 from array import array
 from collections import defaultdict
 from collections.abc import Mapping, Sequence
@@ -20,14 +19,14 @@ from ..recordings.spool import Spool
 from ..recordings.taken import Completion, TakenConnection
 from .answering import Answering, error_in
 from .in_words import Asked, answer_in, asked_in, short
-from .listing import ITEM, Item, is_call, listed_of, name_of_call
+from .listing import is_call, listed_of, name_of_call
 from .objects import GIVING_HANDLES, TEACHING, UNKNOWN, Move, Paths, below
-from .procedures import READDIRPLUS, RENAME
+from .procedures import RENAME
 from .stored import LongValues, Texts, without_long
+from .values import handle_found
 
 UNTIMED = -1 << 63  # means no latency
 WIDTH = 7  # of GETATTR and SETATTR, and of names that are shorter
-HANDLE_ITEM = re.compile(r' (fh)=([^ ]*)')
 
 
 class KeptConnection(NamedTuple):
@@ -119,11 +118,10 @@ class KeptExchange:
     @property
     def made(self) -> str | None:
         """The handle that a reply gave of a name in a folder."""
-        replies = self.kept.replies_of(self.at)
-        if not replies or self.errors or self.kept.listed_name(self.at) not in GIVING_HANDLES:
+        replies, name = self.kept.replies_of(self.at), self.kept.listed_name(self.at)
+        if not replies or self.errors or name not in GIVING_HANDLES:
             return None
-        found = HANDLE_ITEM.search(self.kept.answering[replies[0]])
-        return found[2] if found else None
+        return handle_found(name, self.kept.answering[replies[0]]) or None
 
     @property
     def other_path(self) -> str | None:
@@ -450,6 +448,4 @@ class Reading:
             self.paths.moves.append(Move(frame, asked.handle or '', asked.entry or '',
                                          asked.other or '', asked.other_entry or ''))
             return
-        found = ITEM.findall(text) if procedure == READDIRPLUS else HANDLE_ITEM.findall(text)[:1]
-        items: Sequence[Item] = [Item(*item) for item in found if item[0] in ('name', 'fh')]
-        self.paths.take_reply(procedure, asked.handle or '', asked.entry or '', items, frame)
+        self.paths.take_reply(procedure, asked.handle or '', asked.entry or '', text, frame)

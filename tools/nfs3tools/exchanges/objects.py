@@ -7,17 +7,19 @@ together by paths.
 from __future__ import annotations
 
 from collections import defaultdict
-from collections.abc import Sequence
+from collections.abc import Iterator
 from functools import cached_property
 from typing import NamedTuple
 
-from .listing import Exchange, Item
+from .listing import Exchange
 from .procedures import LOOKUP, MAKING, READDIRPLUS, RENAME
+from .values import handle_found, read_call, read_reply
 
 MOUNTING = 'MOUNTPROC3_MNT'
 GIVING_HANDLES = {LOOKUP, *MAKING}  # calls of a name whose replies have its handle
+NAMING = {*GIVING_HANDLES, MOUNTING}  # the same, also of a whole path
 # Calls whose replies say of handles what they are
-TEACHING = {*GIVING_HANDLES, MOUNTING, READDIRPLUS, RENAME}
+TEACHING = {*NAMING, READDIRPLUS, RENAME}
 DOTS = ('.', '..')  # the folder itself, and the one above it
 UNKNOWN = '?'  # a folder whose path is not known
 # Paths are cut in their middle, so that many deep ones take no more memory than their names do.
@@ -36,6 +38,19 @@ def below(folder: str, name: str) -> str:
     while len(head) + len(GAP_IN_PATH) + len(tail) > LONGEST_PATH and '/' in tail:
         tail = tail.partition('/')[2]
     return head + GAP_IN_PATH + tail
+
+
+def handles_given(procedure: str, said: str) -> Iterator[tuple[str | None, str]]:
+    """Iterates over the handles that a reply gives, but for empty ones: that of the name that was
+    asked for, or those of a listing, each with the name of its entry."""
+    if procedure in NAMING:
+        handle = handle_found(procedure, said)
+        if handle:
+            yield None, handle
+    elif procedure == READDIRPLUS:
+        for entry in read_reply(procedure, said)[1].get('entries', ()):
+            if entry.get('fh'):
+                yield entry['name'], entry['fh']
 
 
 class Origin(NamedTuple):
@@ -120,30 +135,21 @@ class Paths:
             self.known.clear()
 
     def take(self, exchange: Exchange) -> None:
-        """Learns from what an exchange says of handles. A reply that failed has none."""
-        call = exchange.call
-        folder = call.value_of('fh') or ''
-        name = (call.value_of('name') or call.value_of('dirpath') or '').strip('"')
-        for reply in exchange.replies:
-            self.take_reply(call.procedure, folder, name, reply.items)
+        """Learns from what an exchange says of handles."""
+        procedure = exchange.call.procedure
+        if procedure in TEACHING:
+            call = read_call(procedure, exchange.call.text)
+            name = call.get('name', call.get('dirpath', ''))
+            for reply in exchange.replies:
+                self.take_reply(procedure, call.get('fh', ''), name, reply.text)
 
-    def take_reply(self, procedure: str, folder: str, name: str, items: Sequence[Item],
-                   frame: int = 0) -> None:
-        """Learns from the items of a reply to a call with this folder and this name, or this whole
-        path if it is MNT. If its frame is known, names may be asked for by the time."""
-        if procedure not in TEACHING:
-            return
-        own = None if procedure == MOUNTING else folder
-        name, is_made = ('.', False) if procedure == READDIRPLUS else (
-            name, procedure != LOOKUP)
-        for item in items:
-            # (in a listing each handle comes after the name of its entry)
-            if item.name == 'name' and procedure == READDIRPLUS:
-                name = str(item.value).strip('"')
-            elif item.name == 'fh':
-                self.learn(str(item.value), Origin(own, name, is_made), frame)
-                if procedure != READDIRPLUS:
-                    break
+    def take_reply(self, procedure: str, folder: str, name: str, said: str, frame: int = 0) -> None:
+        """Learns from a reply to a call with this folder and this name, or this whole path if it is
+        MNT. If its frame is known, names may be asked for by the time."""
+        own, is_made = (None if procedure == MOUNTING else folder), procedure != LOOKUP
+        for entry, handle in handles_given(procedure, said):
+            origin = Origin(own, name, is_made) if entry is None else Origin(own, entry, False)
+            self.learn(handle, origin, frame)
 
 
 class Names:

@@ -4,6 +4,7 @@
 """
 from __future__ import annotations
 
+import functools
 from collections.abc import Iterator
 from typing import NamedTuple
 
@@ -42,6 +43,13 @@ class Statement(NamedTuple):
 
     def has(self, item: str) -> bool:
         return self.owner + item in self.items
+
+
+@functools.cache
+def handle_items(procedure: str) -> list[str]:
+    """Returns the items of a call that are handles."""
+    owners = OWNERS_OF_REPLIES.get(procedure, OWNER_OF_REPLIES)
+    return [item for item, _ in owners if item]
 
 
 def owners_in(procedure: str, call: Values, reply: Values) -> Iterator[tuple[str, str]]:

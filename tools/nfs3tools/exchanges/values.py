@@ -1,12 +1,12 @@
 """The items of a call or of a reply as values, by one pattern for each layout.
 
-    read_call('NFSPROC3_READ', said, values)   # {'fh': '01ab', 'offset': 0, 'count': 4096}
+    read_call('NFSPROC3_READ', said)           # {'fh': '01ab', 'offset': 0, 'count': 4096}
     read_reply('NFSPROC3_READ', said, values)  # (0, {'obj.size': 5, .., 'data': b'alpha'})
 
 `said` is what the listing has after the name of the procedure. An item has the name of its layout,
 after the name of its owner if it has one. What is absent has no name. Numbers are integers, times
 pairs of seconds and nanoseconds, handles and verifiers digits, names as the listing spells them,
-and data bytes.
+and data bytes, which are read only if `values` is given, which keeps long ones.
 """
 from __future__ import annotations
 
@@ -14,17 +14,19 @@ import functools
 import re
 from collections.abc import Callable, Mapping
 from operator import itemgetter
-from typing import Any, NamedTuple, Union
+from typing import Any, NamedTuple, Optional, Union
 
 from ..shared.layouts import BY_NAME, PARTS, RAW, cases_of
 from .answering import REPLY_STATUS
-from .in_words import head_of
 from .stored import Long, LongValues
 
 Values = dict[str, Any]
 Data = Union[bytes, Long]  # of a READ or a WRITE
 Time = tuple[int, int]  # seconds and nanoseconds
 LIST, DATA_ITEM = 'list:', ' o:data'
+CALL_HEAD = re.compile(r' mtype=0 rpcvers=2 prog=\d+ vers=\d+ proc=\d+ cred_flavor=\d+ '
+                       r'(?:cred_body=\w*|cred_length=\d+ stamp=\d+ machinename="[^"]*" uid=(\d+) '
+                       r'gid=\d+ gids=\d+(?: group=\d+)*) verf_flavor=0 verf_body=\w*')
 TIMES_KEPT_AT_MOST = 1_024  # times that are made once
 
 
@@ -77,10 +79,10 @@ class Layout:
         cases = '|'.join(self.of_part(part, owner) for part in parts)
         return f' {name or item}{pattern}' + (f'(?:{cases}|)' if cases else '')
 
-    def read(self, said: str, at: int, long_values: LongValues) -> Values:
+    def read(self, said: str, at: int, long_values: LongValues | None) -> Values:
         """Reads the items from a place on."""
         out, end = self.items(said, at)
-        if self.has_data:
+        if self.has_data and long_values:
             data = long_values.value(said[end + len(' data='):])
             out['data'] = data if isinstance(data, Long) else bytes.fromhex(data)
         if self.entry is not None:
@@ -102,13 +104,32 @@ class Layout:
 layout_of = functools.cache(Layout)
 
 
-def read_call(procedure: str, said: str, long_values: LongValues) -> Values:
-    """Returns the arguments of a call."""
+# The last head of each procedure, and its user: most calls have that of the one before.
+LAST_HEADS = dict[str, tuple[str, Optional[int]]]()
+
+
+def head_of(procedure: str, said: str) -> tuple[str, int | None]:
+    """Returns what a call says before its arguments, and the user in that."""
+    last = LAST_HEADS.get(procedure)
+    # (the head ends before a space; with the same text before it, it is the same head)
+    if last and said.startswith(last[0]) and said[len(last[0]):len(last[0]) + 1] in ' ':
+        return last
+    head = CALL_HEAD.match(said)
+    assert head, said[:200]
+    found = LAST_HEADS[procedure] = head[0], int(head[1]) if head[1] else None
+    return found
+
+
+def read_call(procedure: str, said: str, long_values: LongValues | None = None) -> Values:
+    """Returns the arguments of a call, none of a raw one."""
+    if procedure == RAW.name:
+        return {}
     head, _ = head_of(procedure, said)
     return layout_of(BY_NAME[procedure].arguments).read(said, len(head), long_values)
 
 
-def read_reply(procedure: str, said: str, long_values: LongValues) -> tuple[int | None, Values]:
+def read_reply(procedure: str, said: str,
+               long_values: LongValues | None = None) -> tuple[int | None, Values]:
     """Returns the status and the results of a reply: no status if the call was not accepted."""
     found = REPLY_STATUS.match(said)
     assert found, said[:200]
@@ -117,6 +138,15 @@ def read_reply(procedure: str, said: str, long_values: LongValues) -> tuple[int 
     status, layouts = int(found[2] or 0), BY_NAME[procedure]
     layout = layout_of(layouts.failed if status else layouts.done)
     return status, layout.read(said, found.end(), long_values)
+
+
+def handle_found(procedure: str, said: str) -> str:
+    """Returns the handle with which the results of a success begin, or nothing."""
+    found, layout = REPLY_STATUS.match(said), BY_NAME[procedure].done
+    if found is None or found[2] != '0':
+        return ''
+    first, _ = layout_of(PARTS.get(layout, layout).split()[0]).items(said, found.end())
+    return str(first.get('fh', ''))
 
 
 class Attributes(NamedTuple):

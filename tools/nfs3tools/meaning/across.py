@@ -12,19 +12,19 @@ from collections.abc import Sequence
 from ..exchanges.in_words import beginning_of
 from ..exchanges.kept import host_of
 from ..exchanges.objects import DOTS
+from ..exchanges.procedures import (
+    COMMIT, CREATE, LISTINGS, LOOKUP, OF_NAMES, READ, READLINK, RENAME, SETATTR, SYMLINK, WRITE)
 from ..exchanges.values import seconds
 from ..recordings.selection import count
 from .alone import BESIDE, broken, broken_by, of_made, of_sent_times
 from .objects import (
     HIDDEN, NO_VERIFIER, OTHERS, Epoch, FileContent, FilePart, KnownName, KnownText, NameTarget,
     Object, Objects)
-from .recorded import (
-    END, LISTS, NEVER, OF_CONTENT, OF_NAMES, OWNERS_OF_NAMES, REMOVES, UNCHECKED, Recorded,
-    RecordedExchange)
+from .recorded import END, NEVER, UNCHECKED, UNLINKING, Recorded, RecordedExchange
 from .rules import ACROSS, CLIENT, Evidence, Looked, RuleFinding
 
 UNSTABLE = 0
-OF_DATA = (*OF_CONTENT, 'COMMIT')
+OF_DATA = (WRITE, SETATTR, COMMIT)
 
 
 class Across(Objects):
@@ -45,9 +45,9 @@ class Across(Objects):
         self.named, self.listed = Counter[str](), Counter[str]()
         self.placed, self.unnamed = dict[tuple[str, ...], str](), dict[str, int]()
         self.verifiers = dict[tuple[str, str], Evidence]()
-        self.ways = {'WRITE': self.write, 'READ': self.read, 'SETATTR': self.set_size,
-                     'CREATE': self.create, 'COMMIT': self.commit, 'SYMLINK': self.take_text,
-                     'READLINK': self.take_text}
+        self.ways = {WRITE: self.write, READ: self.read, SETATTR: self.set_size,
+                     CREATE: self.create, COMMIT: self.commit, SYMLINK: self.take_text,
+                     READLINK: self.take_text}
 
     def take(self, one: RecordedExchange) -> None:
         """Takes an exchange whose call was accepted. None before it has a later end."""
@@ -60,9 +60,9 @@ class Across(Objects):
                 self.ways[one.procedure](one, self.at(one, one.call['fh']))
             if one.server not in self.recorded.insensitive:
                 self.take_names(one)
-        if one.procedure in REMOVES and one.is_done:
+        if one.procedure in UNLINKING and one.is_done:
             self.relinked[one.server] = one.source.end
-        if self.is_whole and (one.procedure in OWNERS_OF_NAMES or one.procedure in LISTS):
+        if self.is_whole:
             self.place(one)
         for told in several:
             self.settle(one, told)
@@ -159,7 +159,7 @@ class Across(Objects):
 
     def take_text(self, one: RecordedExchange, _: Object) -> None:
         """READLINK returns the text that was given or read before. SYMLINK has another handle."""
-        told, path = one.told[0], (one.reply if one.procedure == 'READLINK' else one.call)['path']
+        told, path = one.told[0], (one.reply if one.procedure == READLINK else one.call)['path']
         known = self.at(one, told.handle)
         was, known.text = known.text, None
         if told.now and was and told.now.mtime == was.mtime and path != was.path:
@@ -208,13 +208,13 @@ class Across(Objects):
             ((one.server, one.call['fh'], entry['name']), told.handle)
             for told, entry in zip(one.told[1:], one.reply.get('entries', ())) if told.handle)
         names = [(one.server, *name) for name in one.names]
-        if one.procedure in REMOVES and one.is_done:
+        if one.procedure in UNLINKING and one.is_done:
             files = [self.placed.pop(name, '') for name in names]
             if files[-1]:
                 self.at(one, files[-1]).unstable = FileContent()
             else:
                 self.unnamed[one.server] = one.source.end
-            if one.procedure == 'RENAME':
+            if one.procedure == RENAME:
                 self.placed[names[1]] = files[0]
         elif names and one.is_ok:
             self.placed[names[0]] = str(one.call.get('file.fh') or one.reply.get('fh', ''))
@@ -257,7 +257,7 @@ class Across(Objects):
 
     def take_names(self, one: RecordedExchange) -> None:
         """Takes what a reply says of names against what is known, and then what the call did."""
-        if one.procedure in LISTS and one.is_ok:
+        if one.procedure in LISTINGS and one.is_ok:
             self.take_listing(one, self.at(one, one.call['fh']))
         if one.procedure in OF_NAMES and one.is_ok:
             # (whether a change of a directory is seen in its ctime)
@@ -288,12 +288,12 @@ class Across(Objects):
         is_known = says is not None and self.is_shown(one, folder)
         if is_known:
             self.compare(one, folder, name, found if says else False)
-        if one.procedure != 'LOOKUP' and one.is_unsure():
+        if one.procedure != LOOKUP and one.is_unsure():
             folder.forget_name(name)
-        elif one.is_ok and one.procedure == 'RENAME':
+        elif one.is_ok and one.procedure == RENAME:
             self.rename(one, number)
-        elif one.is_ok and one.procedure != 'LOOKUP':
-            folder.names[name] = KnownName(one.procedure not in REMOVES and found, one.source)
+        elif one.is_ok and one.procedure != LOOKUP:
+            folder.names[name] = KnownName(one.procedure not in UNLINKING and found, one.source)
         elif is_known:
             folder.names[name] = KnownName(found if says else False, one.source)
 
@@ -307,7 +307,7 @@ class Across(Objects):
         if bool(now) != bool(was):
             words = ('there', 'gone') if now else ('gone', 'there')
             self.find_name(one, folder, 'name-gone' if now else 'name-there', name, known, *words)
-        elif one.procedure == 'LOOKUP' and is_other(now, was):
+        elif one.procedure == LOOKUP and is_other(now, was):
             self.find_name(one, folder, 'name-object', name, known, *map(fileid_of, (now, was)))
 
     def rename(self, one: RecordedExchange, number: int) -> None:

@@ -5,16 +5,17 @@ from __future__ import annotations
 from collections.abc import Callable, Iterable, Iterator
 from itertools import chain
 
-from ..exchanges.in_words import number_named
+from ..exchanges.in_words import number_named, short
+from ..exchanges.procedures import (
+    ACCESS, CREATE, DIRECTORY, FSINFO, LISTINGS, LOOKUP, MAKING, MKDIR, OF_NAMES, READ, REGULAR,
+    SETATTR, SYMBOLIC_LINK, SYMLINK, WRITE)
 from ..exchanges.values import Attributes, Time, Values, attributes, seconds, size_of_entry
 from ..shared.layouts import ERRORS, VALUES
-from .recorded import (
-    DIRECTORY, EVERYWHERE, EXCLUSIVE, LISTS, MAKES, OF_NAMES, REGULAR, SYMBOLIC_LINK, UNCHECKED,
-    RecordedExchange)
+from .recorded import EVERYWHERE, EXCLUSIVE, UNCHECKED, RecordedExchange
 from .rules import CLIENT
 
 RuleChecks = Iterator[tuple[object, str, str]]
-TYPES = {'CREATE': REGULAR, 'MKDIR': DIRECTORY, 'SYMLINK': SYMBOLIC_LINK}
+TYPES = {CREATE: REGULAR, MKDIR: DIRECTORY, SYMLINK: SYMBOLIC_LINK}
 NOT_SYNC = 10002
 TIME_NAMES = 'atime', 'mtime', 'ctime'
 SECOND = 10**9  # nanoseconds
@@ -41,7 +42,8 @@ def broken(asked: RuleChecks) -> Iterator[tuple[str, str]]:
 
 def of_byte_counts(one: RecordedExchange) -> RuleChecks:
     """Asks how much a WRITE has, or the reply to a READ, and how much was done."""
-    name, values = one.procedure.lower(), one.call if one.procedure == 'WRITE' else one.reply
+    name = short(one.procedure).lower()
+    values = one.call if one.procedure == WRITE else one.reply
     count, size, most = values['count'], len(values['data']), one.call['count']
     yield count != size, f'{name}-count-data', f'count is {count:,}, with {size:,} bytes of data'
     if one.is_ok:
@@ -104,7 +106,7 @@ def odd_times(one: RecordedExchange, by: str, *times: Time) -> str:
 
 def of_access(one: RecordedExchange) -> RuleChecks:
     granted, asked = one.reply['access'], one.call['access']
-    now, wanted = (number_named('access', str(bits)) for bits in (granted, asked))
+    now, wanted = (number_named('access', bits) for bits in (granted, asked))
     yield granted & ~asked, 'access-asked', f'{now}, asked for {wanted}'
 
 
@@ -208,10 +210,10 @@ def of_limits(one: RecordedExchange) -> RuleChecks:
 
 
 Checks = dict[str, tuple[Callable[[RecordedExchange], RuleChecks], ...]]
-OF_ANY_STATUS: Checks = {'WRITE': (of_byte_counts,), 'SETATTR': (of_guard,)}
+OF_ANY_STATUS: Checks = {WRITE: (of_byte_counts,), SETATTR: (of_guard,)}
 CHECKS: Checks = {
-    **dict.fromkeys(('LOOKUP', *OF_NAMES), (of_directory,)),
-    **dict.fromkeys(MAKES, (of_directory, of_made)),
-    **dict.fromkeys(LISTS, (of_directory, of_entry_names, of_entries, of_file_ids)),
-    'READ': (of_byte_counts, of_read), 'WRITE': (of_write,),
-    'SETATTR': (of_setting,), 'ACCESS': (of_access,), 'FSINFO': (of_limits,)}
+    **dict.fromkeys((LOOKUP, *OF_NAMES), (of_directory,)),
+    **dict.fromkeys(MAKING, (of_directory, of_made)),
+    **dict.fromkeys(LISTINGS, (of_directory, of_entry_names, of_entries, of_file_ids)),
+    READ: (of_byte_counts, of_read), WRITE: (of_write,),
+    SETATTR: (of_setting,), ACCESS: (of_access,), FSINFO: (of_limits,)}

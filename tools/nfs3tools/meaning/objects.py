@@ -9,10 +9,10 @@ from collections.abc import Callable, Hashable, Iterable, Sequence
 from dataclasses import dataclass, field
 from typing import Any, NamedTuple, Union
 
+from ..exchanges.procedures import DIRECTORY
 from ..exchanges.values import Attributes, Data, Time, seconds
 from .alone import SECOND
-from .recorded import (
-    DIRECTORY, END, REMOVED, ObjectKey, RecordedExchange, StatedAttributes)
+from .recorded import END, REMOVED, ObjectKey, RecordedExchange, StatedAttributes
 from .rules import Evidence, Looked, RuleFinding
 
 # Nanoseconds in which the clock of a server may stand: of one with parts of seconds, and without.

@@ -9,36 +9,27 @@ from collections.abc import Iterator
 from functools import cached_property
 from typing import NamedTuple
 
+from ..exchanges.in_words import short
 from ..exchanges.kept import Kept
+from ..exchanges.procedures import (
+    CHANGING, COMMIT, CREATE, DONE, LOOKUP, NO_ENTRY, NULL, PATHCONF, REMOVING, RENAME, WRITE,
+    is_of_files)
+from ..exchanges.statements import names_in_call, owners_in
 from ..exchanges.stored import LongValues
 from ..exchanges.values import Attributes, Values, attributes, read_call, read_reply
 from .rules import Evidence
 
-NFS_PREFIX, NOTHING_ASKED = 'NFSPROC3_', 'NFSPROC3_NULL'
+UNLINKING = REMOVING | {RENAME}  # calls that take a name away
 NEVER = sys.maxsize  # the end of a call that may still be carried out
 END = 1 << 64  # no file is larger
 EVERYWHERE = 0, END
 NO_VALUES: Values = {}
-OF_CONTENT, MAKES = ('WRITE', 'SETATTR'), ('CREATE', 'MKDIR', 'SYMLINK', 'MKNOD')
-REMOVES, LISTS = ('REMOVE', 'RMDIR', 'RENAME'), ('READDIR', 'READDIRPLUS')
-OF_NAMES = (*MAKES, *REMOVES, 'LINK')
-OWNERS_OF_NAMES = {**dict.fromkeys(('LOOKUP', *OF_NAMES), ('',)), 'RENAME': ('from.', 'to.'),
-                   'LINK': ('link.',)}
-CHANGING_PROCEDURES = {*OF_CONTENT, *OF_NAMES}
 # Errors after which a part may have been done: IO, NOSPC, DQUOT, SERVERFAULT and JUKEBOX.
 UNSURE = (5, 28, 69, 10006, 10008)
-NOENT, EXIST = 2, 17
-REGULAR, DIRECTORY, SYMBOLIC_LINK = 1, 2, 5
+EXIST = 17
 UNCHECKED, GUARDED, EXCLUSIVE = 0, 1, 2
 REMOVED = 'removed'  # in place of a handle: what a removed or moved name led to
 ObjectKey = tuple[str, str]  # of an object: its server and its handle
-# The objects of which replies have attributes: where the call has the handle, or the reply if there
-# is no place, and the owner of the attributes.
-OWNERS: dict[str, tuple[tuple[str, str], ...]] = {
-    **dict.fromkeys(('LOOKUP', *MAKES), (('', 'obj'), ('fh', 'dir'))),
-    **dict.fromkeys(('REMOVE', 'RMDIR', *LISTS), (('fh', 'dir'),)),
-    'RENAME': (('from.fh', 'from-dir'), ('to.fh', 'to-dir')),
-    'LINK': (('file.fh', 'file'), ('link.fh', 'dir'))}
 
 
 class StatedAttributes(NamedTuple):
@@ -63,7 +54,7 @@ class RecordedExchange:
         kept, name = recorded.kept, recorded.kept.listed_name(number)
         # (two servers may have one address, and differ in their ports)
         self.recorded, self.server = recorded, kept.parts[kept.part_of[number]].server
-        self.procedure = name.removeprefix(NFS_PREFIX)
+        self.procedure = name
         self.call, self.reply = read_call(name, kept.asking[number], recorded.values), NO_VALUES
         self.status: int | None = None
         frame = self.ended = 0
@@ -71,9 +62,9 @@ class RecordedExchange:
             self.status, self.reply = read_reply(name, kept.answering[reply], recorded.values)
             frame, self.ended = kept.reply_frames[reply], kept.reply_times[reply]
         self.source = Evidence(number, kept.frames[number] or NEVER, recorded.end_of(number), frame,
-                               kept.times[number], self.procedure)
+                               kept.times[number], short(name))
         self.sent = 1 + len(kept.again.get(number, ())) + (number in kept.earlier)
-        self.is_change, self.is_ok = self.procedure in CHANGING_PROCEDURES, self.status == 0
+        self.is_change, self.is_ok = name in CHANGING, self.status == DONE
         self.is_done = self.is_ok or self.status in UNSURE
 
     def sender(self, number: int, by: str) -> str:
@@ -92,11 +83,10 @@ class RecordedExchange:
     @cached_property
     def told(self) -> list[StatedAttributes]:
         """What the reply says of objects."""
-        told = [StatedAttributes(self.call.get(handle, '') if handle else self.reply.get('fh', ''),
-                                 attributes(self.reply, owner + '.after.')
+        told = [StatedAttributes(handle, attributes(self.reply, owner + '.after.')
                                  or attributes(self.reply, owner + '.'),
                                  attributes(self.reply, owner + '.before.'))
-                for handle, owner in OWNERS.get(self.procedure, (('fh', 'obj'),))]
+                for owner, handle in owners_in(self.procedure, self.call, self.reply)]
         return told + [StatedAttributes(entry.get('fh', ''), attributes(entry), None)
                        for entry in self.reply.get('entries', ())]
 
@@ -104,16 +94,16 @@ class RecordedExchange:
     def names(self) -> tuple[ObjectKey, ...]:
         """The folders of the call, each with the name in it: two of RENAME. Equal texts are one
         object, since many are kept."""
-        return tuple((sys.intern(self.call[owner + 'fh']), sys.intern(self.call[owner + 'name']))
-                     for owner in OWNERS_OF_NAMES.get(self.procedure, ()))
+        return tuple((sys.intern(folder), sys.intern(name))
+                     for folder, name in names_in_call(self.procedure, self.call))
 
     def says_of(self, number: int) -> bool | None:
         """Returns whether the reply says that a name is, or was, there; None if it says nothing."""
-        if self.procedure == 'RENAME':
+        if self.procedure == RENAME:
             return True if self.is_ok and not number else None
-        if self.procedure == 'LOOKUP' or self.procedure in REMOVES:
-            return True if self.is_ok else False if self.status == NOENT else None
-        if self.procedure == 'CREATE' and self.call['how'] != GUARDED:
+        if self.procedure == LOOKUP or self.procedure in UNLINKING:
+            return True if self.is_ok else False if self.status == NO_ENTRY else None
+        if self.procedure == CREATE and self.call['how'] != GUARDED:
             return None
         return False if self.is_ok else True if self.status == EXIST else None
 
@@ -170,12 +160,12 @@ class Recorded:
         self.changes = defaultdict[ObjectKey, list[PossibleChange]](list)
         self.pending, self.senders = set[tuple[str, ...]](), dict[tuple[str, int], str]()
         for number in range(len(kept)):
-            procedure = kept.listed_name(number).removeprefix(NFS_PREFIX)
-            if procedure in CHANGING_PROCEDURES:
+            procedure = kept.listed_name(number)
+            if procedure in CHANGING:
                 self.note_change(self.exchange(number))
-            elif procedure == 'COMMIT' and not kept.firsts[number]:
+            elif procedure == COMMIT and not kept.firsts[number]:
                 self.pending.add((self.exchange(number).server, self.exchange(number).call['fh']))
-            elif procedure == 'PATHCONF' and self.exchange(number).reply.get('case_insensitive'):
+            elif procedure == PATHCONF and self.exchange(number).reply.get('case_insensitive'):
                 self.insensitive.add(self.exchange(number).server)
         for changes in self.changes.values():
             changes.sort()
@@ -184,10 +174,10 @@ class Recorded:
 
     def note_change(self, one: RecordedExchange) -> None:
         number, begin, end, *_ = one.source
-        written = (one.first, one.last) if one.procedure == 'WRITE' else EVERYWHERE
+        written = (one.first, one.last) if one.procedure == WRITE else EVERYWHERE
         change = PossibleChange(begin, end, number, written, one.names)
         keys = {(one.server, told.handle) for told in one.told if told.handle}
-        keys |= {(one.server, REMOVED)} if one.procedure in REMOVES else set()
+        keys |= {(one.server, REMOVED)} if one.procedure in UNLINKING else set()
         for key in keys:
             self.changes[key].append(change)
         if one.status is None:
@@ -209,7 +199,7 @@ class Recorded:
         ends = [self.end_of(number) for number in range(len(self.kept))]
         for number in sorted(range(len(ends)), key=ends.__getitem__):
             name = self.kept.listed_name(number)
-            if self.kept.firsts[number] and name.startswith(NFS_PREFIX) and name != NOTHING_ASKED:
+            if self.kept.firsts[number] and is_of_files(name) and name != NULL:
                 one = self.exchange(number)
                 if one.status is not None:
                     yield one

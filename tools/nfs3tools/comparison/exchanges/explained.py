@@ -24,8 +24,9 @@ from ...exchanges.statements import BEFORE, owners_in, statements_in, statements
 from ...exchanges.values import Values
 from ..values.classes import CLASSES, Mask, Way
 from .changes import Change, Otherwise
-from .facts import Facts, is_silly
+from .facts import Facts
 from .matching import Pair
+from .outlines import is_silly
 from .pairing import NOBODY, Pairing
 
 TIMES_OF_FILES = frozenset(('atime', 'mtime', 'ctime', 'used'))

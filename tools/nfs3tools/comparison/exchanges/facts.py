@@ -12,12 +12,12 @@ from ...exchanges.history import CarriedOut, History
 from ...exchanges.listing import Line
 from ...exchanges.procedures import ACCESS, CHANGING, LISTINGS, LOOKUP, is_of_files
 from ...exchanges.statements import names_in_call, statements_in
-from ...exchanges.stored import LongValues, without_long
+from ...exchanges.stored import LongValues
 from ...exchanges.values import Values, read_call, read_reply
 from ...shared.layouts import RAW
 from .changes import Turns
 from .ids import IdsOfRun, handles_asked
-from .outlines import SILLY, Outlines
+from .outlines import Outlines
 
 READ_CALLS = CHANGING | LISTINGS | {LOOKUP, ACCESS}  # of which more than handles are asked
 
@@ -61,7 +61,7 @@ class Facts:
         if at in self.wanted:
             self.messages[at] = []
         if line.procedure in READ_CALLS:
-            self.calls[at] = read_call(line.procedure, without_long(line.text), self.values)
+            self.calls[at] = read_call(line.procedure, line.text)
             names = names_in_call(line.procedure, self.calls[at])
             if names:
                 self.names[at] = tuple(name for _, name in names)
@@ -72,7 +72,7 @@ class Facts:
         is_further = at in self.history.frames
         if is_further or not is_of_files(line.procedure) or not self.is_asked(at, line):
             return
-        status, reply = read_reply(line.procedure, without_long(line.text), self.values)
+        status, reply = read_reply(line.procedure, line.text)
         one = self.carried_out(at, status, reply)
         self.ids.take(at, statements_in(one.procedure, one.call, one.reply))
         self.history.take(one)
@@ -98,8 +98,3 @@ class Facts:
             return CarriedOut(at, at, at, at, procedure, call, status, reply)
         return CarriedOut(at, turns.begins[at], turns.ends[at], turns.done[at], procedure, call,
                           status, reply, turns.is_change(at))
-
-
-def is_silly(name: str) -> bool:
-    """Whether a name is one that a client gave to a removed file."""
-    return SILLY.has_value(f'"{name}"')

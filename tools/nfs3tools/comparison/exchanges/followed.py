@@ -19,7 +19,7 @@ from ...recordings.spool import Stored
 from ...recordings.taken import Taken, TakenConnection, TakenStream, whole
 from ...shared.layouts import BY_NAME, BodyReader
 from ...shared.places import SIDES, Side
-from .ids import NO_LONG_VALUES, IdsOfRun, id_in, known_object
+from .ids import IdsOfRun, id_in, known_object
 from .outlines import Outlines
 from .pairing import Listing, Pairing
 
@@ -40,14 +40,13 @@ def partners_of(pairing: Pairing) -> dict[int, int]:
 
 
 def call_in(line: Line) -> Values:
-    return read_call(line.procedure, line.text, NO_LONG_VALUES)
+    return read_call(line.procedure, line.text)
 
 
 def entries_listed(line: Line) -> list[Values]:
     """Returns the entries of a listing, none of one that failed."""
-    entries: list[Values] = read_reply(line.procedure, line.text, NO_LONG_VALUES)[1].get(
-        'entries', [])
-    return entries
+    _, reply = read_reply(line.procedure, line.text)
+    return list(reply.get('entries', ()))
 
 
 class Followed:

@@ -6,23 +6,19 @@ from collections.abc import Iterable
 from functools import cached_property
 
 from ...exchanges.listing import Line
-from ...exchanges.procedures import LINK, RENAME, is_of_files
-from ...exchanges.statements import Statement, statements_in
-from ...exchanges.stored import LongValues, without_long
+from ...exchanges.procedures import is_of_files
+from ...exchanges.statements import Statement, handle_items, statements_in
 from ...exchanges.values import Values, read_reply
 from .outlines import Outlines
 
 KnownObject = tuple[int, str]  # an object by its handle, or by its folder's and its name
 Id = tuple[str, str]  # of the file system, empty if it is not known, and of the file
-NO_LONG_VALUES = LongValues()
-# The items of a call that are handles, if it has two
-TWO_HANDLES = {RENAME: ('from.fh', 'to.fh'), LINK: ('file.fh', 'link.fh')}
 
 
 def handles_asked(outlines: Outlines, at: int) -> Values:
     """Returns the handles of a call as its values."""
-    names = TWO_HANDLES.get(outlines.procedure_of(at), ('fh',))
-    return {name: f'{handle:x}' for name, handle in zip(names, outlines.objects_of(at))}
+    return {item: f'{handle:x}' for item, handle in zip(
+        handle_items(outlines.procedure_of(at)), outlines.objects_of(at))}
 
 
 def known_object(statement: Statement) -> KnownObject:
@@ -51,7 +47,7 @@ class IdsOfRun:
 
     def statements(self, at: int, line: Line) -> list[Statement]:
         """Returns what a reply says of objects that have ids."""
-        _, reply = read_reply(line.procedure, without_long(line.text), NO_LONG_VALUES)
+        _, reply = read_reply(line.procedure, line.text)
         return list(statements_in(line.procedure, handles_asked(self.outlines, at), reply))
 
     def take(self, at: int, statements: Iterable[Statement]) -> None:

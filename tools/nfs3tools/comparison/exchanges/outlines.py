@@ -15,17 +15,18 @@ from functools import cache, cached_property
 from itertools import groupby
 from operator import attrgetter
 
-from ...exchanges.answering import REPLY_STATUS, Answering
-from ...exchanges.listing import Line, LinePlace, Message, line_of, place_of
-from ...exchanges.objects import GIVING_HANDLES
-from ...exchanges.procedures import CHANGING, LOOKUP, READDIRPLUS
-from ...exchanges.searches import (
-    alike_in, entries_in, first_handle_in, first_name_in, handles_in, pattern_of_items)
+from ...exchanges.answering import Answering, error_in
+from ...exchanges.listing import CALLED_NUMBERS, Line, LinePlace, Message, line_of, place_of
+from ...exchanges.objects import NAMING, handles_given
+from ...exchanges.procedures import CHANGING, LOOKUP
+from ...exchanges.statements import handle_items
+from ...exchanges.values import read_call
 from ..values.bindings import RENAMED
 from ..values.classes import CLASSES, Mask, Way
 
-NAMING = GIVING_HANDLES | {'MOUNTPROC3_MNT'}  # calls whose answers have the handle of a name
 SILLY = next(one for one in CLASSES if one.name == 'sillynames')
+# Of alike calls the same, if they have them
+ALIKE_ITEMS = ('name', 'from.name', 'to.name', 'link.name', 'dirpath', 'offset')
 DOT_HASHES = hash('.'), hash('..')  # the folder itself, and the one above it
 UNSEEN, SEEN, MADE = range(3)  # how well it is known where an object is
 
@@ -38,13 +39,18 @@ def classes_of_items(mask: Mask) -> dict[str, str]:
 
 def renamed_values(mask: Mask) -> re.Pattern[str]:
     """Returns what finds the names and values of renamed items in a line."""
-    return pattern_of_items(classes_of_items(mask))
+    return re.compile(f' ({"|".join(sorted(classes_of_items(mask)))})=([^ \\n"]+)')
 
 
-def is_done(text: str) -> bool:
-    """Whether a reply says that its call was carried out."""
-    found = REPLY_STATUS.match(text)
-    return found is not None and found[2] == '0'
+def alike_in(line: Line) -> tuple[object, ...]:
+    """Returns what alike calls have in common: the procedure's numbers, names and an offset."""
+    numbers, call = CALLED_NUMBERS.match(line.text), read_call(line.procedure, line.text)
+    return numbers and numbers.groups(), *(call.get(item) for item in ALIKE_ITEMS)
+
+
+def is_silly(name: str) -> bool:
+    """Whether a name is one that a client gave to a removed file."""
+    return SILLY.has_value(f'"{name}"')
 
 
 # When a call was sent, by its connection and record: a number that grows
@@ -153,10 +159,11 @@ class Outlines:
                 if earlier is not None:
                     self.again.setdefault(owners[-1], []).append(line.record)
                     continue
-                name = first_name_in(line.text) if line.procedure in NAMING else None
-                if name is not None:
-                    named[len(self)] = hash(name)
-                self.add_call(line, said)
+                call = read_call(line.procedure, line.text)
+                if line.procedure in NAMING:
+                    named[len(self)] = hash(call.get('name', call.get('dirpath')))
+                self.add_call(line, [int(call[item], 16) for item in handle_items(line.procedure)
+                                     if call.get(item)], said)
                 continue
             at = owners[rule.reply(line.xid)]
             if at in self.again:
@@ -167,11 +174,11 @@ class Outlines:
                 said_before[at].add(own)
             self.add_reply(at, line.record, said)
             if line.procedure in CHANGING:
-                self.take_status(at, is_done(line.text), line.record == self.replies[at])
+                self.take_status(at, not error_in(line.procedure, line.text),
+                                 line.record == self.replies[at])
             self.learn(at, line.procedure, line.text, named.get(at, 0))
 
-    def add_call(self, line: Line, said: int) -> None:
-        handles = handles_in(line.text)
+    def add_call(self, line: Line, handles: list[int], said: int) -> None:
         if len(handles) > 1:
             self.seconds[len(self)] = handles[1]
         self.kinds.append(self.procedures.setdefault(line.procedure, len(self.procedures)))
@@ -199,17 +206,16 @@ class Outlines:
     def learn(self, at: int, procedure: str, rest: str, name: int) -> None:
         """Learns from a reply which objects its call has reached."""
         folder = self.folders[at]
-        if procedure in NAMING:
-            found = first_handle_in(rest)
-            if found:
-                self.found[at] = found
+        for entry, digits in handles_given(procedure, rest):
+            handle = int(digits, 16)
+            if entry is None:
+                self.found[at] = handle
                 known = SEEN if procedure == LOOKUP else MADE
-                self.objects.learn(found, folder, name, known, at)
-        elif procedure == READDIRPLUS:
-            for entry, handle in entries_in(rest):
-                self.objects.learn(handle, folder, hash(entry), SEEN, at)
-                if SILLY.has_value(f'"{entry}"'):
-                    self.removed.setdefault(at, []).append(handle)
+                self.objects.learn(handle, folder, name, known, at)
+                continue
+            self.objects.learn(handle, folder, hash(entry), SEEN, at)
+            if is_silly(entry):
+                self.removed.setdefault(at, []).append(handle)
 
     def ask_of_objects(self, when: Callable[[int], int]) -> None:
         """In what a call asks, objects take the place of handles, which each run numbers anew."""
@@ -296,7 +302,7 @@ class Outlines:
         return [by_record(self.place_of(one.connection), one.is_call)[one.record]
                 for one in messages]
 
-    def lines_of(self, some: Iterable[int], lines: Iterable[str]) -> Iterator[tuple[int, str]]:
+    def lines_of(self, some: Iterable[int], lines: Iterable[str]) -> Iterator[tuple[int, Line]]:
         """Iterates over the lines of some exchanges, but for retransmissions and replies that say
         the same again, each with its exchange."""
         places = dict[LinePlace, int]()
@@ -305,7 +311,8 @@ class Outlines:
             places[LinePlace(connection, True, record)] = at
             places.update((LinePlace(connection, False, record), at)
                           for record in self.replies_of(at))
-        return ((places[place], line) for line in lines if (place := place_of(line)) in places)
+        return ((places[place], line_of(line)) for line in lines
+                if (place := place_of(line)) in places)
 
     def objects_of(self, at: int) -> list[int]:
         """Returns the handles of a call."""
@@ -330,7 +337,7 @@ class Outlines:
         offset. The lines are those of the listing."""
         return {at: (self.procedure_of(at), *alike_in(line),
                      *map(self.identities.__getitem__, self.objects_of(at)))
-                for at, line in self.lines_of(wanted, lines) if place_of(line).is_call}
+                for at, line in self.lines_of(wanted, lines) if line.is_call}
 
     def said_again(self, lines: Iterable[str], wanted: set[int],
                    mask: Mask) -> dict[int, tuple[int, ...]]:
@@ -338,7 +345,7 @@ class Outlines:
         out, pattern = {at: [self.asked[at], self.identities[self.found[at]]]
                         for at in wanted}, renamed_values(mask)
         for at, line in self.lines_of(wanted, lines):
-            out[at].append(hash(pattern.sub('', line_of(line).text)))
+            out[at].append(hash(pattern.sub('', line.text)))
         return {at: tuple(said) for at, said in out.items()}
 
     def with_origins(self, exchanges: Iterable[int]) -> set[int]:

@@ -8,6 +8,7 @@ from collections.abc import Callable, Hashable, Iterable, Iterator, Mapping, Seq
 from functools import cached_property
 from itertools import groupby, islice, tee
 
+from ...exchanges.procedures import ACCESS, GETATTR, LISTINGS, LOOKUP, NULL, STEADY
 from ..values.classes import Mask
 from .matching import Pair, aligned, blocks_of, increasing
 from .outlines import Outlines
@@ -19,9 +20,7 @@ KeysOfRuns = tuple[Key, Key]  # of exchanges of both runs
 
 # Calls that change nothing. A client's caches and timers decide when they are sent. COMMIT is none:
 # what it makes safe is no matter of caches.
-ASKING = frozenset('NFSPROC3_' + name for name in (
-    'NULL', 'GETATTR', 'LOOKUP', 'ACCESS', 'READLINK', 'READDIR', 'READDIRPLUS', 'FSSTAT',
-    'FSINFO', 'PATHCONF')) | {'MOUNTPROC3_NULL'}
+ASKING = STEADY | LISTINGS | {NULL, GETATTR, LOOKUP, ACCESS, 'MOUNTPROC3_NULL'}
 FIRST_CALLS = 50  # by which connections are brought together
 ASKED_BY_MANY = 16  # connections: a call that so many begin with says nothing of one
 # Calls that a gap may have in the second run above those of the first, for what may be elsewhere,

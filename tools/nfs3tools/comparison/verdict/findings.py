@@ -8,7 +8,7 @@ from collections.abc import Callable, Iterable, Iterator, Sequence
 from dataclasses import dataclass, field, replace
 
 from ...exchanges.in_words import short
-from ...exchanges.listing import Exchange, Message, line_of
+from ...exchanges.listing import Exchange, Message
 from ...exchanges.objects import GIVING_HANDLES, UNKNOWN, Paths, below
 from ...exchanges.stored import LongValues
 from ...recordings.selection import count, plural
@@ -117,7 +117,7 @@ class ParsedExchanges:
         self.exchanges, self.paths, values = dict[int, Exchange](), Paths(), LongValues()
         kept = outlines.with_origins(wanted)
         for at, line in outlines.lines_of(kept, run.listing() if kept else ()):
-            message = line_of(line).message(values)
+            message = line.message(values)
             if message.is_call:
                 self.exchanges[at] = Exchange(message)
             else:
