@@ -62,7 +62,7 @@ dist: tree
 
 deb: tree
 	umask 022
-	root=$(BUILD)/deb && rm -rf "$$root" && mkdir -p "$$root/DEBIAN" "$$root/usr/share/doc/nfs3canon"
+	root="$(BUILD)/deb" && rm -rf "$$root" && mkdir -p "$$root/DEBIAN" "$$root/usr/share/doc/nfs3canon"
 	cp -a "$(TREE)/." "$$root/usr"
 	gzip -n "$$root"/usr/share/man/man1/*.1
 	mv "$$root/usr/share/zsh/site-functions" "$$root/usr/share/zsh/vendor-completions"

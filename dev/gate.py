@@ -250,7 +250,8 @@ def main() -> int:
     asked = parser.parse_args()
     count, start = Count(), time.monotonic()
     (alone if asked.alone else together)(asked.anew, count)
-    say(f'the gate took {(time.monotonic() - start) / 60:.0f} minutes')
+    say(f'the gate took {(time.monotonic() - start) / 60:.0f} minutes, and '
+        f'{sum(os.times()[:4]) / 60:.0f} of processor time')
     print(count.told())
     return count.status
 
