@@ -48,21 +48,21 @@ pub use Rattle.capture3.specs.BodyProgram.{agreed, agrees, all_of_body, answerin
 unfoldable pub use Rattle.capture3.specs.BodyProgram.{judge_call, judge_reply}
 pub use Rattle.capture3.specs.Capture.{AreStreams, IsCapture, IsConnection, One, Two, Version, magic, max_connections, total_size}
 pub use Rattle.capture3.specs.Chunks.{AreChunks, BeginsStream, IsChunk, IsStream, max_bytes, WithinChunk}
-pub use Rattle.capture3.specs.ConnectionMachine.{Closes, Closing, InClient, InMixed, InServer, Opening, Refuses, after_client, conversing, ending, judge_replies, opened, opening_next, after_server, client_refusal, server_refusal, turning, opening_entries}
-pub use Rattle.capture3.specs.Connections.{BadSide, ConnectionShows, InCalls, InClientStream, InReplies, InServerStream, InTurnShows, MixedShows, NoLength, ShownFault, StreamsShow, TooMuch, calls_in_turn, refusal, replies_to}
+pub use Rattle.capture3.specs.ConnectionMachine.{Closes, Closing, InClient, InMixed, InServer, Opening, Refuses, ShownFault, after_client, conversing, ending, judge_replies, opened, opening_next, after_server, client_refusal, refusal, server_refusal, shown_with, turning, opening_entries}
+pub use Rattle.capture3.specs.Connections.{BadSide, ConnectionShows, InCalls, InClientStream, InReplies, InServerStream, InTurnShows, MixedShows, NoLength, StreamsShow, TooMuch, calls_in_turn, replies_to}
 pub use Rattle.capture3.specs.Entry.{End, Entry}
 pub use Rattle.capture3.specs.FileMachine.{Parsing, concluded, digit, emitted, file_next, file_start, last_entries, magic_front, parsed, parsing_in, reached, verdict, verdict_of, marked}
 pub use Rattle.capture3.specs.FirstFault.{AfterConnections, ByteAfterEnd, ConnectionIsTooMany, FirstFault, IsClean, MagicDiffers, MarkIsBad, Rule, Shows, WithinConnection}
 pub use Rattle.capture3.specs.Laws.{AreWithinLimits, begins, most_bytes, HasItsPlace, HasOneVerdict, HaveSameEntries, IsCutShort, IsJudgedInTurn, IsJudgedOnce, IsOfVersion, IsWithinVersion, spelled}
-pub use Rattle.capture3.specs.Reached.{AreFirstReached, AreWhole, BetweenConnections, InConnection, InMagic, IsLongestClean, Opens, Reached, ReachesInside}
-pub use Rattle.capture3.specs.Records.{AreMessages, CutsOpen, FirstRecordFault, Holds, HoldsSoFar, IsCut, Judgement, PassesLimit, RecordFault, RefusesRecord, StreamShows, fault_at}
-pub use Rattle.capture3.specs.SideMachine.{SideCloses, SideEnd, SideRefuses, Siding, side_next, siding_from, siding_in, awaiting, closing, counted}
+pub use Rattle.capture3.specs.Reached.{AreFirstReached, AreWhole, BetweenConnections, InConnection, InMagic, EndsStreams, IsLongestClean, Opens, Reached, ReachesInside, StillReaches}
+pub use Rattle.capture3.specs.Records.{AreMessages, CutsOpen, FirstRecordFault, Holds, HoldsSoFar, IsCut, Judgement, PassesLimit, RefusesRecord, StreamShows}
+pub use Rattle.capture3.specs.SideMachine.{SideCloses, SideEnd, SideRefuses, Siding, fault_of_record, side_next, siding_from, siding_in, awaiting, closing, counted}
 pub use Rattle.capture3.specs.SidedChunks.{AreMixed, BeginsMixed, IsSidedChunk, SidedChunk, Streams, carried_by, gathered, of_side, side_word, size, with_more, AfterSideWord, WithinSided}
 pub use Rattle.capture3.specs.SidedChunksMachine.{MixedCloses, MixedEnd, MixedRefuses, Mixing, SideChunk, SideLength, SideWord, awaiting_side, measured, mixed_next, mixed_step, mixing_from, mixing_in, sided}
 pub use Rattle.capture3.specs.Sides.{CutsRecord, PassesBytes, Position, ShowsRecord, SideShows, file_fault, place_at}
-pub use Rattle.capture3.specs.StreamMachine.{Faulty, Held, Judge, Reading, StreamEnd, end_of, judged, left_in, reading_with, recorded, rest_end, stream_end, stream_next, unread}
+pub use Rattle.capture3.specs.StreamMachine.{Faulty, Held, Judge, Reading, RecordFault, StreamEnd, end_of, fault_at, judged, left_in, reading_with, recorded, rest_end, stream_end, stream_next, unread}
 pub use Rattle.capture3.specs.Observed.{Gave, IsSpent, Observed}
-pub use Rattle.capture3.specs.Typed.{Converses, HaveEntries, IsWellFormed, Typed, connection_entries, reply_entry, AnswerCalls, AreEach, HaveOneProcedure, IsIn}
+pub use Rattle.capture3.specs.Typed.{Converses, HaveEntries, IsWellFormed, Typed, connection_entries, reply_entry, AnswerCalls, HaveOneProcedure, IsIn, IsRecordOf}
 pub use Rattle.capture3.specs.declared.container.Container.{Container}
 pub use Rattle.capture3.specs.declared.container.Cursor.{Cursor}
 pub use Rattle.capture3.specs.declared.container.position.spot.Event.{Event}

@@ -2,22 +2,31 @@
 use Rattle.std.specs.Prelude.{ℕ, List, [], ◌∷◌, ◌++◌, map}
 use Rattle.xdr3.specs.Item.{Item}
 use Rattle.record_mark.specs.Machine.{Next, Goes, Ends, within}
+use Rattle.capture3.specs.declared.fault.Fault.{Fault}
 use Rattle.capture3.specs.declared.fault.Side.TheVariants.{Client, Server}
 use Rattle.capture3.specs.Bodies.{ReplyItems}
 use Rattle.capture3.specs.Capture.{Version, One, Two}
-use Rattle.capture3.specs.Connections.{ShownFault, refusal}
 use Rattle.capture3.specs.Entry.{Entry, Begin, Call, Turn}
 use Rattle.capture3.specs.BodyProgram.{judge_call, judge_reply}
 use Rattle.capture3.specs.SidedChunksMachine.{Mixing, MixedEnd, MixedCloses, MixedRefuses, mixed_next, mixing_from}
-use Rattle.capture3.specs.StreamMachine.{Judge, StreamEnd, Held, Faulty, stream_end}
-use Rattle.capture3.specs.Records.{RecordFault}
-use Rattle.capture3.specs.Sides.{place_at}
-use Rattle.capture3.specs.SideMachine.{Siding, SideEnd, SideCloses, SideRefuses, side_next, siding_from}
+use Rattle.capture3.specs.StreamMachine.{Judge, RecordFault, StreamEnd, Held, Faulty, stream_end}
+use Rattle.capture3.specs.SideMachine.{Siding, SideEnd, SideCloses, SideRefuses, fault_of_record, side_next, siding_from}
 use Rattle.capture3.specs.Typed.{reply_entry, connection_entries}
 
 -- replies are judged by the calls, and not by the replies before
 abbrev pub judge_replies : List (List Item) → Judge ReplyItems
 judge_replies calls = λ _. judge_reply calls
+
+-- a fault, and the entries that the byte which shows it still reaches
+pub record ShownFault : Type 0 where
+  pub fault : Fault
+  pub more : List Entry
+
+abbrev pub shown_with : List Entry → Fault → ShownFault
+shown_with entries fault = record { fault = fault; more = entries }
+
+abbrev pub refusal : Fault → ShownFault
+refusal fault = shown_with [] fault
 
 pub data Opening : Type 0 where
   InClient : Siding (List Item) → Opening
@@ -41,15 +50,13 @@ ending calls (SideRefuses fault) = Ends (Refuses (refusal fault))
 
 -- a fault in the client stream
 abbrev pub client_refusal : ℕ → List (List Item) → RecordFault → ShownFault
-client_refusal number calls fault =
-    record { fault = place_at number Client fault; more = map Call calls }
+client_refusal number calls fault = shown_with (map Call calls) (fault_of_record number Client fault)
 
 -- a fault in the server stream
 abbrev pub server_refusal : ℕ → List (List Item) → List ReplyItems → RecordFault → ShownFault
-server_refusal number calls replies fault = record {
-  fault = place_at number Server fault;
-  more = map Call calls ++ (Turn ∷ map reply_entry replies);
-}
+server_refusal number calls replies fault =
+    shown_with (map Call calls ++ (Turn ∷ map reply_entry replies))
+    (fault_of_record number Server fault)
 
 -- in version 2: the server stream has been judged, after these calls
 abbrev pub after_server : ℕ → ℕ → ℕ → List (List Item) → StreamEnd ReplyItems → Next Opening Closing
@@ -73,10 +80,10 @@ conversing number (MixedRefuses fault) = Ends (Refuses (refusal fault))
 
 abbrev pub opening_next : ℕ → Opening → ℕ → Next Opening Closing
 opening_next number (InClient s) byte =
-    within InClient turning (side_next judge_call (place_at number Client) s byte)
+    within InClient turning (side_next judge_call (fault_of_record number Client) s byte)
 opening_next number (InServer calls s) byte =
     within (InServer calls) (ending calls)
-    (side_next (judge_replies calls) (place_at number Server) s byte)
+    (side_next (judge_replies calls) (fault_of_record number Server) s byte)
 opening_next number (InMixed s) byte = within InMixed (conversing number) (mixed_next s byte)
 
 abbrev pub opened : Version → ℕ → ℕ → Opening

@@ -1,7 +1,8 @@
 -- The faults of one connection.
-use Rattle.std.specs.Prelude.{◌≡◌, ◌⊎◌, ℕ, ◌+◌, ◌<◌, List, [], ◌∷◌, ◌++◌, length, map}
+use Rattle.std.specs.Prelude.{◌≡◌, ◌⊎◌, ℕ, ◌+◌, ◌<◌, List, ◌∷◌, ◌++◌, length, map}
 use Rattle.record_mark.specs.Word.{IsWord, Joins}
 use Rattle.xdr3.specs.declared.reason.Reason.TheVariants.{BadMark, TooManyBytes}
+use Rattle.xdr3.specs.declared.reason.Stop.{Stop}
 use Rattle.xdr3.specs.Item.{Item}
 use Rattle.capture3.specs.declared.fault.Fault.{Fault}
 use Rattle.capture3.specs.declared.fault.Side.TheVariants.{Client, Server}
@@ -9,7 +10,7 @@ use Rattle.capture3.specs.Bodies.{ReplyItems, AcceptsCall, RefusesCall, AcceptsR
 use Rattle.capture3.specs.Capture.{Version, One, Two}
 use Rattle.capture3.specs.Chunks.{max_bytes, IsStream}
 use Rattle.capture3.specs.Entry.{Entry, Call, Turn}
-use Rattle.capture3.specs.Records.{Judgement, Holds, RecordFault, FirstRecordFault}
+use Rattle.capture3.specs.Records.{Judgement, Holds, FirstRecordFault}
 use Rattle.capture3.specs.SidedChunks.{Streams, size, SidedChunk, IsSidedChunk, AfterSideWord, gathered, AreMixed}
 use Rattle.capture3.specs.Sides.{Position, SideShows, file_fault, place_at}
 use Rattle.capture3.specs.Typed.{reply_entry}
@@ -21,14 +22,6 @@ calls_in_turn = record { accepts = AcceptsCall; refuses = RefusesCall }
 -- replies are judged by all calls of the connection
 abbrev pub replies_to : List (List Item) → Judgement ReplyItems
 replies_to calls = record { accepts = λ _. AcceptsReply calls; refuses = λ _. RefusesReply calls }
-
--- a fault, and the entries that the byte which shows it still reaches
-pub record ShownFault : Type 0 where
-  pub fault : Fault
-  pub more : List Entry
-
-abbrev pub refusal : Fault → ShownFault
-refusal fault = record { fault = fault; more = [] }
 
 -- version 1: the last byte of a connection's bytes shows this fault of its two streams
 pub data InTurnShows (at : Position) (bytes : List ℕ) (fault : Fault) : Type 0 where
@@ -54,28 +47,24 @@ pub data MixedShows (at : Position) (bytes : List ℕ) (fault : Fault) : Type 0 
       → max_bytes < at.before + size (gathered b.chunks) + count
       → fault ≡ file_fault (at.start + length b.front + 4) TooManyBytes → MixedShows at bytes fault
 
--- The side word 0 shows this fault of the streams, which are whole with it: the first fault of the
--- client stream, or, if that has none, of the server stream.
-pub data StreamsShow (number : ℕ) (bytes : List ℕ) (shown : ShownFault) : Type 0 where
-  -- the calls before the fault are reached
-  InClientStream : (streams : Streams) (calls : List (List Item)) (fault : RecordFault)
-      → AreMixed bytes streams → FirstRecordFault calls_in_turn streams.client calls fault
-      → shown ≡ record { fault = place_at number Client fault; more = map Call calls }
-      → StreamsShow number bytes shown
-  -- all calls and the replies before the fault are reached
+-- The side word 0 shows this fault of the streams, which are whole with it, after these entries: the
+-- first fault of the client stream, or, if that has none, of the server stream.
+pub data StreamsShow (number : ℕ) (bytes : List ℕ) (entries : List Entry)
+    (fault : Fault) : Type 0 where
+  InClientStream : (streams : Streams) (calls : List (List Item)) (stop : Stop)
+      → AreMixed bytes streams → FirstRecordFault calls_in_turn streams.client calls stop
+      → entries ≡ map Call calls → fault ≡ place_at number Client calls stop
+      → StreamsShow number bytes entries fault
   InServerStream : (streams : Streams) (calls : List (List Item)) (replies : List ReplyItems)
-      (fault : RecordFault) → AreMixed bytes streams → Holds calls_in_turn streams.client calls
-      → FirstRecordFault (replies_to calls) streams.server replies fault
-      → shown ≡ record {
-        fault = place_at number Server fault;
-        more = map Call calls ++ (Turn ∷ map reply_entry replies);
-      } → StreamsShow number bytes shown
+      (stop : Stop) → AreMixed bytes streams → Holds calls_in_turn streams.client calls
+      → FirstRecordFault (replies_to calls) streams.server replies stop
+      → entries ≡ map Call calls ++ (Turn ∷ map reply_entry replies)
+      → fault ≡ place_at number Server replies stop → StreamsShow number bytes entries fault
 
 -- The last byte of a connection's bytes, after its word 1, shows this fault. In version 2 a fault
 -- of a record is shown by the side word 0 alone.
-abbrev pub ConnectionShows : Version → Position → List ℕ → ShownFault → Type 0
-ConnectionShows One at bytes shown =
-    (shown ≡ refusal shown.fault) × InTurnShows at bytes shown.fault
-ConnectionShows Two at bytes shown =
-    ((shown ≡ refusal shown.fault) × MixedShows at bytes shown.fault)
-    ⊎ StreamsShow at.connection bytes shown
+abbrev pub ConnectionShows : Version → Position → List ℕ → Fault → Type 0
+ConnectionShows One at bytes fault = InTurnShows at bytes fault
+ConnectionShows Two at bytes fault =
+    MixedShows at bytes fault
+    ⊎ ((entries : List Entry) × StreamsShow at.connection bytes entries fault)

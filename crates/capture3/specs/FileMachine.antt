@@ -6,9 +6,8 @@ use Rattle.record_mark.specs.Machine.{Next, Goes, Ends, Run, Runs, Stops, Stoppe
 use Rattle.record_mark.specs.Word.{word_next}
 use Rattle.capture3.specs.declared.fault.Fault.{Fault}
 use Rattle.capture3.specs.Capture.{Version, One, Two, max_connections}
-use Rattle.capture3.specs.Connections.{ShownFault, refusal}
 use Rattle.capture3.specs.Entry.{Entry, End}
-use Rattle.capture3.specs.ConnectionMachine.{Opening, Closing, Closes, Refuses, opening_next, opened, opening_entries}
+use Rattle.capture3.specs.ConnectionMachine.{Opening, Closing, Closes, Refuses, ShownFault, refusal, opening_next, opened, opening_entries}
 use Rattle.capture3.specs.Sides.{file_fault}
 
 -- the bytes with which each magic begins, and the byte after them

@@ -1,14 +1,15 @@
 -- The entries that a prefix of a file reaches.
-use Rattle.std.specs.Prelude.{◌≡◌, ◌⊎◌, ℕ, ◌+◌, ◌<◌, ◌≤◌, List, [], ◌∷◌, ◌++◌, length, map}
+use Rattle.std.specs.Prelude.{◌≡◌, ◌⊎◌, ℕ, suc, ◌+◌, ◌<◌, ◌≤◌, List, [], ◌∷◌, ◌++◌, length, map}
 use Rattle.record_mark.specs.Word.{IsWord, Joins}
 use Rattle.xdr3.specs.Item.{Item}
+use Rattle.capture3.specs.declared.fault.Fault.{Fault}
 use Rattle.capture3.specs.Bodies.{ReplyItems}
 use Rattle.capture3.specs.Capture.{Version, One, Two, magic, max_connections, total_size, IsConnection}
 use Rattle.capture3.specs.SidedChunks.{Streams, BeginsMixed}
 use Rattle.capture3.specs.Chunks.{max_bytes, IsStream, BeginsStream}
-use Rattle.capture3.specs.Connections.{ShownFault, calls_in_turn, replies_to}
+use Rattle.capture3.specs.Connections.{StreamsShow, calls_in_turn, replies_to}
 use Rattle.capture3.specs.Entry.{Entry, Begin, Call, Turn}
-use Rattle.capture3.specs.FirstFault.{Shows, IsClean}
+use Rattle.capture3.specs.FirstFault.{AfterConnections, Shows, IsClean}
 use Rattle.capture3.specs.Records.{Holds, HoldsSoFar}
 use Rattle.capture3.specs.Typed.{reply_entry, HaveEntries, Typed, IsWellFormed}
 
@@ -70,6 +71,22 @@ pub data AreWhole (bytes : List ℕ) (entries : List Entry) : Type 0 where
       → ReachesInside version (total_size connections) rest more → entries ≡ before ++ more
       → AreWhole bytes entries
 
+-- in version 2: the bytes end with the side word 0 of a connection, whose streams have a fault after
+-- these entries
+pub record EndsStreams (bytes : List ℕ) (entries : List Entry) : Type 0 where
+  pub here : AfterConnections bytes
+  pub fault : Fault
+  pub opens : here.mark ≡ 1
+  pub two : here.version ≡ Two
+  pub shows : StreamsShow (suc (length here.connections)) here.rest entries fault
+
+-- The entries that the last byte of these bytes, which shows a fault, still reaches: those before
+-- the fault of streams that end with it, and no others.
+abbrev pub StillReaches : List ℕ → List Entry → Type 0
+StillReaches bytes more =
+    EndsStreams bytes more
+    ⊎ ((more ≡ []) × ((entries : List Entry) → EndsStreams bytes entries → entries ≡ []))
+
 -- The longest clean prefix of the bytes. Where a byte comes after it, that byte shows a fault, and
 -- still reaches these entries.
 pub record IsLongestClean (bytes front : List ℕ) (more : List Entry) : Type 0 where
@@ -77,8 +94,8 @@ pub record IsLongestClean (bytes front : List ℕ) (more : List Entry) : Type 0 
   pub split : bytes ≡ front ++ rest
   pub clean : IsClean front
   pub longest : ((rest ≡ []) × (more ≡ []))
-      ⊎ ((byte : ℕ) × (back : List ℕ) × (shown : ShownFault) × (rest ≡ byte ∷ back)
-      × Shows (front ++ byte ∷ []) shown × (more ≡ shown.more))
+      ⊎ ((byte : ℕ) × (back : List ℕ) × (fault : Fault) × (rest ≡ byte ∷ back)
+      × Shows (front ++ byte ∷ []) fault × StillReaches (front ++ byte ∷ []) more)
 
 -- The entries that are whole in the longest clean prefix, and those that the byte after it still
 -- reaches: in version 2, where the side word 0 shows a record's fault, the connection's entries

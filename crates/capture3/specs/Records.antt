@@ -1,6 +1,5 @@
 -- The stream of one side: records (RFC 5531, section 11), whose bodies are judged in turn.
 use Rattle.std.specs.Prelude.{◌≡◌, ◌⊎◌, ℕ, suc, List, [], ◌∷◌, ◌++◌, length}
-use Rattle.xdr3.specs.declared.reason.Reason.{Reason}
 use Rattle.xdr3.specs.declared.reason.Reason.TheVariants.{RecordCut, RecordTooLong}
 use Rattle.xdr3.specs.declared.reason.Stop.{Stop}
 use Rattle.record_mark.specs.RecordMark.{Marks, IsRecord, IsTooLong, IsOpen, IsUnfinished}
@@ -33,40 +32,29 @@ pub record HoldsSoFar {M : Type 0} (judge : Judgement M) (stream : List ℕ)
   pub holds : Holds judge front messages
   pub unfinished : IsUnfinished last body
 
--- a place in a stream, records counted from 1, and the reason
-pub record RecordFault : Type 0 where
-  pub number : ℕ
-  pub byte : ℕ
-  pub reason : Reason
-
--- a fault in the record after these messages
-abbrev pub fault_at : {M : Type 0} → List M → ℕ → Reason → RecordFault
-fault_at messages byte reason =
-    record { number = suc (length messages); byte = byte; reason = reason }
-
--- the last byte of the stream shows this fault, after these messages
+-- after these messages the last byte of the stream shows that the next record stops so
 pub data StreamShows {M : Type 0} (judge : Judgement M) (stream : List ℕ) (messages : List M)
-    (fault : RecordFault) : Type 0 where
+    (stop : Stop) : Type 0 where
   -- it is the last of a record that is refused
-  RefusesRecord : (front last body : List ℕ) (stop : Stop) → stream ≡ front ++ last
-      → Holds judge front messages → IsRecord last body → judge.refuses messages body stop
-      → fault ≡ fault_at messages stop.at stop.reason → StreamShows judge stream messages fault
+  RefusesRecord : (front last body : List ℕ) → stream ≡ front ++ last → Holds judge front messages
+      → IsRecord last body → judge.refuses messages body stop
+      → StreamShows judge stream messages stop
   -- it is the last of a fragment header with which the body would pass the limit
-  PassesLimit : (front last : List ℕ) (at : ℕ) → stream ≡ front ++ last
-      → Holds judge front messages → IsTooLong last at
-      → fault ≡ fault_at messages at RecordTooLong → StreamShows judge stream messages fault
+  PassesLimit : (front last : List ℕ) → stream ≡ front ++ last → Holds judge front messages
+      → IsTooLong last stop.at → stop.reason ≡ RecordTooLong
+      → StreamShows judge stream messages stop
 
 -- The stream ends while a record is open, after these messages: RecordCut, after as many bytes of
 -- its body as have come.
 pub data IsCut {M : Type 0} (judge : Judgement M) (stream : List ℕ) (messages : List M)
-    (fault : RecordFault) : Type 0 where
+    (stop : Stop) : Type 0 where
   CutsOpen : (front last body : List ℕ) → stream ≡ front ++ last → Holds judge front messages
-      → IsOpen last body → fault ≡ fault_at messages (length body) RecordCut
-      → IsCut judge stream messages fault
+      → IsOpen last body → stop ≡ record { at = length body; reason = RecordCut }
+      → IsCut judge stream messages stop
 
 -- the first fault of a whole stream, after the messages of the records before it
-abbrev pub FirstRecordFault : {M : Type 0} → Judgement M → List ℕ → List M → RecordFault → Type 0
-FirstRecordFault judge stream messages fault =
+abbrev pub FirstRecordFault : {M : Type 0} → Judgement M → List ℕ → List M → Stop → Type 0
+FirstRecordFault judge stream messages stop =
     ((front : List ℕ) × (rest : List ℕ) × (stream ≡ front ++ rest)
-    × StreamShows judge front messages fault)
-    ⊎ IsCut judge stream messages fault
+    × StreamShows judge front messages stop)
+    ⊎ IsCut judge stream messages stop

@@ -6,10 +6,16 @@ use Rattle.record_mark.specs.Machine.{Next, Goes, Ends, within}
 use Rattle.record_mark.specs.Word.{word_next}
 use Rattle.record_mark.specs.Joining.{Joining, Between, Header, Bytes}
 use Rattle.capture3.specs.declared.fault.Fault.{Fault}
+use Rattle.capture3.specs.declared.fault.Place.TheVariants.{Record}
+use Rattle.capture3.specs.declared.fault.Side.{Side}
 use Rattle.capture3.specs.Chunks.{max_bytes}
-use Rattle.capture3.specs.Records.{RecordFault, fault_at}
-use Rattle.capture3.specs.StreamMachine.{Judge, Reading, stream_next, unread}
+use Rattle.capture3.specs.StreamMachine.{Judge, Reading, RecordFault, fault_at, stream_next, unread}
 use Rattle.capture3.specs.Sides.{file_fault}
+
+-- a record's fault, in this connection and side
+abbrev pub fault_of_record : ℕ → Side → RecordFault → Fault
+fault_of_record connection side fault =
+    record { place = Record connection side fault.number fault.byte; reason = fault.reason }
 
 -- in a length word, or in a chunk's bytes, with how many are left after the next
 pub data Point : Type 0 where

@@ -1,10 +1,21 @@
 -- The machine that reads a stream: the messages so far, and the record that it is in.
-use Rattle.std.specs.Prelude.{ℕ, List, [], ◌∷◌, ◌++◌, length, Result, Ok, Err}
+use Rattle.std.specs.Prelude.{ℕ, suc, List, [], ◌∷◌, ◌++◌, length, Result, Ok, Err}
+use Rattle.xdr3.specs.declared.reason.Reason.{Reason}
 use Rattle.xdr3.specs.declared.reason.Reason.TheVariants.{RecordCut, RecordTooLong}
 use Rattle.xdr3.specs.declared.reason.Stop.{Stop}
 use Rattle.record_mark.specs.Machine.{Next, Goes, Ends, Run, Runs, Stops, Stopped, after, last_running, within}
 use Rattle.record_mark.specs.Joining.{Joining, Between, Header, Bytes, Joined, Whole, TooLong, join_next}
-use Rattle.capture3.specs.Records.{RecordFault, fault_at}
+
+-- a place in a stream, records counted from 1, and the reason
+pub record RecordFault : Type 0 where
+  pub number : ℕ
+  pub byte : ℕ
+  pub reason : Reason
+
+-- a fault in the record after these messages
+abbrev pub fault_at : {M : Type 0} → List M → ℕ → Reason → RecordFault
+fault_at messages byte reason =
+    record { number = suc (length messages); byte = byte; reason = reason }
 
 -- from the messages before and a body, the message, or where and why it is refused
 abbrev pub Judge : Type 0 → Type 0

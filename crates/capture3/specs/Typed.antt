@@ -1,18 +1,17 @@
 -- The entries of a well-formed capture.
 use Rattle.std.specs.Prelude.{◌≡◌, ℕ, List, [], ◌∷◌, ◌++◌, map}
 use Rattle.xdr3.specs.Item.{Item}
-use Rattle.record_mark.specs.RecordMark.{Marks}
+use Rattle.record_mark.specs.RecordMark.{IsRecord}
+use Rattle.record_mark.specs.Word.{Joins}
 use Rattle.rpc_head.specs.Messages.{procedure_in}
 use Rattle.capture3.specs.Bodies.{ReplyItems, IsCall, IsReply, xid_in}
 use Rattle.capture3.specs.Capture.{Version, IsCapture}
 use Rattle.capture3.specs.SidedChunks.{Streams}
 use Rattle.capture3.specs.Entry.{Entry, Begin, Call, Turn, Reply, Close, End}
 
--- each body is one of the things, in order
-abbrev pub AreEach : {X : Type 0} → (List ℕ → X → Type 0) → List (List ℕ) → List X → Type 0
-AreEach Is [] xs = xs ≡ []
-AreEach {X} Is (body ∷ bodies) xs = (x : X) × (rest : List X) × (xs ≡ x ∷ rest) × Is body x
-    × AreEach Is bodies rest
+-- a record whose body is this message (RFC 5531, section 11)
+abbrev pub IsRecordOf : {M : Type 0} → (List ℕ → M → Type 0) → List ℕ → M → Type 0
+IsRecordOf Is bytes message = (body : List ℕ) × IsRecord bytes body × Is body message
 
 -- it is one of the list
 abbrev pub IsIn : {X : Type 0} → X → List X → Type 0
@@ -29,16 +28,12 @@ AnswerCalls calls replies = (reply : ReplyItems) → IsIn reply replies
     → (call : List Item) × IsIn call calls × (xid_in call ≡ xid_in reply.items)
     × (procedure_in call ≡ reply.id)
 
--- The streams are records (RFC 5531, section 11), and their bodies are these calls and replies.
--- Within the connection an xid has one procedure.
+-- The streams are the records of these calls and replies. Within the connection an xid has one
+-- procedure.
 pub record Converses (streams : Streams) (calls : List (List Item))
     (replies : List ReplyItems) : Type 0 where
-  pub client_bodies : List (List ℕ)
-  pub server_bodies : List (List ℕ)
-  pub client : Marks streams.client client_bodies
-  pub server : Marks streams.server server_bodies
-  pub are_calls : AreEach IsCall client_bodies calls
-  pub are_replies : AreEach IsReply server_bodies replies
+  pub client : Joins (IsRecordOf IsCall) streams.client calls
+  pub server : Joins (IsRecordOf IsReply) streams.server replies
   pub one_procedure : HaveOneProcedure calls
   pub answers : AnswerCalls calls replies
 

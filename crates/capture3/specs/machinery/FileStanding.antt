@@ -10,18 +10,15 @@ use Rattle.capture3.specs.declared.container.position.spot.Event.TheVariants.{Be
 use Rattle.capture3.specs.declared.container.position.spot.Event.TheVariants as events
 use Rattle.capture3.specs.Bodies.{ReplyItems}
 use Rattle.capture3.specs.Capture.{One, Two}
-use Rattle.capture3.specs.Connections.{ShownFault, refusal}
 use Rattle.capture3.specs.Entry.{Entry}
 use Rattle.capture3.specs.Entry as entries
 use Rattle.capture3.specs.BodyProgram.{judge_call, judge_reply}
-use Rattle.capture3.specs.ConnectionMachine.{InClient, InServer, InMixed, after_client}
+use Rattle.capture3.specs.ConnectionMachine.{InClient, InServer, InMixed, ShownFault, after_client, refusal}
 use Rattle.capture3.specs.FileMachine as parsing
 use Rattle.capture3.specs.FileMachine.{Parsing, parsing_in}
-use Rattle.capture3.specs.StreamMachine.{stream_end, reading_with}
-use Rattle.capture3.specs.Records.{fault_at}
-use Rattle.capture3.specs.Sides.{place_at}
+use Rattle.capture3.specs.StreamMachine.{fault_at, stream_end, reading_with}
 use Rattle.capture3.specs.SideMachine as siding
-use Rattle.capture3.specs.SideMachine.{Siding, siding_in}
+use Rattle.capture3.specs.SideMachine.{Siding, fault_of_record, siding_in}
 use Rattle.capture3.specs.Typed.{connection_entries, reply_entry}
 use Rattle.capture3.specs.machinery.ContainerMachine.{Opened, Magic, Digit, Mark, Length, Chunk, Mixed, Ended, Unpacking, Unpacked, Has, HasStreams, Refuses}
 use Rattle.capture3.specs.SidedChunks.{Streams}
@@ -99,13 +96,13 @@ connection_closed j = record j { entries = j.entries ++ connection_entries j.cal
 abbrev pub call_judged : Unpacking → Judged → Result (List Item) Stop → Next Parsing ShownFault
 call_judged u j (Ok call) = Goes (parsing_at u (with_call j call))
 call_judged u j (Err stop) =
-    Ends (refusal (place_at u.connections Client (fault_at j.calls stop.at stop.reason)))
+    Ends (refusal (fault_of_record u.connections Client (fault_at j.calls stop.at stop.reason)))
 
 -- the same of a reply
 abbrev pub reply_judged : Unpacking → Judged → Result ReplyItems Stop → Next Parsing ShownFault
 reply_judged u j (Ok reply) = Goes (parsing_at u (with_reply j reply))
 reply_judged u j (Err stop) =
-    Ends (refusal (place_at u.connections Server (fault_at j.replies stop.at stop.reason)))
+    Ends (refusal (fault_of_record u.connections Server (fault_at j.replies stop.at stop.reason)))
 
 -- both streams of a connection of version 2 have come, and all their records are judged
 abbrev pub conversed : Unpacking → Judged → Streams → Next Parsing ShownFault

@@ -6,14 +6,13 @@ use Rattle.capture3.specs.machinery.Calls.{Known}
 use Rattle.capture3.specs.declared.fault.Fault.{Fault}
 use Rattle.capture3.specs.declared.fault.Side.{Side}
 use Rattle.capture3.specs.declared.fault.Side.TheVariants.{Client, Server}
-use Rattle.capture3.specs.Connections.{ShownFault}
 use Rattle.capture3.specs.Entry.{Entry}
 use Rattle.capture3.specs.Entry as entries
 use Rattle.capture3.specs.BodyProgram.{judge_call}
 use Rattle.capture3.specs.machinery.Messages.{IsTableOf, xids_in}
 use Rattle.capture3.specs.OpenXids.{open_xids}
 use Rattle.capture3.specs.Progress.{AreCounted}
-use Rattle.capture3.specs.ConnectionMachine.{judge_replies}
+use Rattle.capture3.specs.ConnectionMachine.{ShownFault, judge_replies}
 use Rattle.capture3.specs.FileMachine.{Parsing, file_next, parsed, emitted}
 use Rattle.capture3.specs.StreamMachine.{Reading, Held, rest_end, stream_end, reading_with}
 use Rattle.record_mark.specs.Joining.{Between}

@@ -1,5 +1,5 @@
 -- The machine for a connection against its two sides.
-use Rattle.capture3.proofs.Common.{lengths, Ends, Run, Runs, Stops, after, Leads, leads_within, Item, AreBytes, Client, Server, ReplyItems, Version, One, Two, AreStreams, Streams, size, max_bytes, IsStream, Position, server_position, calls_in_turn, refusal, replies_to, ConnectionShows, InCalls, InReplies, InClientStream, InServerStream, Entry, judge_call, MixedEnd, MixedCloses, MixedRefuses, mixed_next, mixing_from, judge_replies, Opening, InClient, InServer, InMixed, Closing, Closes, Refuses, turning, ending, after_server, after_client, conversing, opening_next, opened, StreamEnd, Held, Faulty, stream_end, Holds, place_at, Converses, connection_entries, Siding, SideEnd, SideCloses, SideRefuses, side_next, siding_from, ◌≡◌, inl, inr, ℕ, ◌+◌, ◌≤◌, List, [], ◌∷◌, ◌++◌, length, refl, sym, ap, ◌∙◌, append_assoc, append-nil, arith}
+use Rattle.capture3.proofs.Common.{lengths, ◌⊎◌, Ends, Run, Runs, Stops, after, Leads, leads_within, Item, AreBytes, Client, Server, ReplyItems, Version, One, Two, AreStreams, Streams, size, max_bytes, IsStream, Position, server_position, calls_in_turn, refusal, replies_to, ShownFault, StreamsShow, client_refusal, server_refusal, ConnectionShows, InCalls, InReplies, InClientStream, InServerStream, Entry, judge_call, MixedEnd, MixedCloses, MixedRefuses, mixed_next, mixing_from, judge_replies, Opening, InClient, InServer, InMixed, Closing, Closes, Refuses, turning, ending, after_server, after_client, conversing, opening_next, opened, StreamEnd, Held, Faulty, stream_end, Holds, fault_of_record, Converses, connection_entries, Siding, SideEnd, SideCloses, SideRefuses, side_next, siding_from, ◌≡◌, inl, inr, ℕ, ◌+◌, ◌≤◌, List, [], ◌∷◌, ◌++◌, length, refl, sym, ap, ◌∙◌, append_assoc, append-nil, arith}
 use Rattle.capture3.proofs.Lemmas.Messages.BodiesLemmas.{the_calls, the_replies}
 use Rattle.capture3.proofs.Lemmas.Container.BytesOf.{split_bytes, mixed_bytes}
 use Rattle.capture3.proofs.Lemmas.Connections.JudgedInTurn.{conversed, calls_hold, replies_hold}
@@ -40,10 +40,18 @@ pub record ClosesConnection (version : Version) (context : Position) (bytes : Li
   pub fits : total ≤ max_bytes
   pub entries_are : entries ≡ connection_entries calls replies
 
+-- what a refusal says of a connection: its fault, and no entries, or those of its streams
+abbrev pub RefusesConnection : Version → Position → List ℕ → ShownFault → Type 0
+RefusesConnection version context bytes shown =
+    ConnectionShows version context bytes shown.fault
+    × ((shown.more ≡ [])
+    ⊎ ((version ≡ Two) × StreamsShow context.connection bytes shown.more shown.fault))
+
 abbrev pub EndsConnection : Version → Position → List ℕ → Closing → Type 0
 EndsConnection version context bytes (Closes at total entries) =
     ClosesConnection version context bytes at total entries
-EndsConnection version context bytes (Refuses shown) = ConnectionShows version context bytes shown
+EndsConnection version context bytes (Refuses shown) =
+    RefusesConnection version context bytes shown
 
 -- ---- the machines inside
 
@@ -52,7 +60,7 @@ RefusedClosing (Closes at total entries) = ⊥
 RefusedClosing (Refuses shown) = Unit {0}
 
 module _ (number : ℕ) where
-  pub in_client : Nested (side_next judge_call (place_at number Client)) (opening_next number)
+  pub in_client : Nested (side_next judge_call (fault_of_record number Client)) (opening_next number)
       (λ n. InClient) (λ n. turning) RefusedSide RefusedClosing
   in_client = record { commutes = λ n s byte. refl; ends = λ n. refused }
     where
@@ -62,7 +70,7 @@ module _ (number : ℕ) where
       refused (SideRefuses fault) h = (Refuses (refusal fault), tt, refl)
 
   pub in_server : (calls : List (List Item))
-      → Nested (side_next (judge_replies calls) (place_at number Server)) (opening_next number)
+      → Nested (side_next (judge_replies calls) (fault_of_record number Server)) (opening_next number)
       (λ n. InServer calls) (λ n. ending calls) RefusedSide RefusedClosing
   in_server calls = record { commutes = λ n s byte. refl; ends = λ n. refused }
     where
@@ -104,7 +112,7 @@ module _ (context : Position) where
             rw (h.at_is, h.total_is) (nothing_taken (the_replies calls) Server
             (server_position context bytes h.stream) (omega (arith, h.fits, h.total_is)));
       }
-  turning_leads bytes (SideRefuses fault) h = (refl, InCalls h)
+  turning_leads bytes (SideRefuses fault) h = (InCalls h, inl refl)
 
   ending_leads : (bytes front last client : List ℕ) (calls : List (List Item))
       → bytes ≡ front ++ last → IsStream front client → Holds calls_in_turn client calls
@@ -125,7 +133,7 @@ module _ (context : Position) where
         entries_are = refl;
       }
   ending_leads bytes front last client calls split first holds (SideRefuses fault) h =
-      (refl, InReplies front last client calls split first holds h)
+      (InReplies front last client calls split first holds h, inl refl)
 
   -- after the client side
   turned : (front client : List ℕ) (calls : List (List Item)) → IsStream front client
@@ -148,6 +156,11 @@ module _ (context : Position) where
 
   -- ---- version 2
 
+  streams_show : (bytes : List ℕ) (shown : ShownFault)
+      → StreamsShow context.connection bytes shown.more shown.fault
+      → RefusesConnection Two context bytes shown
+  streams_show bytes shown h = (inr (shown.more, h), inr (refl, h))
+
   after_server_ends : (bytes : List ℕ) (at total : ℕ) (streams : Streams)
       (calls : List (List Item)) → ClosesMixed context bytes at total streams
       → Holds calls_in_turn streams.client calls
@@ -167,7 +180,9 @@ module _ (context : Position) where
         entries_are = refl;
       }
   after_server_ends bytes at total streams calls h holds (Faulty replies fault) ends =
-      inr (InServerStream streams calls replies fault h.mixed holds ends refl)
+      streams_show bytes (server_refusal context.connection calls replies fault)
+      (InServerStream streams calls replies ends.0 h.mixed holds ends.1 refl
+      (ap (fault_of_record context.connection Server) ends.2))
 
   after_client_ends : (bytes : List ℕ) (at total : ℕ) (streams : Streams)
       → AreBytes streams.server → ClosesMixed context bytes at total streams
@@ -179,7 +194,9 @@ module _ (context : Position) where
       (stream_end (judge_replies calls) streams.server)
       (ends_stream (the_replies calls) streams.server are)
   after_client_ends bytes at total streams are h (Faulty calls fault) ends =
-      inr (InClientStream streams calls fault h.mixed ends refl)
+      streams_show bytes (client_refusal context.connection calls fault)
+      (InClientStream streams calls ends.0 h.mixed ends.1 refl
+      (ap (fault_of_record context.connection Client) ends.2))
 
   conversing_ends : (bytes : List ℕ) (x : MixedEnd) → AreBytes bytes → EndsMixed context bytes x
       → Leads (HasOpening Two context) (EndsConnection Two context) bytes
@@ -188,7 +205,7 @@ module _ (context : Position) where
       let both = mixed_bytes bytes streams h.mixed are in
       after_client_ends bytes at total streams both.1 h (stream_end judge_call streams.client)
       (ends_stream the_calls streams.client both.0)
-  conversing_ends bytes (MixedRefuses fault) are h = inl (refl, h)
+  conversing_ends bytes (MixedRefuses fault) are h = (inl h, inl refl)
 
   -- ---- by version
 
@@ -201,7 +218,7 @@ module _ (context : Position) where
       (EndsSide calls_in_turn Client context) (HasOpening One context)
       (EndsConnection One context) InClient turning (bytes ++ byte ∷ []) (bytes ++ byte ∷ [])
       (λ t side. side) (turning_leads (bytes ++ byte ∷ []))
-      (side_next judge_call (place_at context.connection Client) s byte)
+      (side_next judge_call (fault_of_record context.connection Client) s byte)
       (side_leads the_calls Client context bytes s byte are h)
   opening_leads One bytes (InServer calls s) byte are h =
       let split : bytes ++ byte ∷ [] ≡ h.front ++ (h.last ++ byte ∷ []) =
@@ -223,7 +240,7 @@ module _ (context : Position) where
       })
       (ending_leads (bytes ++ byte ∷ []) h.front (h.last ++ byte ∷ []) h.client calls split h.first
       h.holds)
-      (side_next (judge_replies calls) (place_at context.connection Server) s byte) (side_leads
+      (side_next (judge_replies calls) (fault_of_record context.connection Server) s byte) (side_leads
       (the_replies calls) Server (server_position context h.front h.client) h.last s byte
       (split_bytes (bytes ++ byte ∷ []) h.front (h.last ++ byte ∷ []) split are).1 h.rest)
   opening_leads Two bytes (InMixed s) byte are h =

@@ -1,5 +1,5 @@
 -- Judging body by body says the same of a connection as what its messages are together.
-use Rattle.capture3.proofs.Common.{◌≡◌, ◌⊎◌, ℕ, nat_eq, List, [], ◌∷◌, ◌++◌, Some, refl, sym, ap, subst, ◌∙◌, append_assoc, append-nil, inl, inr, eqb-true, eq-eqb, Item, ProcId, procedure_in, ReplyItems, IsCall, IsReply, xid_in, procedure_of, AcceptsCall, Streams, calls_in_turn, replies_to, AreMessages, Holds, IsJudgedInTurn, AreEach, IsIn, HaveOneProcedure, AnswerCalls, Converses}
+use Rattle.capture3.proofs.Common.{◌≡◌, ◌⊎◌, ℕ, nat_eq, List, [], ◌∷◌, ◌++◌, Some, refl, sym, ap, subst, ◌∙◌, append_assoc, append-nil, inl, inr, eqb-true, eq-eqb, Item, ProcId, procedure_in, ReplyItems, IsCall, IsReply, xid_in, procedure_of, AcceptsCall, Streams, calls_in_turn, replies_to, AreMessages, Holds, IsJudgedInTurn, IsIn, IsRecordOf, Joins, Judgement, Marks, HaveOneProcedure, AnswerCalls, Converses}
 use Rattle.capture3.proofs.Lemmas.Connections.RankLemmas.{by_test}
 
 -- ---- members
@@ -79,11 +79,37 @@ procedure_is calls call one h =
 
 -- ---- calls
 
-calls_are : (bodies : List (List ℕ)) (before calls : List (List Item))
-    → AreMessages calls_in_turn before bodies calls → AreEach IsCall bodies calls
-calls_are [] before calls h = h
-calls_are (body ∷ bodies) before calls h =
-    (h.0, h.1, h.2, h.3.0, calls_are bodies (before ++ h.0 ∷ []) h.1 h.4)
+-- bodies that are accepted are records of their messages
+records_are : {M : Type 0} (judge : Judgement M) (Is : List ℕ → M → Type 0)
+    → ((before : List M) (body : List ℕ) (m : M) → judge.accepts before body m → Is body m)
+    → (bodies : List (List ℕ)) (before messages : List M) (stream : List ℕ) → Marks stream bodies
+    → AreMessages judge before bodies messages → Joins (IsRecordOf Is) stream messages
+records_are judge Is is [] before messages stream marks h = rw h marks
+records_are judge Is is (body ∷ bodies) before messages stream marks h =
+    rw h.2 (
+      marks.0,
+      marks.1,
+      marks.2,
+      (body, marks.3, is before body h.0 h.3),
+      records_are judge Is is bodies (before ++ h.0 ∷ []) h.1 marks.1 marks.4 h.4,
+    )
+
+-- after the messages before, the stream is records with accepted bodies
+abbrev HoldsAfter : {M : Type 0} → Judgement M → List M → List ℕ → List M → Type 0
+HoldsAfter judge before stream messages = (bodies : List (List ℕ)) × Marks stream bodies
+    × AreMessages judge before bodies messages
+
+-- one record more at its start
+holds_more : {M : Type 0} (judge : Judgement M) (Is : List ℕ → M → Type 0) (before messages : List M)
+    (m : M) (stream front rest : List ℕ) → stream ≡ front ++ rest
+    → (of : IsRecordOf Is front m) → judge.accepts before of.0 m
+    → HoldsAfter judge (before ++ m ∷ []) rest messages
+    → HoldsAfter judge before stream (m ∷ messages)
+holds_more judge Is before messages m stream front rest split (body, whole, is) accepts later = (
+  body ∷ later.0,
+  (front, rest, split, whole, later.1),
+  (m, messages, refl, accepts, later.2),
+)
 
 one_more : (before : List (List Item)) (body : List ℕ) (call : List Item) → HaveOneProcedure before
     → AcceptsCall before body call → HaveOneProcedure (before ++ call ∷ [])
@@ -110,35 +136,24 @@ calls_have_one (body ∷ bodies) before calls one h =
     rw (← (append_assoc before (h.0 ∷ []) h.1 ∙ ap (λ l. before ++ l) (sym h.2)))
     (calls_have_one bodies (before ++ h.0 ∷ []) h.1 (one_more before body h.0 one h.3) h.4)
 
-calls_in_order : (bodies : List (List ℕ)) (before calls : List (List Item))
-    → HaveOneProcedure (before ++ calls) → AreEach IsCall bodies calls
-    → AreMessages calls_in_turn before bodies calls
-calls_in_order [] before calls one h = h
-calls_in_order (body ∷ bodies) before calls one h =
-    let all : HaveOneProcedure (before ++ h.0 ∷ h.1) =
-    subst (λ l. HaveOneProcedure (before ++ l)) h.2 one in (
-      h.0,
-      h.1,
-      h.2,
-      (
-        h.3,
-        λ id known.
-            let m = known_call before (xid_in h.0) id known in
-            sym m.3
-            ∙ all m.0 h.0 (IsIn-left m.0 before (h.0 ∷ h.1) m.1)
-            (IsIn-right h.0 before (h.0 ∷ h.1) (IsIn-here h.0 h.1)) m.2,
-      ),
-      calls_in_order bodies (before ++ h.0 ∷ []) h.1
-          (subst HaveOneProcedure (sym (append_assoc before (h.0 ∷ []) h.1)) all) h.4,
+calls_in_order : (calls before : List (List Item)) (stream : List ℕ)
+    → HaveOneProcedure (before ++ calls) → Joins (IsRecordOf IsCall) stream calls
+    → HoldsAfter calls_in_turn before stream calls
+calls_in_order [] before stream one h = ([], h, refl)
+calls_in_order (call ∷ calls) before stream one (front, rest, split, of, more) =
+    holds_more calls_in_turn IsCall before calls call stream front rest split of
+    (
+      of.2,
+      λ id known.
+          let m = known_call before (xid_in call) id known in
+          sym m.3
+          ∙ one m.0 call (IsIn-left m.0 before (call ∷ calls) m.1)
+          (IsIn-right call before (call ∷ calls) (IsIn-here call calls)) m.2,
     )
+    (calls_in_order calls (before ++ call ∷ []) rest
+    (subst HaveOneProcedure (sym (append_assoc before (call ∷ []) calls)) one) more)
 
 -- ---- replies
-
-replies_are : (calls : List (List Item)) (bodies : List (List ℕ)) (before replies : List ReplyItems)
-    → AreMessages (replies_to calls) before bodies replies → AreEach IsReply bodies replies
-replies_are calls [] before replies h = h
-replies_are calls (body ∷ bodies) before replies h =
-    (h.0, h.1, h.2, h.3.0, replies_are calls bodies (before ++ h.0 ∷ []) h.1 h.4)
 
 replies_answer : (calls : List (List Item)) (bodies : List (List ℕ))
     (before replies : List ReplyItems) → AreMessages (replies_to calls) before bodies replies
@@ -151,24 +166,20 @@ replies_answer calls (body ∷ bodies) before replies h reply member =
       | inr more ↦ replies_answer calls bodies (before ++ h.0 ∷ []) h.1 h.4 reply more
     ]
 
-replies_in_order : (calls : List (List Item)) (bodies : List (List ℕ))
-    (before replies : List ReplyItems) → HaveOneProcedure calls → AnswerCalls calls replies
-    → AreEach IsReply bodies replies → AreMessages (replies_to calls) before bodies replies
-replies_in_order calls [] before replies one answers h = h
-replies_in_order calls (body ∷ bodies) before replies one answers h =
-    let a = answers h.0 (subst (IsIn h.0) (sym h.2) (IsIn-here h.0 h.1)) in (
-      h.0,
-      h.1,
-      h.2,
-      (
-        h.3,
-        ap (procedure_of calls) (sym a.2) ∙ procedure_is calls a.0 one a.1
-            ∙ ap (λ (id : ProcId). Some id) a.3,
-      ),
-      replies_in_order calls bodies (before ++ h.0 ∷ []) h.1 one
-          (λ reply member.
-          answers reply (subst (IsIn reply) (sym h.2) (IsIn-there reply h.0 h.1 member))) h.4,
+replies_in_order : (calls : List (List Item)) (replies before : List ReplyItems)
+    (stream : List ℕ) → HaveOneProcedure calls → AnswerCalls calls replies
+    → Joins (IsRecordOf IsReply) stream replies → HoldsAfter (replies_to calls) before stream replies
+replies_in_order calls [] before stream one answers h = ([], h, refl)
+replies_in_order calls (reply ∷ replies) before stream one answers (front, rest, split, of, more) =
+    let a = answers reply (IsIn-here reply replies) in
+    holds_more (replies_to calls) IsReply before replies reply stream front rest split of
+    (
+      of.2,
+      ap (procedure_of calls) (sym a.2) ∙ procedure_is calls a.0 one a.1
+          ∙ ap (λ (id : ProcId). Some id) a.3,
     )
+    (replies_in_order calls replies (before ++ reply ∷ []) rest one
+    (λ other member. answers other (IsIn-there other reply replies member)) more)
 
 -- ---- both
 
@@ -176,12 +187,12 @@ pub conversed : (streams : Streams) (calls : List (List Item)) (replies : List R
     → Holds calls_in_turn streams.client calls → Holds (replies_to calls) streams.server replies
     → Converses streams calls replies
 conversed streams calls replies client server = record {
-  client_bodies = client.0;
-  server_bodies = server.0;
-  client = client.1;
-  server = server.1;
-  are_calls = calls_are client.0 [] calls client.2;
-  are_replies = replies_are calls server.0 [] replies server.2;
+  client =
+      records_are calls_in_turn IsCall (λ before body m h. h.0) client.0 [] calls streams.client
+      client.1 client.2;
+  server =
+      records_are (replies_to calls) IsReply (λ before body m h. h.0) server.0 [] replies
+      streams.server server.1 server.2;
   one_procedure =
       calls_have_one client.0 [] calls (λ a b in_a in_b same. absurd (IsIn-nil a in_a)) client.2;
   answers = replies_answer calls server.0 [] replies server.2;
@@ -189,16 +200,12 @@ conversed streams calls replies client server = record {
 
 pub calls_hold : (streams : Streams) (calls : List (List Item)) (replies : List ReplyItems)
     → Converses streams calls replies → Holds calls_in_turn streams.client calls
-calls_hold streams calls replies h =
-    (h.client_bodies, h.client, calls_in_order h.client_bodies [] calls h.one_procedure h.are_calls)
+calls_hold streams calls replies h = calls_in_order calls [] streams.client h.one_procedure h.client
 
 pub replies_hold : (streams : Streams) (calls : List (List Item)) (replies : List ReplyItems)
     → Converses streams calls replies → Holds (replies_to calls) streams.server replies
-replies_hold streams calls replies h = (
-  h.server_bodies,
-  h.server,
-  replies_in_order calls h.server_bodies [] replies h.one_procedure h.answers h.are_replies,
-)
+replies_hold streams calls replies h =
+    replies_in_order calls replies [] streams.server h.one_procedure h.answers h.server
 
 pub is_judged_in_turn : (streams : Streams) (calls : List (List Item)) (replies : List ReplyItems)
     → IsJudgedInTurn streams calls replies

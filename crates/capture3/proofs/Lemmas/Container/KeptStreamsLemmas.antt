@@ -6,6 +6,7 @@ use Rattle.capture3.proofs.Lemmas.Reader.PlacingLemmas.{counted_on}
 use Rattle.capture3.proofs.Lemmas.Container.BytesOf.{split_bytes}
 use Rattle.capture3.proofs.Lemmas.Reader.WholeEntries.{call_added, reply_added}
 use Rattle.capture3.proofs.Lemmas.Sides.StreamEnds.{rest_accepts, rest_refuses, rest_leaves}
+use Rattle.capture3.proofs.Lemmas.Reached.EmittedEntries.{stop_reaches}
 use Rattle.capture3.proofs.Lemmas.Reached.ReachedBeforeFaults.{first_reached_at}
 use Rattle.capture3.proofs.Lemmas.Files.Verdicts.{clean_from_runs, shows_from_stops, stays, run_shows, verdict_from_typed}
 use Rattle.capture3.proofs.Lemmas.Reached.ReachedLemmas.{stands_whole}
@@ -240,7 +241,12 @@ pub first_of : (bytes rest : List ℕ) (handed : List Entry) (fault : Fault) →
     → ShowsFirst bytes handed fault
     → FirstFault (bytes ++ rest) fault × Reached (bytes ++ rest) handed
 first_of bytes rest handed fault are s = (
-  inl (s.front ++ s.byte ∷ [], s.back ++ rest, s.shown, split, shows, s.is),
+  inl (
+    s.front ++ s.byte ∷ [],
+    s.back ++ rest,
+    split,
+    subst (Shows (s.front ++ s.byte ∷ [])) (sym s.is) shows,
+  ),
   inr (
     (λ w. let typed = verdict_from_typed all w.0 w.1 in let refused = is_refused in cc),
     s.front,
@@ -250,7 +256,15 @@ first_of bytes rest handed fault are s = (
       rest = s.byte ∷ (s.back ++ rest);
       split = cut;
       clean = clean_from_runs s.front s.state s.runs;
-      longest = inr (s.byte, s.back ++ rest, s.shown, refl, shows, refl);
+      longest =
+          inr (
+            s.byte,
+            s.back ++ rest,
+            s.shown.fault,
+            refl,
+            shows,
+            stop_reaches (s.front ++ s.byte ∷ []) s.shown there stops,
+          );
     },
     stands_whole s.front s.state (run_shows s.front (Runs s.state)
         (split_bytes bytes s.front (s.byte ∷ s.back) s.split are).0 s.runs),
@@ -272,11 +286,13 @@ first_of bytes rest handed fault are s = (
         after-append file_next (Runs file_start) s.front (s.byte ∷ [])
         ∙ ap (λ r. after file_next r (s.byte ∷ [])) s.runs ∙ ap landed s.ends
 
-    shows : Shows (s.front ++ s.byte ∷ []) s.shown
-    shows =
-        shows_from_stops (s.front ++ s.byte ∷ []) s.shown
+    there : AreBytes (s.front ++ s.byte ∷ [])
+    there =
         (split_bytes bytes (s.front ++ s.byte ∷ []) s.back
-        (s.split ∙ sym (append_assoc s.front (s.byte ∷ []) s.back)) are).0 stops
+        (s.split ∙ sym (append_assoc s.front (s.byte ∷ []) s.back)) are).0
+
+    shows : Shows (s.front ++ s.byte ∷ []) s.shown.fault
+    shows = shows_from_stops (s.front ++ s.byte ∷ []) s.shown there stops
 
     is_refused : verdict (bytes ++ rest) ≡ Err s.shown.fault
     is_refused =

@@ -226,11 +226,11 @@ run_size : (file : List ℕ) (run : Run Parsing ShownFault) → AreBytes file �
     → IsClean file → IsWithinVersion file
 run_size file (Runs s) are e clean =
     whole_size file _ (stands_whole file s (run_shows file (Runs s) are e))
-run_size file (Stops fault) are e clean =
-    absurd (clean file [] fault (sym (append-nil file)) (shows_from_stops file fault are e))
-run_size file (Stopped fault) are e clean =
-    let before = shown_before file fault are e in
-    absurd (clean before.front (before.byte ∷ before.back) fault before.split before.ending)
+run_size file (Stops shown) are e clean =
+    absurd (clean file [] shown.fault (sym (append-nil file)) (shows_from_stops file shown are e))
+run_size file (Stopped shown) are e clean =
+    let before = shown_before file shown are e in
+    absurd (clean before.front (before.byte ∷ before.back) shown.fault before.split before.ending)
 
 -- clean bytes are no longer than a capture of their version
 pub clean_size : (file : List ℕ) → AreBytes file → IsClean file → IsWithinVersion file

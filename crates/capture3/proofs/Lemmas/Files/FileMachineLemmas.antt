@@ -1,5 +1,5 @@
 -- The machine for a file against connections, entries and rules.
-use Rattle.capture3.proofs.Common.{lengths, eqb-false, append_cancel_left, Ends, Runs, Stops, landed, after, IsWord, Joins, word_next, Leads, leads_within, Tells, IsPart, word_leads, Joins-snoc, AreBytes, BadMagic, BadMark, AfterEnd, Streams, size, max_bytes, Position, ShownFault, refusal, Entry, Opening, Closing, Closes, Refuses, opening_next, opened, file_fault, connection_entries, HaveEntries, Version, One, Two, digit, magic_front, magic, max_connections, total_size, IsConnection, next_position, AfterConnections, Rule, MagicDiffers, MarkIsBad, ConnectionIsTooMany, WithinConnection, ByteAfterEnd, Opens, parsing_in, ◌≡◌, ◌≢◌, ◌⊎◌, inl, inr, ℕ, zero, suc, ◌+◌, ◌<◌, ◌≤◌, List, [], ◌∷◌, ◌++◌, length, refl, sym, ap, ap₂, ⊎_elim, ◌∙◌, append_assoc, append-nil, arith, length-append, nat_lt, nat_eq, ltb-true, ltb-false, lt-ltb, eqb-true, eq-eqb, ne_eqb, false}
+use Rattle.capture3.proofs.Common.{lengths, eqb-false, append_cancel_left, Ends, Runs, Stops, landed, after, IsWord, Joins, word_next, Leads, leads_within, Tells, IsPart, word_leads, Joins-snoc, AreBytes, BadMagic, BadMark, AfterEnd, Streams, size, max_bytes, Position, ShownFault, refusal, Entry, Opening, Closing, Closes, Refuses, opening_next, opened, file_fault, connection_entries, HaveEntries, Version, One, Two, digit, magic_front, magic, max_connections, total_size, IsConnection, next_position, AfterConnections, EndsStreams, Rule, MagicDiffers, MarkIsBad, ConnectionIsTooMany, WithinConnection, ByteAfterEnd, Opens, parsing_in, ◌≡◌, ◌≢◌, ◌⊎◌, inl, inr, ℕ, zero, suc, ◌+◌, ◌<◌, ◌≤◌, List, [], ◌∷◌, ◌++◌, length, refl, sym, ap, ap₂, ⊎_elim, ◌∙◌, append_assoc, append-nil, arith, length-append, nat_lt, nat_eq, ltb-true, ltb-false, lt-ltb, eqb-true, eq-eqb, ne_eqb, false}
 use Rattle.capture3.specs.FileMachine.{Mark, Inside, Ended, Parsing, magic_left, marked, closed, file_next, file_start, parsed}
 use Rattle.capture3.proofs.Lemmas.Connections.RankLemmas.{by_test}
 use Rattle.capture3.proofs.Lemmas.Container.BytesOf.{split_bytes}
@@ -17,6 +17,11 @@ at_mark version at total number entries = parsing_in version at total number ent
 
 abbrev pub inside_at : Version → ℕ → ℕ → ℕ → List Entry → Opening → Parsing
 inside_at version at total number entries o = parsing_in version at total number entries (Inside o)
+
+-- what a refusal says of a file: its fault, and no entries, or those of streams that end here
+abbrev pub RefusesFile : List ℕ → ShownFault → Type 0
+RefusesFile bytes shown = Rule bytes shown.fault
+    × ((shown.more ≡ []) ⊎ EndsStreams bytes shown.more)
 
 -- where a clean prefix of a file stands
 pub data Stands (bytes : List ℕ) (s : Parsing) : Type 0 where
@@ -106,7 +111,7 @@ module _ (bytes : List ℕ) (byte : ℕ) where
       go Two e = eqb-false byte 50 two (is ∙ e)
 
   magic_leads : (more : List ℕ) → magic_front ≡ bytes ++ more
-      → Leads Stands Rule (bytes ++ byte ∷ [])
+      → Leads Stands RefusesFile (bytes ++ byte ∷ [])
       (file_next (parsing_in One (length bytes) 0 0 [] (magic_left more)) byte)
   magic_leads [] begins =
       by_test (nat_eq byte (digit One))
@@ -116,7 +121,8 @@ module _ (bytes : List ℕ) (byte : ℕ) where
       (λ e. rw (one, e) (whole_magic Two begins (eqb-true _ _ e)))
       (λ two. rw (one, two) (MagicDiffers One bytes [] byte (digit One) refl
       (ap (λ (b : List ℕ). b ++ digit One ∷ []) (begins ∙ append-nil bytes))
-      (λ other expected rest others. other_digits other expected rest begins others one two) refl)))
+      (λ other expected rest others. other_digits other expected rest begins others one two) refl,
+      inl refl)))
   magic_leads (due ∷ more) begins =
       by_test (nat_eq byte due)
       (λ e.
@@ -127,7 +133,8 @@ module _ (bytes : List ℕ) (byte : ℕ) where
       (ap (λ (b : List ℕ). b ++ digit One ∷ []) begins
       ∙ append_assoc bytes (due ∷ more) (digit One ∷ []))
       (λ other expected rest others is.
-      eqb-false byte due e (is ∙ sym (due_is due expected more rest other begins others))) refl))
+      eqb-false byte due e (is ∙ sym (due_is due expected more rest other begins others))) refl,
+      inl refl))
 
 -- ---- after whole connections
 
@@ -174,7 +181,7 @@ module _ (version : Version) (front : List ℕ) (connections : List Streams) (en
       }
 
   marked_leads : (bytes word : List ℕ) (n : ℕ) → bytes ≡ front ++ word → IsWord word n
-      → Leads Stands Rule bytes
+      → Leads Stands RefusesFile bytes
       (marked version (length front) (total_size connections) (length connections) entries n)
   marked_leads bytes word zero split is =
       let at_is : length front + 4 ≡ length bytes =
@@ -189,15 +196,19 @@ module _ (version : Version) (front : List ℕ) (connections : List Streams) (en
       (opened version (length front + 4) (total_size connections)) none opens is (ltb-true _ _ e)
       (nothing_opened (next_position front connections) version opens.small) refl))
       (λ e. rw e (ConnectionIsTooMany (word_after word [] 1 none is) refl refl
-      (omega (arith, opens.few, ltb-false (length connections) max_connections e)) refl))
+      (omega (arith, opens.few, ltb-false (length connections) max_connections e)) refl, inl refl))
   marked_leads bytes word (suc (suc other)) split is =
-      MarkIsBad (word_after word [] (suc (suc other)) (split ∙ sym (append-nil (front ++ word))) is)
-      refl (omega arith) refl
+      (
+        MarkIsBad
+            (word_after word [] (suc (suc other)) (split ∙ sym (append-nil (front ++ word))) is)
+            refl (omega arith) refl,
+        inl refl,
+      )
 
   closed_leads : (bytes mark rest : List ℕ) → bytes ≡ front ++ mark ++ rest → IsWord mark 1
       → length connections < max_connections → (x : Closing)
       → EndsConnection version (next_position front connections) rest x
-      → Leads Stands Rule bytes (closed version (suc (length connections)) entries x)
+      → Leads Stands RefusesFile bytes (closed version (suc (length connections)) entries x)
   closed_leads bytes mark rest split one few (Closes end sum more) c =
       let all : List Streams = connections ++ c.streams ∷ [] in
       let at_is : end ≡ length bytes =
@@ -221,15 +232,27 @@ module _ (version : Version) (front : List ℕ) (connections : List Streams) (en
         small = omega (arith, c.fits);
       })
       (λ i. at_mark version (at_is i) (total_is i) (number_is i) (entries ++ more))
-  closed_leads bytes mark rest split one few (Refuses shown) c =
-      WithinConnection (word_after mark rest 1 split one) refl c
+  closed_leads bytes mark rest split one few (Refuses shown) c = (
+    WithinConnection (word_after mark rest 1 split one) refl c.0,
+    elim c.1 [
+      | inl none ↦ inl none
+      | inr streams ↦
+          inr (record {
+            here = word_after mark rest 1 split one;
+            fault = shown.fault;
+            opens = refl;
+            two = streams.0;
+            shows = streams.1;
+          })
+    ],
+  )
 
 begun_leads : (bytes : List ℕ) (s : Parsing) (byte : ℕ) → AreBytes (bytes ++ byte ∷ [])
-    → Stands bytes s → Leads Stands Rule (bytes ++ byte ∷ []) (file_next s byte)
+    → Stands bytes s → Leads Stands RefusesFile (bytes ++ byte ∷ []) (file_next s byte)
 begun_leads bytes s byte are (AtMagic more begins is) = rw is (magic_leads bytes byte more begins)
 begun_leads bytes s byte are (AtMark version front part connections entries split short opens is) =
     let more : bytes ++ byte ∷ [] ≡ front ++ (part ++ byte ∷ []) = rw (split, append_assoc) in
-    rw is (leads_within IsPart IsWord Stands Rule
+    rw is (leads_within IsPart IsWord Stands RefusesFile
     (λ p.
     parsing_in version (length front) (total_size connections) (length connections) entries
     (Mark p))
@@ -247,7 +270,7 @@ begun_leads bytes s byte are
     let more : bytes ++ byte ∷ [] ≡ front ++ mark ++ (rest ++ byte ∷ []) =
     simp (split, append_assoc) in
     let context : Position = next_position front connections in
-    rw is (leads_within (HasOpening version context) (EndsConnection version context) Stands Rule
+    rw is (leads_within (HasOpening version context) (EndsConnection version context) Stands RefusesFile
     (inside_at version (length front + 4) (total_size connections) (suc (length connections))
     entries)
     (closed version (suc (length connections)) entries) (rest ++ byte ∷ []) (bytes ++ byte ∷ [])
@@ -262,11 +285,11 @@ begun_leads bytes s byte are (AtEnd version front last connections entries split
     omega (lengths, ap length split) in
     rw is (ByteAfterEnd (word_after version front connections entries opens last (byte ∷ []) 0
     (ap (λ (b : List ℕ). b ++ byte ∷ []) split) closes) refl refl
-    (ap (λ n. refusal (file_fault n AfterEnd)) at_is))
+    (ap (λ n. file_fault n AfterEnd) at_is), inl refl)
 
-pub file_tells : (bytes : List ℕ) → AreBytes bytes → Tells Stands Rule bytes (parsed bytes)
+pub file_tells : (bytes : List ℕ) → AreBytes bytes → Tells Stands RefusesFile bytes (parsed bytes)
 file_tells =
-    tells_bytes file_next Stands Rule begun_leads file_start (AtMagic magic_front refl refl)
+    tells_bytes file_next Stands RefusesFile begun_leads file_start (AtMagic magic_front refl refl)
 
 -- ---- the other way round
 

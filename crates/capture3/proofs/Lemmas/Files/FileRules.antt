@@ -1,5 +1,5 @@
 -- The same of the rules of connections and of files.
-use Rattle.capture3.proofs.Common.{lengths, ◌≡◌, ◌⊎◌, inl, inr, ℕ, suc, ◌+◌, ◌<◌, List, [], ◌∷◌, ◌++◌, length, refl, sym, ap, ap₂, ◌∙◌, append_assoc, append-nil, arith, nat_lt, le-ltb, Run, Runs, Stops, landed, after, Between, IsWord, Joins, Item, TooManyConnections, AfterEnd, Fault, Side, Client, Server, ReplyItems, Version, One, Two, magic, max_connections, total_size, AreStreams, IsConnection, Streams, size, AreMixed, IsStream, Entry, AfterConnections, Rule, MagicDiffers, MarkIsBad, ConnectionIsTooMany, WithinConnection, ByteAfterEnd, judge_call, mixing_from, judge_replies, Opening, InServer, Closing, Closes, Refuses, after_server, after_client, opened, Judgement, StreamEnd, Held, Faulty, stream_end, unread, Position, Reading, file_fault, SideShows, PassesBytes, CutsRecord, ShowsRecord, connection_entries, siding_from, reading_with, ShownFault, refusal, client_refusal, server_refusal, server_position, calls_in_turn, replies_to, InTurnShows, InCalls, InReplies, StreamsShow, InClientStream, InServerStream, ConnectionShows, Parsing, marked, file_next, parsed}
+use Rattle.capture3.proofs.Common.{lengths, ◌≡◌, ◌⊎◌, inl, inr, ℕ, suc, ◌+◌, ◌<◌, List, [], ◌∷◌, ◌++◌, length, refl, sym, ap, ap₂, ◌∙◌, append_assoc, append-nil, arith, nat_lt, le-ltb, Run, Runs, Stops, landed, after, Between, IsWord, Joins, Item, TooManyConnections, AfterEnd, Fault, Side, Client, Server, ReplyItems, Version, One, Two, magic, max_connections, total_size, AreStreams, IsConnection, Streams, size, AreMixed, IsStream, Entry, AfterConnections, Rule, MagicDiffers, MarkIsBad, ConnectionIsTooMany, WithinConnection, ByteAfterEnd, judge_call, mixing_from, judge_replies, Opening, InServer, Closing, Closes, Refuses, after_server, after_client, opened, Judgement, StreamEnd, Held, Faulty, stream_end, unread, Position, Reading, file_fault, SideShows, PassesBytes, CutsRecord, ShowsRecord, connection_entries, siding_from, reading_with, ShownFault, EndsStreams, fault_at, shown_with, refusal, client_refusal, server_refusal, server_position, calls_in_turn, replies_to, InTurnShows, InCalls, InReplies, StreamsShow, InClientStream, InServerStream, ConnectionShows, Parsing, marked, file_next, parsed}
 use Rattle.capture3.proofs.Lemmas.Connections.ConnectionMachineLemmas.{RefusedClosing, in_client, in_mixed, in_server, opening_taken}
 use Rattle.capture3.proofs.Lemmas.Connections.RankLemmas.{by_test}
 use Rattle.capture3.proofs.Lemmas.Sides.SideRules.{side_closed_or, side_over}
@@ -24,17 +24,19 @@ side_some judge side position bytes fault
     (ShowsRecord front header got stream left messages shown split chunks word some shows is) =
     omega (lengths, ap length split)
 
-pub shown_mixed : (number : ℕ) (bytes : List ℕ) (shown : ShownFault)
-    → StreamsShow number bytes shown → (streams : Streams) × AreMixed bytes streams
-shown_mixed number bytes shown (InClientStream streams calls fault mixed first same) =
+pub shown_mixed : (number : ℕ) (bytes : List ℕ) (entries : List Entry) (fault : Fault)
+    → StreamsShow number bytes entries fault → (streams : Streams) × AreMixed bytes streams
+shown_mixed number bytes entries fault
+    (InClientStream streams calls stop mixed first same is) =
     (streams, mixed)
-shown_mixed number bytes shown (InServerStream streams calls replies fault mixed holds first same) =
+shown_mixed number bytes entries fault
+    (InServerStream streams calls replies stop mixed holds first same is) =
     (streams, mixed)
 
-pub streams_some : (number : ℕ) (bytes : List ℕ) (shown : ShownFault)
-    → StreamsShow number bytes shown → 0 < length bytes
-streams_some number bytes shown h =
-    let m = (shown_mixed number bytes shown h).1 in
+pub streams_some : (number : ℕ) (bytes : List ℕ) (entries : List Entry) (fault : Fault)
+    → StreamsShow number bytes entries fault → 0 < length bytes
+streams_some number bytes entries fault h =
+    let m = (shown_mixed number bytes entries fault h).1 in
     omega (lengths, ap length m.split)
 
 words_some : (word rest : List ℕ) (n : ℕ) → IsWord word n → 0 < length (word ++ rest)
@@ -102,21 +104,30 @@ module _ (context : Position) where
         | inr past ↦ inr (past_inside (in_mixed context.connection) bytes 0 start past)
       ]
 
-  streams_over : (bytes : List ℕ) (shown : ShownFault) → StreamsShow context.connection bytes shown
-      → Over RefusedClosing (opening_taken Two context bytes) (Refuses shown)
-  streams_over bytes shown (InClientStream streams calls fault mixed first same) =
+  streams_over : (bytes : List ℕ) (entries : List Entry) (fault : Fault)
+      → StreamsShow context.connection bytes entries fault
+      → Over RefusedClosing (opening_taken Two context bytes) (Refuses (shown_with entries fault))
+  streams_over bytes entries fault (InClientStream streams calls stop mixed first same is) =
       elim (gathered_or bytes streams mixed) [
         | inl e ↦
-            inl (e ∙ rw (stream_ends the_calls streams.client (Faulty calls fault) first, same))
+            inl (e ∙ rw (
+              stream_ends the_calls streams.client
+                  (Faulty calls (fault_at calls stop.at stop.reason)) (stop, first, refl),
+              same,
+              is,
+            ))
         | inr past ↦ inr past
       ]
-  streams_over bytes shown (InServerStream streams calls replies fault mixed holds first same) =
+  streams_over bytes entries fault
+      (InServerStream streams calls replies stop mixed holds first same is) =
       elim (gathered_or bytes streams mixed) [
         | inl e ↦
             inl (e ∙ rw (
               stream_ends the_calls streams.client (Held calls) holds,
-              stream_ends (the_replies calls) streams.server (Faulty replies fault) first,
+              stream_ends (the_replies calls) streams.server
+                  (Faulty replies (fault_at replies stop.at stop.reason)) (stop, first, refl),
               same,
+              is,
             ))
         | inr past ↦ inr past
       ]
@@ -136,20 +147,24 @@ module _ (context : Position) where
 
   -- ---- by version
 
-  connection_over : (version : Version) (bytes : List ℕ) (shown : ShownFault)
-      → ConnectionShows version context bytes shown
-      → Over RefusedClosing (opening_taken version context bytes) (Refuses shown)
-  connection_over One bytes shown (same, h) = rw same (in_turn_over bytes shown.fault h)
-  connection_over Two bytes shown (inl (same, h)) =
-      rw same (over_inside (in_mixed context.connection) bytes 0
-      (mixing_from context.start context.before) refl (mixed_over context bytes shown.fault h))
-  connection_over Two bytes shown (inr h) = streams_over bytes shown h
+  connection_over : (version : Version) (bytes : List ℕ) (fault : Fault)
+      → ConnectionShows version context bytes fault
+      → (entries : List Entry)
+      × Over RefusedClosing (opening_taken version context bytes)
+      (Refuses (shown_with entries fault))
+  connection_over One bytes fault h = ([], in_turn_over bytes fault h)
+  connection_over Two bytes fault (inl h) = (
+    [],
+    over_inside (in_mixed context.connection) bytes 0 (mixing_from context.start context.before)
+        refl (mixed_over context bytes fault h),
+  )
+  connection_over Two bytes fault (inr h) = (h.0, streams_over bytes h.0 fault h.1)
 
-  connection_some : (version : Version) (bytes : List ℕ) (shown : ShownFault)
-      → ConnectionShows version context bytes shown → 0 < length bytes
-  connection_some One bytes shown (same, h) = in_turn_some bytes shown.fault h
-  connection_some Two bytes shown (inl (same, h)) = mixed_some context bytes shown.fault h
-  connection_some Two bytes shown (inr h) = streams_some context.connection bytes shown h
+  connection_some : (version : Version) (bytes : List ℕ) (fault : Fault)
+      → ConnectionShows version context bytes fault → 0 < length bytes
+  connection_some One bytes fault h = in_turn_some bytes fault h
+  connection_some Two bytes fault (inl h) = mixed_some context bytes fault h
+  connection_some Two bytes fault (inr h) = streams_some context.connection bytes h.0 fault h.1
 
   connection_or : (version : Version) (bytes : List ℕ) (streams : Streams)
       → AreStreams version bytes streams
@@ -297,31 +312,62 @@ end_over version at total number entries word (byte ∷ []) mark is none one =
 end_over version at total number entries word (byte ∷ other ∷ more) mark is none one =
     absurd (omega arith)
 
-pub rule_over : (bytes : List ℕ) (shown : ShownFault) → Rule bytes shown
+-- the connection after whole connections
+abbrev position_in : {bytes : List ℕ} → AfterConnections bytes → Position
+position_in b =
+    context_at (suc (length b.connections)) (length b.front + 4) (total_size b.connections)
+
+-- what comes after the word 1
+inside_over : (bytes : List ℕ) (b : AfterConnections bytes) (shown : ShownFault) → b.mark ≡ 1
+    → 0 < length b.rest
+    → Over RefusedClosing (opening_taken b.version (position_in b) b.rest) (Refuses shown)
     → Over AnyRefusal (parsed bytes) shown
-rule_over bytes shown (MagicDiffers version front more byte due split begins differs is) =
-    inl (rw is (magic_stops version bytes front more byte due split begins differs))
-rule_over bytes shown (MarkIsBad b none bad is) =
-    word_over bytes b shown none
-    (λ entries.
-    rw is (bad_mark_stops b.version (length b.front) (total_size b.connections)
-    (length b.connections) entries b.mark bad))
-rule_over bytes shown (ConnectionIsTooMany b none one full is) =
-    word_over bytes b shown none
-    (λ entries.
-    rw (is, one, le-ltb (length b.connections) max_connections (omega (arith, full))))
-rule_over bytes shown (WithinConnection b one shows) =
+inside_over bytes b shown one some over =
     let at : ℕ = length b.front + 4 in
     let total : ℕ = total_size b.connections in
     let number : ℕ = suc (length b.connections) in
-    over_on _ _ (b.front ++ b.word) b.rest b.split (inside_or bytes b one)
-    (connection_some (context_at number at total) b.version b.rest shown shows)
+    over_on _ _ (b.front ++ b.word) b.rest b.split (inside_or bytes b one) some
     (λ entries.
     over_inside (in_file b.version at total number entries) b.rest 0 (opened b.version at total)
-    refl
-    (connection_over (context_at number at total) b.version b.rest shown shows))
-rule_over bytes shown (ByteAfterEnd b none one is) =
-    after_over bytes b shown
-    (λ entries.
-    inl (rw is (end_over b.version (length b.front) (total_size b.connections)
-    (length b.connections) entries b.word b.rest b.mark b.is_word none one)))
+    refl over)
+
+-- the machine stops with the fault, and with some entries that are still reached
+pub rule_over : (bytes : List ℕ) (fault : Fault) → Rule bytes fault
+    → (entries : List Entry) × Over AnyRefusal (parsed bytes) (shown_with entries fault)
+rule_over bytes fault (MagicDiffers version front more byte due split begins differs is) =
+    ([], inl (rw is (magic_stops version bytes front more byte due split begins differs)))
+rule_over bytes fault (MarkIsBad b none bad is) = (
+  [],
+  word_over bytes b (refusal fault) none
+      (λ entries.
+      rw is (bad_mark_stops b.version (length b.front) (total_size b.connections)
+      (length b.connections) entries b.mark bad)),
+)
+rule_over bytes fault (ConnectionIsTooMany b none one full is) = (
+  [],
+  word_over bytes b (refusal fault) none
+      (λ entries.
+      rw (is, one, le-ltb (length b.connections) max_connections (omega (arith, full)))),
+)
+rule_over bytes fault (WithinConnection b one shows) =
+    let over = connection_over (position_in b) b.version b.rest fault shows in (
+      over.0,
+      inside_over bytes b (shown_with over.0 fault) one
+          (connection_some (position_in b) b.version b.rest fault shows) over.1,
+    )
+rule_over bytes fault (ByteAfterEnd b none one is) = (
+  [],
+  after_over bytes b (refusal fault)
+      (λ entries.
+      inl (rw is (end_over b.version (length b.front) (total_size b.connections)
+      (length b.connections) entries b.word b.rest b.mark b.is_word none one))),
+)
+
+-- where streams end with a fault, the machine stops with what comes before it
+pub ends_over : (bytes : List ℕ) (entries : List Entry) (ends : EndsStreams bytes entries)
+    → Over AnyRefusal (parsed bytes) (shown_with entries ends.fault)
+ends_over bytes entries ends =
+    let b = ends.here in
+    inside_over bytes b (shown_with entries ends.fault) ends.opens
+    (streams_some (suc (length b.connections)) b.rest entries ends.fault ends.shows)
+    (rw ends.two (streams_over (position_in b) b.rest entries ends.fault ends.shows))

@@ -1,5 +1,5 @@
 -- The first fault of a file stands where its reason says.
-use Rattle.capture3.proofs.Common.{lengths, ◌≡◌, ◌⊎◌, ◌+◌, ◌≤◌, inl, inr, ap, arith, ℕ, List, length, refl, Reason, Stop, Item, Fault, Side, Client, Server, Version, One, Two, calls_in_turn, ConnectionShows, InTurnShows, InCalls, InReplies, MixedShows, BadSide, NoLength, TooMuch, ShownFault, replies_to, server_position, StreamsShow, InClientStream, InServerStream, FirstRecordFault, Judgement, RecordFault, RefusesRecord, PassesLimit, StreamShows, IsCut, CutsOpen, place_at, Position, SideShows, PassesBytes, CutsRecord, ShowsRecord, IsOfItem, AReply, BadCall, LongCall, OtherCall, ACall, Unasked, BadReply, LongReply, AfterConnections, FirstFault, Rule, MagicDiffers, MarkIsBad, ConnectionIsTooMany, WithinConnection, ByteAfterEnd, HasItsPlace}
+use Rattle.capture3.proofs.Common.{lengths, ◌≡◌, ◌⊎◌, ◌+◌, ◌≤◌, inl, inr, ap, arith, ℕ, List, length, refl, Reason, Stop, Item, Fault, Side, Client, Server, Version, One, Two, calls_in_turn, ConnectionShows, InTurnShows, InCalls, InReplies, MixedShows, BadSide, NoLength, TooMuch, replies_to, server_position, StreamsShow, InClientStream, InServerStream, FirstRecordFault, Judgement, RefusesRecord, PassesLimit, StreamShows, IsCut, CutsOpen, place_at, Position, SideShows, PassesBytes, CutsRecord, ShowsRecord, IsOfItem, AReply, BadCall, LongCall, OtherCall, ACall, Unasked, BadReply, LongReply, AfterConnections, Entry, FirstFault, Rule, MagicDiffers, MarkIsBad, ConnectionIsTooMany, WithinConnection, ByteAfterEnd, HasItsPlace}
 use Rattle.xdr3.specs.declared.reason.Reason.TheVariants.{Short, Trailing, BadBool, BadEnum, TooLong, RpcVersion, Flavor, AuthLength}
 use Rattle.capture3.specs.declared.fault.Place.TheVariants.{Record}
 use Rattle.capture3.specs.Bodies as bodies
@@ -68,19 +68,20 @@ replies_in_place calls before body stop (LongReply xid id s p l) = left_over Ser
 -- ---- the file
 
 record_in_place : {M : Type 0} (judge : Judgement M) (connection : ℕ) (side : Side)
-    (file stream : List ℕ) (messages : List M) (shown : RecordFault) → RefusesInPlace judge side
-    → StreamShows judge stream messages shown → IsInPlace file (place_at connection side shown)
-record_in_place judge connection side file stream messages shown h
-    (RefusesRecord front last body stop split holds whole refused is) =
-    rw is (h messages body stop refused file connection _)
-record_in_place judge connection side file stream messages shown h
-    (PassesLimit front last at split holds long is) =
+    (file stream : List ℕ) (messages : List M) (stop : Stop) → RefusesInPlace judge side
+    → StreamShows judge stream messages stop
+    → IsInPlace file (place_at connection side messages stop)
+record_in_place judge connection side file stream messages stop h
+    (RefusesRecord front last body split holds whole refused) =
+    h messages body stop refused file connection _
+record_in_place judge connection side file stream messages stop h
+    (PassesLimit front last split holds long is) =
     rw is tt
 
 cut_in_place : {M : Type 0} (judge : Judgement M) (connection : ℕ) (side : Side)
-    (file stream : List ℕ) (messages : List M) (shown : RecordFault)
-    → IsCut judge stream messages shown → IsInPlace file (place_at connection side shown)
-cut_in_place judge connection side file stream messages shown
+    (file stream : List ℕ) (messages : List M) (stop : Stop) → IsCut judge stream messages stop
+    → IsInPlace file (place_at connection side messages stop)
+cut_in_place judge connection side file stream messages stop
     (CutsOpen front last body split holds is_open is) =
     rw is tt
 
@@ -92,11 +93,11 @@ side_in_place judge side position file bytes fault within h
     (PassesBytes front last stream count split chunks word some passes is) =
     rw is (omega (lengths, within, ap length split, word.0))
 side_in_place judge side position file bytes fault within h
-    (CutsRecord stream messages shown closed cut is) =
-    rw is (cut_in_place judge position.connection side file stream messages shown cut)
+    (CutsRecord stream messages stop closed cut is) =
+    rw is (cut_in_place judge position.connection side file stream messages stop cut)
 side_in_place judge side position file bytes fault within h
-    (ShowsRecord front header got stream left messages shown split chunks word some shows is) =
-    rw is (record_in_place judge position.connection side file _ messages shown h shows)
+    (ShowsRecord front header got stream left messages stop split chunks word some shows is) =
+    rw is (record_in_place judge position.connection side file _ messages stop h shows)
 
 mixed_in_place : (context : Position) (file bytes : List ℕ) (fault : Fault)
     → context.start + length bytes ≤ length file → MixedShows context bytes fault
@@ -110,24 +111,25 @@ mixed_in_place context file bytes fault within (TooMuch b count counts some pass
     rw e (omega (lengths, within, ap length b.split, b.sided.0, counts.0))
 
 first_in_place : {M : Type 0} (judge : Judgement M) (connection : ℕ) (side : Side)
-    (file stream : List ℕ) (messages : List M) (fault : RecordFault) → RefusesInPlace judge side
-    → FirstRecordFault judge stream messages fault
-    → IsInPlace file (place_at connection side fault)
-first_in_place judge connection side file stream messages fault h
+    (file stream : List ℕ) (messages : List M) (stop : Stop) → RefusesInPlace judge side
+    → FirstRecordFault judge stream messages stop
+    → IsInPlace file (place_at connection side messages stop)
+first_in_place judge connection side file stream messages stop h
     (inl (front, rest, split, shows)) =
-    record_in_place judge connection side file front messages fault h shows
-first_in_place judge connection side file stream messages fault h (inr cut) =
-    cut_in_place judge connection side file stream messages fault cut
+    record_in_place judge connection side file front messages stop h shows
+first_in_place judge connection side file stream messages stop h (inr cut) =
+    cut_in_place judge connection side file stream messages stop cut
 
-streams_in_place : (number : ℕ) (file bytes : List ℕ) (shown : ShownFault)
-    → StreamsShow number bytes shown → IsInPlace file shown.fault
-streams_in_place number file bytes shown (InClientStream streams calls fault mixed first same) =
-    rw same (first_in_place
-    calls_in_turn number Client file streams.client calls fault calls_in_place first)
-streams_in_place number file bytes shown
-    (InServerStream streams calls replies fault mixed holds first same) =
-    rw same (first_in_place
-    (replies_to calls) number Server file streams.server replies fault
+streams_in_place : (number : ℕ) (file bytes : List ℕ) (entries : List Entry) (fault : Fault)
+    → StreamsShow number bytes entries fault → IsInPlace file fault
+streams_in_place number file bytes entries fault
+    (InClientStream streams calls stop mixed first same is) =
+    rw is (first_in_place
+    calls_in_turn number Client file streams.client calls stop calls_in_place first)
+streams_in_place number file bytes entries fault
+    (InServerStream streams calls replies stop mixed holds first same is) =
+    rw is (first_in_place
+    (replies_to calls) number Server file streams.server replies stop
     (replies_in_place calls) first)
 
 in_turn_in_place : (context : Position) (file bytes : List ℕ) (fault : Fault)
@@ -141,14 +143,14 @@ in_turn_in_place context file bytes fault within
     (omega (lengths, within, ap length split)) (replies_in_place calls) h
 
 connection_in_place : (version : Version) (context : Position) (file bytes : List ℕ)
-    (shown : ShownFault) → context.start + length bytes ≤ length file
-    → ConnectionShows version context bytes shown → IsInPlace file shown.fault
-connection_in_place One context file bytes shown within (same, h) =
-    in_turn_in_place context file bytes shown.fault within h
-connection_in_place Two context file bytes shown within (inl (same, h)) =
-    mixed_in_place context file bytes shown.fault within h
-connection_in_place Two context file bytes shown within (inr h) =
-    streams_in_place context.connection file bytes shown h
+    (fault : Fault) → context.start + length bytes ≤ length file
+    → ConnectionShows version context bytes fault → IsInPlace file fault
+connection_in_place One context file bytes fault within h =
+    in_turn_in_place context file bytes fault within h
+connection_in_place Two context file bytes fault within (inl h) =
+    mixed_in_place context file bytes fault within h
+connection_in_place Two context file bytes fault within (inr h) =
+    streams_in_place context.connection file bytes h.0 fault h.1
 
 -- a connection word stands in the file, and what comes after it
 word_within : (file bytes : List ℕ) (b : AfterConnections bytes) → length bytes ≤ length file
@@ -156,29 +158,28 @@ word_within : (file bytes : List ℕ) (b : AfterConnections bytes) → length by
 word_within file bytes b within =
     omega (lengths, within, ap length b.split)
 
-rule_in_place : (file bytes : List ℕ) (shown : ShownFault) → length bytes ≤ length file
-    → Rule bytes shown → IsInPlace file shown.fault
-rule_in_place file bytes shown within
+rule_in_place : (file bytes : List ℕ) (fault : Fault) → length bytes ≤ length file
+    → Rule bytes fault → IsInPlace file fault
+rule_in_place file bytes fault within
     (MagicDiffers version front more byte due split begins differs e) =
     rw e (
       omega (lengths, length_magic version, ap length begins),
       omega (lengths, within, ap length split),
     )
-rule_in_place file bytes shown within (MarkIsBad b rest bad e) =
+rule_in_place file bytes fault within (MarkIsBad b rest bad e) =
     rw e
     (omega (arith, word_within file bytes b within))
-rule_in_place file bytes shown within (ConnectionIsTooMany b rest one many e) =
+rule_in_place file bytes fault within (ConnectionIsTooMany b rest one many e) =
     rw e
     (omega (arith, word_within file bytes b within))
-rule_in_place file bytes shown within (WithinConnection b one h) =
-    connection_in_place b.version _ file b.rest shown (word_within file bytes b within) h
-rule_in_place file bytes shown within (ByteAfterEnd b zero one e) =
+rule_in_place file bytes fault within (WithinConnection b one h) =
+    connection_in_place b.version _ file b.rest fault (word_within file bytes b within) h
+rule_in_place file bytes fault within (ByteAfterEnd b zero one e) =
     rw e
     (omega (arith, one, word_within file bytes b within))
 
 pub in_its_place : (file : List ℕ) (fault : Fault) → FirstFault file fault
     → HasItsPlace file fault.reason fault.place
-in_its_place file fault (inl (front, rest, shown, split, shows, e)) =
-    rw e (rule_in_place file front shown
-    (omega (lengths, ap length split)) shows.rule)
+in_its_place file fault (inl (front, rest, split, shows)) =
+    rule_in_place file front fault (omega (lengths, ap length split)) shows.rule
 in_its_place file fault (inr (clean, ill, e)) = rw e refl

@@ -1,16 +1,16 @@
 -- A file is well formed with its entries, or has one first fault, as the machine says.
-use Rattle.capture3.proofs.Common.{◌≡◌, inl, inr, ℕ, List, [], ◌∷◌, ◌++◌, length, refl, sym, ap, subst, ◌∙◌, append-nil, Result, Ok, Err, Run, Runs, Stops, Stopped, after, AreBytes, CaptureCut, AfterEnd, Fault, Version, total_size, magic, ShownFault, refusal, Entry, End, Rule, Shows, IsClean, FirstFault, file_fault, Typed, IsWellFormed, parsing_in, ran_before, Earlier, Tells, after-append, after_stopped, ran_to, not_runs, HasOneVerdict, IsCutShort}
+use Rattle.capture3.proofs.Common.{◌≡◌, inl, inr, ℕ, List, [], ◌∷◌, ◌++◌, length, refl, sym, ap, subst, ◌∙◌, append-nil, Result, Ok, Err, Run, Runs, Stops, Stopped, after, AreBytes, CaptureCut, AfterEnd, Fault, Version, total_size, magic, ShownFault, refusal, shown_with, Entry, End, Rule, Shows, IsClean, FirstFault, file_fault, Typed, IsWellFormed, parsing_in, ran_before, Earlier, Tells, after-append, after_stopped, ran_to, not_runs, HasOneVerdict, IsCutShort}
 use Rattle.capture3.specs.FileMachine.{Spot, Ended, Parsing, file_next, file_start, parsed, concluded, verdict_of, verdict}
 use Rattle.capture3.proofs.Lemmas.Files.FileRules.{rule_over}
 use Rattle.capture3.proofs.Lemmas.Container.BytesOf.{split_bytes}
 use Rattle.capture3.proofs.Lemmas.Files.EndedMachines.{Over, stopped_at}
-use Rattle.capture3.proofs.Lemmas.Files.FileMachineLemmas.{AnyRefusal, Stands, AtMagic, AtMark, AtInside, AtEnd, file_tells, file_runs}
+use Rattle.capture3.proofs.Lemmas.Files.FileMachineLemmas.{AnyRefusal, RefusesFile, Stands, AtMagic, AtMark, AtInside, AtEnd, file_tells, file_runs}
 
 -- the machine's runs, told of their bytes
 pub run_shows : (bytes : List ℕ) (run : Run Parsing ShownFault) → AreBytes bytes
     → parsed bytes ≡ run
-    → Tells Stands Rule bytes run
-run_shows bytes run are e = subst (λ r. Tells Stands Rule bytes r) e (file_tells bytes are)
+    → Tells Stands RefusesFile bytes run
+run_shows bytes run are e = subst (λ r. Tells Stands RefusesFile bytes r) e (file_tells bytes are)
 
 -- where a rule holds, the machine has stopped
 over_not_runs : (run : Run Parsing ShownFault) (s : Parsing) (shown : ShownFault) → run ≡ Runs s
@@ -18,22 +18,29 @@ over_not_runs : (run : Run Parsing ShownFault) (s : Parsing) (shown : ShownFault
 over_not_runs run s shown e (inl f) = cc
 over_not_runs run s shown e (inr past) = let f = past.2 in cc
 
+rule_not_runs : (bytes : List ℕ) (s : Parsing) (fault : Fault) → parsed bytes ≡ Runs s
+    → Rule bytes fault → ⊥
+rule_not_runs bytes s fault e rule =
+    let over = rule_over bytes fault rule in
+    over_not_runs (parsed bytes) s (shown_with over.0 fault) e over.1
+
 -- a fault is shown by the last byte exactly where the machine stops at it
 pub shows_from_stops : (bytes : List ℕ) (shown : ShownFault) → AreBytes bytes
-    → parsed bytes ≡ Stops shown → Shows bytes shown
+    → parsed bytes ≡ Stops shown → Shows bytes shown.fault
 shows_from_stops bytes shown are e =
     record {
-      rule = run_shows bytes (Stops shown) are e;
+      rule = (run_shows bytes (Stops shown) are e).0;
       first = λ front more byte other split rule.
           let before =
           ran_before file_next (Runs file_start) front byte more shown (ap parsed (sym split) ∙ e)
           in
-          over_not_runs (parsed front) before.0 other before.1 (rule_over front other rule);
+          rule_not_runs front before.0 other before.1 rule;
     }
 
 -- where it had stopped before, an earlier byte shows the fault
 pub shown_before : (file : List ℕ) (shown : ShownFault) → AreBytes file
-    → parsed file ≡ Stopped shown → Earlier ShownFault Shows file shown
+    → parsed file ≡ Stopped shown
+    → Earlier ShownFault (λ bytes stopped. Shows bytes stopped.fault) file shown
 shown_before file shown are e =
     let stop = stopped_at file_next file file_start shown e in
     let bytes = split_bytes file stop.front (stop.byte ∷ stop.back) stop.split are in
@@ -45,14 +52,15 @@ shown_before file shown are e =
       ending = shows_from_stops stop.front shown bytes.0 stop.ending;
     }
 
-pub stops_from_shows : (bytes : List ℕ) (shown : ShownFault) → AreBytes bytes → Shows bytes shown
-    → parsed bytes ≡ Stops shown
-stops_from_shows bytes shown are h =
-    elim (rule_over bytes shown h.rule) [
-      | inl e ↦ e
+pub stops_from_shows : (bytes : List ℕ) (fault : Fault) → AreBytes bytes → Shows bytes fault
+    → (entries : List Entry) × (parsed bytes ≡ Stops (shown_with entries fault))
+stops_from_shows bytes fault are h =
+    let over = rule_over bytes fault h.rule in
+    elim over.1 [
+      | inl e ↦ (over.0, e)
       | inr past ↦
           let before = shown_before bytes past.0 are past.2 in
-          absurd (h.first before.front before.back before.byte past.0 before.split
+          absurd (h.first before.front before.back before.byte past.0.fault before.split
           before.ending.rule)
     ]
 
@@ -60,7 +68,7 @@ stops_from_shows bytes shown are h =
 pub clean_from_runs : (bytes : List ℕ) (s : Parsing) → parsed bytes ≡ Runs s → IsClean bytes
 clean_from_runs bytes s e front rest fault split shows =
     let ran = ran_to file_next (Runs file_start) front rest s (ap parsed (sym split) ∙ e) in
-    over_not_runs (parsed front) ran.0 fault ran.1 (rule_over front fault shows.rule)
+    rule_not_runs front ran.0 fault ran.1 shows.rule
 
 -- well formed
 typed_from_stands : (file : List ℕ) (all : List Entry) (s : Parsing) → Stands file s
@@ -143,10 +151,22 @@ fault_from_run file fault (Runs s) are e v =
       fault_from_spot s.entries (length file) fault s.spot v,
     )
 fault_from_run file fault (Stops shown) are e v =
-    inl (file, [], shown, sym (append-nil file), shows_from_stops file shown are e, cc)
+    let same : shown.fault ≡ fault = cc in
+    inl (
+      file,
+      [],
+      sym (append-nil file),
+      subst (Shows file) same (shows_from_stops file shown are e),
+    )
 fault_from_run file fault (Stopped shown) are e v =
+    let same : shown.fault ≡ fault = cc in
     let before = shown_before file shown are e in
-    inl (before.front, before.byte ∷ before.back, shown, before.split, before.ending, cc)
+    inl (
+      before.front,
+      before.byte ∷ before.back,
+      before.split,
+      subst (Shows before.front) same before.ending,
+    )
 
 pub fault_from_verdict : (file : List ℕ) (fault : Fault) → AreBytes file → verdict file ≡ Err fault
     → FirstFault file fault
@@ -170,18 +190,20 @@ cut_from_run : (file : List ℕ) (run : Run Parsing ShownFault) → AreBytes fil
 cut_from_run file (Runs s) are e clean bad =
     cut_from_spot s.entries (length file) s.spot
     (λ all v. bad (all, typed_from_run file all (Runs s) are e v))
-cut_from_run file (Stops fault) are e clean bad =
-    absurd (clean file [] fault (sym (append-nil file)) (shows_from_stops file fault are e))
-cut_from_run file (Stopped fault) are e clean bad =
-    let before = shown_before file fault are e in
-    absurd (clean before.front (before.byte ∷ before.back) fault before.split before.ending)
+cut_from_run file (Stops shown) are e clean bad =
+    absurd (clean file [] shown.fault (sym (append-nil file)) (shows_from_stops file shown are e))
+cut_from_run file (Stopped shown) are e clean bad =
+    let before = shown_before file shown are e in
+    absurd (clean before.front (before.byte ∷ before.back) shown.fault before.split before.ending)
 
 pub verdict_from_fault : (file : List ℕ) (fault : Fault) → AreBytes file → FirstFault file fault
     → verdict file ≡ Err fault
 verdict_from_fault file fault are (inl h) =
-    ap (verdict_of (length file)) (ap parsed h.3 ∙ after-append file_next (Runs file_start) h.0 h.1
-    ∙ rw (stops_from_shows h.0 h.2 (split_bytes file h.0 h.1 h.3 are).0 h.4))
-    ∙ stays (length file) h.2 h.1 ∙ ap (λ f. Err f) (sym h.5)
+    let (front, rest, split, shows) = h in
+    let stop = stops_from_shows front fault (split_bytes file front rest split are).0 shows in
+    ap (verdict_of (length file)) (ap parsed split ∙ after-append file_next (Runs file_start) front
+    rest ∙ rw stop.1)
+    ∙ stays (length file) (shown_with stop.0 fault) rest
 verdict_from_fault file fault are (inr h) =
     cut_from_run file (parsed file) are refl h.0 h.1 ∙ ap (λ f. Err f) (sym h.2)
 

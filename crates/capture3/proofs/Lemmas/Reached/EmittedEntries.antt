@@ -1,7 +1,8 @@
 -- What the machine emits along bytes is what they reach.
-use Rattle.capture3.proofs.Common.{◌≡◌, ◌⊎◌, inl, inr, ℕ, List, [], ◌∷◌, ◌++◌, refl, sym, ap, ap₂, ◌∙◌, append_assoc, append-nil, Result, Ok, Err, Next, Goes, Ends, Runs, Stops, landed, after, last_running, AreBytes, Fault, ShownFault, Entry, Shows, IsWellFormed, unwrap_or, result_ok, Parsing, file_next, file_start, parsed, verdict, emitted, last_entries, reached, IsLongestClean, Reached, after-append, after_stopped, runs_along, last_running-append}
+use Rattle.capture3.proofs.Common.{◌≡◌, ◌⊎◌, inl, inr, ℕ, List, [], ◌∷◌, ◌++◌, refl, sym, ap, ap₂, ◌∙◌, append_assoc, append-nil, Result, Ok, Err, Next, Goes, Ends, Runs, Stops, landed, after, last_running, AreBytes, Fault, ShownFault, shown_with, EndsStreams, StillReaches, Entry, Shows, IsWellFormed, unwrap_or, result_ok, Parsing, file_next, file_start, parsed, verdict, emitted, last_entries, reached, IsLongestClean, Reached, after-append, after_stopped, runs_along, last_running-append}
 use Rattle.capture3.proofs.Lemmas.Container.BytesOf.{split_bytes}
 use Rattle.capture3.proofs.Lemmas.Files.FileMachineLemmas.{file_runs}
+use Rattle.capture3.proofs.Lemmas.Files.FileRules.{ends_over}
 use Rattle.capture3.proofs.Lemmas.Reached.ReachedLemmas.{whole_stands, stands_whole}
 use Rattle.capture3.proofs.Lemmas.Files.Verdicts.{run_shows, shows_from_stops, stops_from_shows, clean_from_runs, typed_from_verdict, verdict_from_typed}
 
@@ -31,6 +32,37 @@ after_entries bytes front s byte back shown split e ends =
     ∙ ap (λ n. after file_next (landed n) back) ends)
     ∙ stopped_entries shown back
 
+-- ---- what the byte of a fault still reaches
+
+ends_are : (bytes : List ℕ) (shown : ShownFault) (entries : List Entry)
+    → parsed bytes ≡ Stops shown → EndsStreams bytes entries → shown.more ≡ entries
+ends_are bytes shown entries e ends =
+    elim (ends_over bytes entries ends) [
+      | inl f ↦
+          let same : shown ≡ shown_with entries ends.fault = cc in
+          ap (λ (r : ShownFault). r.more) same
+      | inr past ↦ let f = past.2 in absurd (cc)
+    ]
+
+-- it is what the machine stops with
+pub stop_reaches : (bytes : List ℕ) (shown : ShownFault) → AreBytes bytes
+    → parsed bytes ≡ Stops shown → StillReaches bytes shown.more
+stop_reaches bytes shown are e =
+    elim (run_shows bytes (Stops shown) are e).1 [
+      | inl none ↦ inr (none, λ entries ends. sym (ends_are bytes shown entries e ends) ∙ none)
+      | inr ends ↦ inl ends
+    ]
+
+-- and nothing else
+still_is : (bytes : List ℕ) (shown : ShownFault) (more : List Entry) → AreBytes bytes
+    → parsed bytes ≡ Stops shown → StillReaches bytes more → shown.more ≡ more
+still_is bytes shown more are e (inl ends) = ends_are bytes shown more e ends
+still_is bytes shown more are e (inr (none, others)) =
+    elim (stop_reaches bytes shown are e) [
+      | inl ends ↦ others shown.more ends ∙ sym none
+      | inr empty ↦ empty.0 ∙ sym none
+    ]
+
 reached_without : (bytes : List ℕ) (v : Result (List Entry) Fault) → verdict bytes ≡ v
     → AreBytes bytes → (IsWellFormed bytes → ⊥)
     → reached bytes
@@ -51,8 +83,8 @@ longest_is : (bytes front : List ℕ) (s : Parsing) (more : List Entry)
 longest_is bytes front s more h are e = go h.longest
   where
     go : ((h.rest ≡ []) × (more ≡ []))
-        ⊎ ((byte : ℕ) × (back : List ℕ) × (shown : ShownFault) × (h.rest ≡ byte ∷ back)
-        × Shows (front ++ byte ∷ []) shown × (more ≡ shown.more))
+        ⊎ ((byte : ℕ) × (back : List ℕ) × (fault : Fault) × (h.rest ≡ byte ∷ back)
+        × Shows (front ++ byte ∷ []) fault × StillReaches (front ++ byte ∷ []) more)
         → (last_running file_next s h.rest ≡ s) × (last_entries (parsed bytes) ≡ more)
     go (inl l) = (
       ap (last_running file_next s) l.0,
@@ -60,18 +92,19 @@ longest_is bytes front s more h are e = go h.longest
           (ap parsed (h.split ∙ ap (λ (b : List ℕ). front ++ b) l.0 ∙ append-nil front) ∙ e)
           ∙ sym l.1,
     )
-    go (inr r) =
+    go (inr (byte, back, fault, rest-is, shows, still)) =
+        let split = h.split ∙ ap (λ (b : List ℕ). front ++ b) rest-is in
+        let there =
+        (split_bytes bytes (front ++ byte ∷ []) back
+        (split ∙ sym (append_assoc front (byte ∷ []) back)) are).0 in
+        let stop = stops_from_shows (front ++ byte ∷ []) fault there shows in
+        let shown : ShownFault = shown_with stop.0 fault in
         let ends =
-        landed_ends r.2 (file_next s r.0)
-        (sym (one_more front s r.0 e)
-        ∙ stops_from_shows (front ++ r.0 ∷ []) r.2
-        (split_bytes bytes (front ++ r.0 ∷ []) r.1
-        (h.split ∙ ap (λ (b : List ℕ). front ++ b) r.3
-        ∙ sym (append_assoc front (r.0 ∷ []) r.1)) are).0 r.4) in (
-          ap (last_running file_next s) r.3
-              ∙ ap (λ n. elim n [ Goes t ↦ last_running file_next t r.1 | Ends x ↦ s ]) ends,
-          after_entries bytes front s r.0 r.1 r.2 (h.split ∙ ap (λ (b : List ℕ). front ++ b) r.3) e
-              ends ∙ sym r.5,
+        landed_ends shown (file_next s byte) (sym (one_more front s byte e) ∙ stop.1) in (
+          ap (last_running file_next s) rest-is
+              ∙ ap (λ n. elim n [ Goes t ↦ last_running file_next t back | Ends x ↦ s ]) ends,
+          after_entries bytes front s byte back shown split e ends
+              ∙ still_is (front ++ byte ∷ []) shown more there stop.1 still,
         )
 
 pub machine_reaches : (bytes : List ℕ) (entries : List Entry) → AreBytes bytes
@@ -99,22 +132,26 @@ longest_cases : (bytes front : List ℕ) (s : Parsing) (rest : List ℕ) → Are
     → ((byte : ℕ) (back : List ℕ) → rest ≡ byte ∷ back
     → (x : ShownFault) × (file_next s byte ≡ Ends x))
     → ((rest ≡ []) × (last_entries (parsed bytes) ≡ []))
-    ⊎ ((byte : ℕ) × (back : List ℕ) × (shown : ShownFault) × (rest ≡ byte ∷ back)
-    × Shows (front ++ byte ∷ []) shown × (last_entries (parsed bytes) ≡ shown.more))
+    ⊎ ((byte : ℕ) × (back : List ℕ) × (fault : Fault) × (rest ≡ byte ∷ back)
+    × Shows (front ++ byte ∷ []) fault
+    × StillReaches (front ++ byte ∷ []) (last_entries (parsed bytes)))
 longest_cases bytes front s [] are split e stops =
     inl (refl, ap last_entries (ap parsed (split ∙ append-nil front) ∙ e))
 longest_cases bytes front s (byte ∷ back) are split e stops =
     let stop = stops byte back refl in
+    let there =
+    (split_bytes bytes (front ++ byte ∷ []) back
+    (split ∙ sym (append_assoc front (byte ∷ []) back)) are).0 in
+    let stopped : parsed (front ++ byte ∷ []) ≡ Stops stop.0 =
+    one_more front s byte e ∙ ap landed stop.1 in
     inr (
       byte,
       back,
-      stop.0,
+      stop.0.fault,
       refl,
-      shows_from_stops (front ++ byte ∷ []) stop.0
-          (split_bytes bytes (front ++ byte ∷ []) back
-          (split ∙ sym (append_assoc front (byte ∷ []) back)) are).0
-          (one_more front s byte e ∙ ap landed stop.1),
-      after_entries bytes front s byte back stop.0 split e stop.1,
+      shows_from_stops (front ++ byte ∷ []) stop.0 there stopped,
+      rw (after_entries bytes front s byte back stop.0 split e stop.1)
+          (stop_reaches (front ++ byte ∷ []) stop.0 there stopped),
     )
 
 reached_cases : (bytes : List ℕ) (v : Result (List Entry) Fault) → AreBytes bytes

@@ -1,5 +1,5 @@
 -- The entries that bytes reach are within the limits.
-use Rattle.capture3.proofs.Common.{lengths, ◌≡◌, ◌⊎◌, inl, inr, ℕ, ◌+◌, ◌<◌, ◌≤◌, List, [], ◌∷◌, ◌++◌, length, map, refl, ap, ◌∙◌, append_assoc, arith, false, concat, Joins, Item, Version, One, Two, max_connections, total_size, Streams, size, AreMixed, BeginsMixed, max_bytes, BeginsStream, Position, ShownFault, calls_in_turn, replies_to, ConnectionShows, StreamsShow, InClientStream, InServerStream, ReachesInside, AreWhole, InMagic, BetweenConnections, InConnection, Judgement, AreMessages, Holds, HoldsSoFar, RecordFault, FirstRecordFault, Converses, reply_entry, connection_entries, HaveEntries, Typed, IsFragment, IsRecord, Marks, length_of_spelling, ReplyItems, AcceptsCall, AcceptsReply, begins, spelled, AreWithinLimits, RefusesRecord, PassesLimit, CutsOpen}
+use Rattle.capture3.proofs.Common.{lengths, Fault, Stop, ◌≡◌, ◌⊎◌, inl, inr, ℕ, ◌+◌, ◌<◌, ◌≤◌, List, [], ◌∷◌, ◌++◌, length, map, refl, ap, ◌∙◌, append_assoc, arith, false, concat, Joins, Item, Version, One, Two, max_connections, total_size, Streams, size, AreMixed, BeginsMixed, max_bytes, BeginsStream, Position, ShownFault, calls_in_turn, replies_to, ConnectionShows, StreamsShow, InClientStream, InServerStream, ReachesInside, AreWhole, InMagic, BetweenConnections, InConnection, Judgement, AreMessages, Holds, HoldsSoFar, RecordFault, FirstRecordFault, Converses, reply_entry, connection_entries, HaveEntries, Typed, IsFragment, IsRecord, Marks, length_of_spelling, ReplyItems, AcceptsCall, AcceptsReply, begins, spelled, AreWithinLimits, RefusesRecord, PassesLimit, CutsOpen}
 use Rattle.capture3.specs.Entry.{Entry, Begin, Call, Turn, Reply, Close, End}
 use Rattle.capture3.proofs.Lemmas.Connections.JudgedInTurn.{calls_hold, conversed, replies_hold}
 
@@ -277,43 +277,36 @@ after_within entries h = record {
       );
 }
 
--- a refusal's entries are none, or those of streams that are gathered
-pub refused_more : (version : Version) (context : Position) (bytes : List ℕ) (shown : ShownFault)
-    → ConnectionShows version context bytes shown
-    → (shown.more ≡ []) ⊎ ((version ≡ Two) × StreamsShow context.connection bytes shown)
-refused_more One context bytes shown h = inl (ap (λ (r : ShownFault). r.more) h.0)
-refused_more Two context bytes shown (inl h) = inl (ap (λ (r : ShownFault). r.more) h.0)
-refused_more Two context bytes shown (inr h) = inr (refl, h)
-
 -- the messages before the first fault of a stream are those of a front
 cut_front : {M : Type 0} (judge : Judgement M) (stream : List ℕ) (messages : List M)
-    (fault : RecordFault) → FirstRecordFault judge stream messages fault
+    (stop : Stop) → FirstRecordFault judge stream messages stop
     → (front : List ℕ) × Holds judge front messages × (length front ≤ length stream)
-cut_front judge stream messages fault (inl (
+cut_front judge stream messages stop (inl (
   before,
   rest,
   split,
-  RefusesRecord front last body stop within holds whole refused is,
+  RefusesRecord front last body within holds whole refused,
 )) =
     (front, holds, omega (lengths, ap length split, ap length within))
-cut_front judge stream messages fault (inl (
+cut_front judge stream messages stop (inl (
   before,
   rest,
   split,
-  PassesLimit front last at within holds long is,
+  PassesLimit front last within holds long is,
 )) =
     (front, holds, omega (lengths, ap length split, ap length within))
-cut_front judge stream messages fault (inr (CutsOpen front last body split holds is_open is)) =
+cut_front judge stream messages stop (inr (CutsOpen front last body split holds is_open is)) =
     (front, holds, omega (lengths, ap length split))
 
 pub streams_after : (number : ℕ) (connections : List Streams) (before : List Entry) (bytes : List ℕ)
-    (shown : ShownFault) → HaveEntries connections before → length connections < max_connections
+    (more : List Entry) (fault : Fault) → HaveEntries connections before
+    → length connections < max_connections
     → ((streams : Streams) → AreMixed bytes streams
-    → total_size connections + size streams ≤ max_bytes) → StreamsShow number bytes shown
-    → IsAfter ((before ++ Begin ∷ []) ++ shown.more)
-streams_after number connections before bytes shown messages few fits
-    (InClientStream streams calls fault mixed first same) =
-    let cut = cut_front calls_in_turn streams.client calls fault first in
+    → total_size connections + size streams ≤ max_bytes) → StreamsShow number bytes more fault
+    → IsAfter ((before ++ Begin ∷ []) ++ more)
+streams_after number connections before bytes more fault messages few fits
+    (InClientStream streams calls stop mixed first same at_is) =
+    let cut = cut_front calls_in_turn streams.client calls stop first in
     record {
       connections = connections;
       before = before;
@@ -329,12 +322,12 @@ streams_after number connections before bytes shown messages few fits
       small = omega (arith, fits streams mixed, cut.2);
       split = append_assoc (Begin ∷ map Call calls) (Turn ∷ []) (Close ∷ []);
       is =
-          append_assoc before (Begin ∷ []) shown.more
-          ∙ ap (λ (r : ShownFault). before ++ (Begin ∷ r.more)) same;
+          append_assoc before (Begin ∷ []) more
+          ∙ ap (λ (l : List Entry). before ++ (Begin ∷ l)) same;
     }
-streams_after number connections before bytes shown messages few fits
-    (InServerStream streams calls replies fault mixed holds first same) =
-    let cut = cut_front (replies_to calls) streams.server replies fault first in
+streams_after number connections before bytes more fault messages few fits
+    (InServerStream streams calls replies stop mixed holds first same at_is) =
+    let cut = cut_front (replies_to calls) streams.server replies stop first in
     record {
       connections = connections;
       before = before;
@@ -350,6 +343,6 @@ streams_after number connections before bytes shown messages few fits
       small = omega (arith, fits streams mixed, cut.2);
       split = refl;
       is =
-          append_assoc before (Begin ∷ []) shown.more
-          ∙ ap (λ (r : ShownFault). before ++ (Begin ∷ r.more)) same;
+          append_assoc before (Begin ∷ []) more
+          ∙ ap (λ (l : List Entry). before ++ (Begin ∷ l)) same;
     }

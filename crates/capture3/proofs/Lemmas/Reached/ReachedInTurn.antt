@@ -1,6 +1,6 @@
 -- The entries that a prefix reaches, but for a capture's end, are the first of those that more
 -- bytes reach.
-use Rattle.capture3.proofs.Common.{parsing_in, ◌≡◌, ◌⊎◌, inl, inr, ℕ, List, [], ◌∷◌, ◌++◌, length, Result, Ok, Err, refl, sym, ap, subst, ◌∙◌, append_assoc, append-nil, Stop, Item, Between, Next, Goes, Ends, Run, Runs, Stops, Stopped, last_running, within, Client, Server, ReplyItems, ShownFault, Entry, End, judge_call, judge_reply, Two, judge_replies, after_server, after_client, AreBytes, IsWellFormed, AreFirstReached, IsLongestClean, Reached, AreWhole, Shows, Parsing, file_next, file_start, parsed, emitted, StreamEnd, Held, Faulty, stream_end, connection_entries, unpacking_with, Begin, Record, Turn, Close, Judged, parsing_at, resumed, call_judged, reply_judged, connection_begun, with_call, with_reply, turned, connection_closed, Agrees, AgreesOn}
+use Rattle.capture3.proofs.Common.{Fault, StillReaches, parsing_in, ◌≡◌, ◌⊎◌, inl, inr, ℕ, List, [], ◌∷◌, ◌++◌, length, Result, Ok, Err, refl, sym, ap, subst, ◌∙◌, append_assoc, append-nil, Stop, Item, Between, Next, Goes, Ends, Run, Runs, Stops, Stopped, last_running, within, Client, Server, ReplyItems, ShownFault, Entry, End, judge_call, judge_reply, Two, judge_replies, after_server, after_client, AreBytes, IsWellFormed, AreFirstReached, IsLongestClean, Reached, AreWhole, Shows, Parsing, file_next, file_start, parsed, emitted, StreamEnd, Held, Faulty, stream_end, connection_entries, unpacking_with, Begin, Record, Turn, Close, Judged, parsing_at, resumed, call_judged, reply_judged, connection_begun, with_call, with_reply, turned, connection_closed, Agrees, AgreesOn}
 use Rattle.std.proofs.lemmas.List.{append_cancel_right}
 use Rattle.capture3.specs.declared.container.position.spot.Event.TheVariants as events
 use Rattle.capture3.specs.Entries.{AreAllBeforeEnd}
@@ -124,17 +124,18 @@ module _ (front back : List ℕ) (are : AreBytes (front ++ back)) where
 
   -- the prefix shows a fault, and so do all bytes
   after_fault : (entries : List Entry) (clean rest : List ℕ) (whole more : List Entry) (byte : ℕ)
-      (shown : ShownFault) → front ≡ clean ++ byte ∷ rest → (h : IsLongestClean front clean more)
-      → h.rest ≡ byte ∷ rest → Shows (clean ++ byte ∷ []) shown → more ≡ shown.more
+      (fault : Fault) → front ≡ clean ++ byte ∷ rest → (h : IsLongestClean front clean more)
+      → h.rest ≡ byte ∷ rest → Shows (clean ++ byte ∷ []) fault
+      → StillReaches (clean ++ byte ∷ []) more
       → AreWhole clean whole → entries ≡ whole ++ more → AreFirstReached (front ++ back) entries
-  after_fault entries clean rest whole more byte shown split h rest-is shows more-is is_whole is =
+  after_fault entries clean rest whole more byte fault split h rest-is shows still is_whole is =
       let further : front ++ back ≡ clean ++ byte ∷ (rest ++ back) =
       ap (λ (b : List ℕ). b ++ back) split ∙ append_assoc clean (byte ∷ rest) back in
       let shown_there : front ++ back ≡ (clean ++ byte ∷ []) ++ (rest ++ back) =
       further ∙ sym (append_assoc clean (byte ∷ []) (rest ++ back)) in
-      let fault =
-      verdict_from_fault (front ++ back) shown.fault are
-      (inl (clean ++ byte ∷ [], rest ++ back, shown, shown_there, shows, refl)) in (
+      let refused =
+      verdict_from_fault (front ++ back) fault are
+      (inl (clean ++ byte ∷ [], rest ++ back, shown_there, shows)) in (
         [],
         subst (Reached (front ++ back)) (sym (append-nil entries))
             (inr (
@@ -146,7 +147,7 @@ module _ (front back : List ℕ) (are : AreBytes (front ++ back)) where
                 rest = byte ∷ (rest ++ back);
                 split = further;
                 clean = h.clean;
-                longest = inr (byte, rest ++ back, shown, refl, shows, more-is);
+                longest = inr (byte, rest ++ back, fault, refl, shows, still);
               },
               is_whole,
               is,
@@ -159,8 +160,8 @@ module _ (front back : List ℕ) (are : AreBytes (front ++ back)) where
   after_reached entries bad (inr (unlike, clean, whole, more, h, is_whole, is)) = go h.longest
     where
       go : ((h.rest ≡ []) × (more ≡ []))
-          ⊎ ((byte : ℕ) × (rest : List ℕ) × (shown : ShownFault) × (h.rest ≡ byte ∷ rest)
-          × Shows (clean ++ byte ∷ []) shown × (more ≡ shown.more))
+          ⊎ ((byte : ℕ) × (rest : List ℕ) × (fault : Fault) × (h.rest ≡ byte ∷ rest)
+          × Shows (clean ++ byte ∷ []) fault × StillReaches (clean ++ byte ∷ []) more)
           → AreFirstReached (front ++ back) entries
       go (inl (none, no_more)) =
           let at = whole_stands clean whole is_whole in
@@ -168,9 +169,9 @@ module _ (front back : List ℕ) (are : AreBytes (front ++ back)) where
           h.split ∙ ap (λ (b : List ℕ). clean ++ b) none ∙ append-nil clean in
           after_state entries at.state (ap parsed same ∙ file_runs clean at.state at.stands)
           (is ∙ ap (λ (l : List Entry). whole ++ l) no_more ∙ append-nil whole ∙ sym at.emits)
-      go (inr (byte, rest, shown, rest-is, shows, more-is)) =
-          after_fault entries clean rest whole more byte shown
-          (h.split ∙ ap (λ (b : List ℕ). clean ++ b) rest-is) h rest-is shows more-is is_whole is
+      go (inr (byte, rest, fault, rest-is, shows, still)) =
+          after_fault entries clean rest whole more byte fault
+          (h.split ∙ ap (λ (b : List ℕ). clean ++ b) rest-is) h rest-is shows still is_whole is
 
   pub reached_in_turn : (entries : List Entry) → AreAllBeforeEnd front entries
       → AreFirstReached (front ++ back) entries

@@ -1,11 +1,11 @@
 -- What the byte of a fault still reaches, in a file of version 2: the entries of the connection
 -- before a record at fault.
-use Rattle.capture3.proofs.Common.{lengths, ◌≡◌, ◌⊎◌, inl, inr, ℕ, suc, ◌+◌, ◌<◌, ◌≤◌, List, [], ◌∷◌, ◌++◌, length, refl, sym, ap, subst, ◌∙◌, append-nil, arith, Next, Goes, Ends, Run, Runs, landed, after, Two, total_size, max_bytes, max_connections, Position, HaveEntries, ShownFault, StreamsShow, Rule, Shows, AfterConnections, MagicDiffers, MarkIsBad, ConnectionIsTooMany, WithinConnection, ByteAfterEnd, Mixing, MixedCloses, mixed_next, mixing_from, InMixed, Opening, opened, Version, Parsing, emitted, file_next, parsed, Streams, size, AreMixed, Tells, ran_before, tells, AreWithinLimits, AreWhole, IsLongestClean, Reached}
+use Rattle.capture3.proofs.Common.{lengths, ◌≡◌, ◌⊎◌, inl, inr, ℕ, suc, ◌+◌, ◌<◌, ◌≤◌, List, [], ◌∷◌, ◌++◌, length, refl, sym, ap, subst, ◌∙◌, append-nil, arith, Next, Goes, Ends, Run, Runs, landed, after, Two, total_size, max_bytes, max_connections, Position, HaveEntries, Fault, ShownFault, StreamsShow, StillReaches, Shows, AfterConnections, Mixing, MixedCloses, mixed_next, mixing_from, InMixed, Opening, opened, Version, Parsing, emitted, file_next, parsed, Streams, size, AreMixed, Tells, ran_before, tells, AreWithinLimits, AreWhole, IsLongestClean, Reached}
 use Rattle.capture3.specs.Entry.{Entry, Begin}
 use Rattle.capture3.proofs.Lemmas.Connections.ConnectionMachineLemmas.{in_mixed}
 use Rattle.capture3.proofs.Lemmas.Files.FileRules.{inside_or, shown_mixed, streams_some}
 use Rattle.capture3.proofs.Lemmas.Files.FileMachineLemmas.{AnyRefusal, Stands, AtMagic, AtMark, AtInside, AtEnd, context_at, file_runs, in_file, inside_at}
-use Rattle.capture3.proofs.Lemmas.Reached.Limits.{IsAfter, after_within, refused_more, streams_after, typed_within, whole_within}
+use Rattle.capture3.proofs.Lemmas.Reached.Limits.{IsAfter, after_within, streams_after, typed_within, whole_within}
 use Rattle.capture3.proofs.Lemmas.Container.SidedChunksRules.{closes_over}
 use Rattle.capture3.proofs.Lemmas.Container.SidedChunksMachineLemmas.{HasMixed, EndsMixed, RefusedMixed, mixed_leads, mixed_taken, nothing_gathered}
 use Rattle.capture3.proofs.Lemmas.Files.EndedMachines.{Past, At, Fails, after_two, gone_more, past_inside, runs_inside, runs_not_gone}
@@ -59,7 +59,8 @@ inside_stands bytes version at total number entries o
 module _ (front : List ℕ) (byte : ℕ) (state : Parsing) (whole : List Entry)
     (runs : parsed front ≡ Runs state) (stands : Stands front state) (emits : emitted state ≡ whole)
     (b : AfterConnections (front ++ byte ∷ [])) (two : b.version ≡ Two) (one : b.mark ≡ 1)
-    (shown : ShownFault) (shows : StreamsShow (suc (length b.connections)) b.rest shown) where
+    (more : List Entry) (fault : Fault)
+    (shows : StreamsShow (suc (length b.connections)) b.rest more fault) where
   at : ℕ
   at = length b.front
 
@@ -73,13 +74,13 @@ module _ (front : List ℕ) (byte : ℕ) (state : Parsing) (whole : List Entry)
   context = context_at (suc number) (at + 4) total
 
   the_mixed : (streams : Streams) × AreMixed b.rest streams
-  the_mixed = shown_mixed (suc (length b.connections)) b.rest shown shows
+  the_mixed = shown_mixed (suc (length b.connections)) b.rest more fault shows
 
   -- the connection's bytes without the last
   cut : (z : List ℕ) × (b.rest ≡ z ++ byte ∷ []) × (front ≡ (b.front ++ b.word) ++ z)
   cut =
       split_last front (b.front ++ b.word) b.rest byte b.split
-      (streams_some (suc (length b.connections)) b.rest shown shows)
+      (streams_some (suc (length b.connections)) b.rest more fault shows)
 
   steps : parsed front ≡ after file_next (parsed (b.front ++ b.word)) cut.0
   unfolding cut
@@ -159,11 +160,12 @@ module _ (front : List ℕ) (byte : ℕ) (state : Parsing) (whole : List Entry)
         | inr past ↦ absurd (not_past past)
       ]
 
-  pub is_after : IsAfter (whole ++ shown.more)
+  pub is_after : IsAfter (whole ++ more)
   is_after =
       let here : whole ≡ inside.0 ++ Begin ∷ [] = sym emits ∙ ap emitted state_is in
-      subst (λ (l : List Entry). IsAfter (l ++ shown.more)) (sym here) (streams_after
-      (suc (length b.connections)) stood.0 inside.0 b.rest shown stood.1 stood.2 fits shows)
+      subst (λ (l : List Entry). IsAfter (l ++ more)) (sym here) (streams_after
+      (suc (length b.connections)) stood.0 inside.0 b.rest more fault stood.1 stood.2 fits
+      shows)
 
 -- what is reached after the longest clean prefix
 pub reached_more : (bytes front : List ℕ) (whole more : List Entry)
@@ -173,33 +175,15 @@ reached_more bytes front whole more h is_whole = by_end h.longest
     state : StandsAt front whole
     state = whole_stands front whole is_whole
 
-    by_rule : (byte : ℕ) (shown : ShownFault) → more ≡ shown.more → Rule (front ++ byte ∷ []) shown
-        → (more ≡ []) ⊎ IsAfter (whole ++ more)
-    by_rule byte shown is (MagicDiffers version first rest other due split begins differs same) =
-        inl (is ∙ ap (λ (r : ShownFault). r.more) same)
-    by_rule byte shown is (MarkIsBad b none bad same) =
-        inl (is ∙ ap (λ (r : ShownFault). r.more) same)
-    by_rule byte shown is (ConnectionIsTooMany b none one full same) =
-        inl (is ∙ ap (λ (r : ShownFault). r.more) same)
-    by_rule byte shown is (ByteAfterEnd b none one same) =
-        inl (is ∙ ap (λ (r : ShownFault). r.more) same)
-    by_rule byte shown is (WithinConnection b one shows) =
-        elim
-        (refused_more b.version
-        (context_at (suc (length b.connections)) (length b.front + 4) (total_size b.connections))
-        b.rest shown shows) [
-          | inl none ↦ inl (is ∙ none)
-          | inr two ↦ inr (rw is (is_after front byte state.state whole
-              (file_runs front state.state state.stands) state.stands state.emits b two.0
-              one shown two.1))
-        ]
-
     by_end : ((h.rest ≡ []) × (more ≡ []))
-        ⊎ ((byte : ℕ) × (back : List ℕ) × (shown : ShownFault) × (h.rest ≡ byte ∷ back)
-        × Shows (front ++ byte ∷ []) shown × (more ≡ shown.more))
+        ⊎ ((byte : ℕ) × (back : List ℕ) × (fault : Fault) × (h.rest ≡ byte ∷ back)
+        × Shows (front ++ byte ∷ []) fault × StillReaches (front ++ byte ∷ []) more)
         → (more ≡ []) ⊎ IsAfter (whole ++ more)
     by_end (inl l) = inl l.1
-    by_end (inr r) = by_rule r.0 r.2 r.5 r.4.rule
+    by_end (inr (byte, back, fault, is, shows, inl ends)) =
+        inr (is_after front byte state.state whole (file_runs front state.state state.stands)
+        state.stands state.emits ends.here ends.two ends.opens more ends.fault ends.shows)
+    by_end (inr (byte, back, fault, is, shows, inr none)) = inl none.0
 
 pub reached_within : (bytes : List ℕ) (entries : List Entry) → Reached bytes entries
     → AreWithinLimits entries

@@ -1,6 +1,6 @@
 -- The machine for a capture file goes as the one that takes the capture apart, with its records
 -- judged.
-use Rattle.capture3.proofs.Common.{Entry, parsing_in, ◌≡◌, ℕ, zero, suc, ◌+◌, Bool, true, false, cond, nat_eq, nat_lt, List, [], ◌∷◌, ◌++◌, length, Result, Ok, Err, refl, sym, ap, subst, ◌∙◌, add-one, arith, length-append, Stop, RecordCut, RecordTooLong, Item, Joining, Between, Header, Bytes, Joined, Whole, TooLong, join_next, Next, Goes, Ends, Runs, Stops, after, landed, within, word_next, not_runs, only_stops, Side, Client, Server, ReplyItems, ShownFault, refusal, judge_call, judge_reply, Version, One, Two, Mixing, MixedEnd, MixedCloses, MixedRefuses, mixed_step, InClient, InServer, InMixed, conversing, ending, judge_replies, opened, turning, judged, recorded, Siding, SideEnd, SideRefuses, Reason, Parsing, file_next, Fault, place_at, unpacking_with, siding_in, fault_in_record, reading_with}
+use Rattle.capture3.proofs.Common.{Entry, parsing_in, ◌≡◌, ℕ, zero, suc, ◌+◌, Bool, true, false, cond, nat_eq, nat_lt, List, [], ◌∷◌, ◌++◌, length, Result, Ok, Err, refl, sym, ap, subst, ◌∙◌, add-one, arith, length-append, Stop, RecordCut, RecordTooLong, Item, Joining, Between, Header, Bytes, Joined, Whole, TooLong, join_next, Next, Goes, Ends, Runs, Stops, after, landed, within, word_next, not_runs, only_stops, Side, Client, Server, ReplyItems, ShownFault, refusal, judge_call, judge_reply, Version, One, Two, Mixing, MixedEnd, MixedCloses, MixedRefuses, mixed_step, InClient, InServer, InMixed, conversing, ending, judge_replies, opened, turning, judged, recorded, Siding, SideEnd, SideRefuses, Reason, Parsing, file_next, Fault, fault_of_record, unpacking_with, siding_in, fault_in_record, reading_with}
 use Rattle.capture3.specs.SideMachine as siding
 use Rattle.capture3.specs.FileMachine as parsing
 use Rattle.capture3.specs.machinery.FileStanding.{Judged, siding_at, parsing_at, resumed, call_judged, reply_judged, Agrees, AgreesAt, AgreesOn}
@@ -87,7 +87,7 @@ at_fault fault = Ends (refusal fault)
 -- a fault of the open record, by the count and by the messages
 cut_follows : (connections records byte : ℕ) (side : Side) (reason : Reason) (number : ℕ)
     → records ≡ number
-    → at_fault (place_at connections side
+    → at_fault (fault_of_record connections side
     (record { number = suc number; byte = byte; reason = reason }))
     ≡ at_fault (fault_in_record connections side (records + 1) byte reason)
 cut_follows connections records byte side reason number is =
@@ -105,7 +105,7 @@ in_client j connections n =
 client_word_follows : (at total connections records : ℕ) (joining : Joining) (j : Judged) (w : ℕ)
     → records ≡ length j.calls
     → in_client j connections
-    (siding.counted (place_at connections Client) at total (reading_with j.calls joining) w)
+    (siding.counted (fault_of_record connections Client) at total (reading_with j.calls joining) w)
     ≡ resumed j (chunk_counted at total connections records Client joining w)
 client_word_follows at total connections records Between j zero is = refl
 client_word_follows at total connections records (Header body part) j zero is =
@@ -119,7 +119,7 @@ client_word_follows at total connections records joining j (suc left) is =
 client_length_follows : (at total connections records : ℕ) (joining : Joining) (j : Judged)
     (n : Next (List ℕ) ℕ) → records ≡ length j.calls
     → in_client j connections (within (λ p. siding_at at total j.calls joining (siding.Length p))
-    (siding.counted (place_at connections Client) at total
+    (siding.counted (fault_of_record connections Client) at total
     (reading_with j.calls joining)) n)
     ≡ resumed j (within (λ p. unpacking_with at total connections records (Length Client p) joining)
     (chunk_counted at total connections records Client joining) n)
@@ -129,7 +129,7 @@ client_length_follows at total connections records joining j (Ends w) is =
 
 call_follows : (at total connections records left : ℕ) (j : Judged) (r : Result (List Item) Stop)
     → in_client j connections (within (λ r. siding_in at total r (siding.awaiting left))
-    (λ shown. Ends (SideRefuses (place_at connections Client shown)))
+    (λ shown. Ends (SideRefuses (fault_of_record connections Client shown)))
     (judged j.calls r))
     ≡ call_judged (in_chunk at total connections (records + 1) Client left Between) j r
 call_follows at total connections records zero j (Ok m) = refl
@@ -139,7 +139,7 @@ call_follows at total connections records left j (Err stop) = refl
 client_chunk_follows : (at total connections records left : ℕ) (j : Judged)
     (n : Next Joining Joined) → records ≡ length j.calls
     → in_client j connections (within (λ r. siding_in at total r (siding.awaiting left))
-    (λ shown. Ends (SideRefuses (place_at connections Client shown)))
+    (λ shown. Ends (SideRefuses (fault_of_record connections Client shown)))
     (within (reading_with j.calls) (recorded judge_call j.calls) n))
     ≡ resumed j (within (in_chunk at total connections records Client left)
     (record_joined at total connections records Client left) n)
@@ -160,7 +160,7 @@ in_server j connections n =
 
 server_word_follows : (at total connections records : ℕ) (joining : Joining) (j : Judged) (w : ℕ)
     → records ≡ length j.replies
-    → in_server j connections (siding.counted (place_at connections Server) at total
+    → in_server j connections (siding.counted (fault_of_record connections Server) at total
     (reading_with j.replies joining) w)
     ≡ resumed j (chunk_counted at total connections records Server joining w)
 server_word_follows at total connections records Between j zero is = refl
@@ -175,7 +175,7 @@ server_word_follows at total connections records joining j (suc left) is =
 server_length_follows : (at total connections records : ℕ) (joining : Joining) (j : Judged)
     (n : Next (List ℕ) ℕ) → records ≡ length j.replies
     → in_server j connections (within (λ p. siding_at at total j.replies joining (siding.Length p))
-    (siding.counted (place_at connections Server) at total
+    (siding.counted (fault_of_record connections Server) at total
     (reading_with j.replies joining)) n)
     ≡ resumed j (within (λ p. unpacking_with at total connections records (Length Server p) joining)
     (chunk_counted at total connections records Server joining) n)
@@ -185,7 +185,7 @@ server_length_follows at total connections records joining j (Ends w) is =
 
 reply_follows : (at total connections records left : ℕ) (j : Judged) (r : Result ReplyItems Stop)
     → in_server j connections (within (λ r. siding_in at total r (siding.awaiting left))
-    (λ shown. Ends (SideRefuses (place_at connections Server shown)))
+    (λ shown. Ends (SideRefuses (fault_of_record connections Server shown)))
     (judged j.replies r))
     ≡ reply_judged (in_chunk at total connections (records + 1) Server left Between) j r
 reply_follows at total connections records zero j (Ok m) = refl
@@ -195,7 +195,7 @@ reply_follows at total connections records left j (Err stop) = refl
 server_chunk_follows : (at total connections records left : ℕ) (j : Judged)
     (n : Next Joining Joined) → records ≡ length j.replies
     → in_server j connections (within (λ r. siding_in at total r (siding.awaiting left))
-    (λ shown. Ends (SideRefuses (place_at connections Server shown)))
+    (λ shown. Ends (SideRefuses (fault_of_record connections Server shown)))
     (within (reading_with j.replies) (recorded (judge_replies j.calls) j.replies) n))
     ≡ resumed j (within (in_chunk at total connections records Server left)
     (record_joined at total connections records Server left) n)

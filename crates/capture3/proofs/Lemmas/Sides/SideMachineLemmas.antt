@@ -1,5 +1,5 @@
 -- The machine for one side against chunks, records and messages.
-use Rattle.capture3.proofs.Common.{lengths, ◌≡◌, inl, inr, ℕ, zero, suc, ◌+◌, ◌<◌, ◌≤◌, List, [], ◌∷◌, ◌++◌, length, refl, sym, ap, ap₂, ◌∙◌, append_assoc, append-nil, arith, nat_lt, ltb-true, ltb-false, le-ltb, concat, Ends, Run, Runs, Stops, landed, after, IsWord, Joins, word_next, Joining, Between, Header, Bytes, IsOpen, AreBytes, RecordCut, max_bytes, IsChunk, AreChunks, BeginsStream, IsStream, Judgement, Holds, RecordFault, Side, Fault, SideShows, PassesBytes, CutsRecord, ShowsRecord, CutsOpen, fault_at, Reading, stream_next, unread, Position, place_at, Leads, leads_within, after-append, ran_to, IsPart, word_leads, Joins-snoc, siding_from, siding_in, reading_with, concat-snoc, WithinChunk}
+use Rattle.capture3.proofs.Common.{lengths, ◌≡◌, inl, inr, ℕ, zero, suc, ◌+◌, ◌<◌, ◌≤◌, List, [], ◌∷◌, ◌++◌, length, refl, sym, ap, ap₂, ◌∙◌, append_assoc, append-nil, arith, nat_lt, ltb-true, ltb-false, le-ltb, concat, Ends, Run, Runs, Stops, landed, after, IsWord, Joins, word_next, Joining, Between, Header, Bytes, IsOpen, AreBytes, RecordCut, max_bytes, IsChunk, AreChunks, BeginsStream, IsStream, Judgement, Holds, RecordFault, Side, Fault, SideShows, PassesBytes, CutsRecord, ShowsRecord, CutsOpen, fault_at, Reading, stream_next, unread, Position, fault_of_record, Leads, leads_within, after-append, ran_to, IsPart, word_leads, Joins-snoc, siding_from, siding_in, reading_with, concat-snoc, WithinChunk}
 use Rattle.record_mark.proofs.Takings.{opened}
 use Rattle.capture3.specs.SideMachine.{Length, Chunk, Siding, SideEnd, SideCloses, SideRefuses, awaiting, closing, counted, side_next}
 use Rattle.capture3.proofs.Lemmas.Connections.RankLemmas.{by_test}
@@ -80,7 +80,7 @@ AreChunks-snoc bytes stream front carried header chunk split is h word some =
 
 module _ {M : Type 0} (judge : Judged M) (side : Side) (position : Position) where
   abbrev place : RecordFault → Fault
-  place = place_at position.connection side
+  place = fault_of_record position.connection side
 
   -- the word 0 in an open record
   open_cut : {messages : List M} {joining : Joining} (bytes stream body : List ℕ)
@@ -89,7 +89,7 @@ module _ {M : Type 0} (judge : Judged M) (side : Side) (position : Position) whe
       → EndsSide judge.says side position bytes
       (SideRefuses (place (fault_at messages (length body) RecordCut)))
   open_cut {messages} bytes stream body closed read is_open =
-      CutsRecord stream messages (fault_at messages (length body) RecordCut) closed
+      CutsRecord stream messages (record { at = length body; reason = RecordCut }) closed
       (CutsOpen read.front read.last body read.split read.holds is_open refl) refl
 
   closing_ends : (bytes stream : List ℕ) (closed : IsStream bytes stream) (messages : List M)
@@ -252,9 +252,9 @@ module _ {M : Type 0} (judge : Judged M) (side : Side) (position : Position) whe
       (stream ++ byte ∷ []) (bytes ++ byte ∷ [])
       (λ r more. more_read bytes stream byte w r more w.left refl)
       (λ shown shows.
-      ShowsRecord w.front w.header (w.got ++ byte ∷ []) w.carried w.left shows.0 shown
+      ShowsRecord w.front w.header (w.got ++ byte ∷ []) w.carried w.left shows.0 shows.1
       (simp (w.split, append_assoc)) w.chunks (w.word.0, w.word.1 ∙ omega lengths) (omega lengths)
-      (rw same at shows.1) refl)
+      (rw same at shows.2) (ap place shows.3))
       (stream_next judge.decide reading byte)
       (stream_leads judge stream reading byte (carried_bytes bytes stream byte w are) read)
 

@@ -1,6 +1,6 @@
 -- A rule of one side: where it holds of bytes, the machine stops with its fault, or had stopped
 -- before.
-use Rattle.capture3.proofs.Common.{lengths, ◌≡◌, inl, inr, ℕ, zero, suc, ◌+◌, ◌<◌, ◌≤◌, List, [], ◌∷◌, ◌++◌, length, refl, sym, ap, ap₂, ◌∙◌, append_assoc, arith, nat_lt, ltb-false, lt-ltb, concat, Run, Runs, Stops, Stopped, landed, Joining, Between, Header, Bytes, IsWord, Joins, after-append, TooManyBytes, RecordCut, Fault, max_bytes, IsChunk, AreChunks, IsStream, Reading, unread, siding_in, reading_with, RecordFault, fault_at, IsCut, CutsOpen, Position, Side, file_fault, place_at, PassesBytes, CutsRecord, ShowsRecord, SideShows, Siding, SideEnd, SideCloses, SideRefuses, awaiting, closing, counted}
+use Rattle.capture3.proofs.Common.{lengths, ◌≡◌, inl, inr, ℕ, zero, suc, ◌+◌, ◌<◌, ◌≤◌, List, [], ◌∷◌, ◌++◌, length, refl, sym, ap, ap₂, ◌∙◌, append_assoc, arith, nat_lt, ltb-false, lt-ltb, concat, Run, Runs, Stops, Stopped, landed, Joining, Between, Header, Bytes, IsWord, Joins, after-append, TooManyBytes, RecordCut, Fault, max_bytes, IsChunk, AreChunks, IsStream, Reading, unread, siding_in, reading_with, RecordFault, fault_at, IsCut, CutsOpen, Position, Side, Stop, file_fault, place_at, fault_of_record, PassesBytes, CutsRecord, ShowsRecord, SideShows, Siding, SideEnd, SideCloses, SideRefuses, awaiting, closing, counted}
 use Rattle.record_mark.proofs.Takings.{IsIn, open_in}
 use Rattle.capture3.proofs.Lemmas.Messages.BodyProgramLemmas.{Judged}
 use Rattle.capture3.proofs.Lemmas.Connections.RankLemmas.{by_test}
@@ -20,7 +20,7 @@ reads_or (Stopped fault) = Fails (fault, tt, inr refl)
 
 module _ {M : Type 0} (judge : Judged M) (side : Side) (position : Position) where
   abbrev place : RecordFault → Fault
-  place = place_at position.connection side
+  place = fault_of_record position.connection side
 
   -- ---- one side
 
@@ -156,10 +156,11 @@ module _ {M : Type 0} (judge : Judged M) (side : Side) (position : Position) whe
   open_closing at total messages (Header other part) body h = rw h
   open_closing at total messages (Bytes other last left) body h = rw h
 
-  cuts_over : (bytes stream : List ℕ) (messages : List M) (shown : RecordFault) (fault : Fault)
-      → IsStream bytes stream → IsCut judge.says stream messages shown → fault ≡ place shown
+  cuts_over : (bytes stream : List ℕ) (messages : List M) (stop : Stop) (fault : Fault)
+      → IsStream bytes stream → IsCut judge.says stream messages stop
+      → fault ≡ place_at position.connection side messages stop
       → Over RefusedSide (side_taken judge side position bytes) (SideRefuses fault)
-  cuts_over bytes stream messages shown fault c
+  cuts_over bytes stream messages stop fault c
       (CutsOpen front last body split holds is_open same) is =
       let at : ℕ = position.start + length c.front in
       let total : ℕ = position.before + length stream in
@@ -195,13 +196,14 @@ module _ {M : Type 0} (judge : Judged M) (side : Side) (position : Position) whe
       (λ r e.
       rw is (counted_passes (position.start + length front) (position.before + length stream)
       count r some passes))
-  side_over bytes fault (CutsRecord stream messages shown closed cut is) =
-      cuts_over bytes stream messages shown fault closed cut is
+  side_over bytes fault (CutsRecord stream messages stop closed cut is) =
+      cuts_over bytes stream messages stop fault closed cut is
   side_over bytes fault
-      (ShowsRecord front header got stream left messages shown split chunks word some shows is) =
+      (ShowsRecord front header got stream left messages stop split chunks word some shows is) =
       over_on _ _ front (header ++ got) (split ∙ append_assoc front header got)
       (front_or front stream chunks) (omega lengths)
       (λ r.
-      let stops = shown_stops judge (stream ++ got) messages shown shows in
+      let stops = shown_stops judge (stream ++ got) messages stop shows in
       rw is (chunk_over (position.start + length front) (position.before + length stream) r.0 header
-      got left shown word some (inl (rw (after-append, r.1) at stops))))
+      got left (fault_at messages stop.at stop.reason) word some
+      (inl (rw (after-append, r.1) at stops))))

@@ -1,5 +1,5 @@
 -- A whole stream, with its messages or its first fault.
-use Rattle.capture3.proofs.Common.{◌≡◌, inl, inr, ℕ, List, [], ◌∷◌, ◌++◌, length, refl, sym, ap, ◌∙◌, append_assoc, append-nil, Ok, Ends, Run, Runs, Stops, Stopped, after, landed, last_running, Joining, Between, Header, Bytes, Joined, Whole, TooLong, join_next, AreBytes, RecordTooLong, RecordCut, Judgement, Holds, RecordFault, fault_at, FirstRecordFault, RefusesRecord, PassesLimit, CutsOpen, record_stops, too_long_stops, Judge, Reading, judged, recorded, stream_next, unread, StreamEnd, Held, Faulty, left_in, end_of, rest_end, stream_end, reading_with, HasJoined, Tells, after-append, after_stopped, nested_last, nested_runs, nested_stops, last_running-append, last_stopped}
+use Rattle.capture3.proofs.Common.{◌≡◌, inl, inr, ℕ, List, [], ◌∷◌, ◌++◌, length, refl, sym, ap, ◌∙◌, append_assoc, append-nil, Ok, Ends, Run, Runs, Stops, Stopped, after, landed, last_running, Joining, Between, Header, Bytes, Joined, Whole, TooLong, join_next, AreBytes, RecordTooLong, RecordCut, Judgement, Holds, IsOpen, Stop, RecordFault, fault_at, FirstRecordFault, RefusesRecord, PassesLimit, CutsOpen, record_stops, too_long_stops, Judge, Reading, judged, recorded, stream_next, unread, StreamEnd, Held, Faulty, left_in, end_of, rest_end, stream_end, reading_with, HasJoined, Tells, after-append, after_stopped, nested_last, nested_runs, nested_stops, last_running-append, last_stopped}
 use Rattle.record_mark.proofs.Takings.{IsIn, open_in, opened}
 use Rattle.capture3.proofs.Lemmas.Messages.BodyProgramLemmas.{Judged}
 use Rattle.capture3.proofs.Lemmas.Sides.StreamMachineLemmas.{HasRead, ShowsFault, stream_leads, between_holds, nothing_read, held_runs, stream_runs}
@@ -67,7 +67,9 @@ rest_leaves judge messages rest j runs =
 -- what is said of a whole stream holds
 abbrev pub EndsStream : {M : Type 0} → Judgement M → List ℕ → StreamEnd M → Type 0
 EndsStream judge stream (Held messages) = Holds judge stream messages
-EndsStream judge stream (Faulty messages fault) = FirstRecordFault judge stream messages fault
+EndsStream judge stream (Faulty messages fault) = (stop : Stop)
+    × FirstRecordFault judge stream messages stop
+    × (fault ≡ fault_at messages stop.at stop.reason)
 
 stream_tells : {M : Type 0} (judge : Judged M) (stream : List ℕ) → AreBytes stream
     → Tells (HasRead judge.says) (ShowsFault judge.says) stream
@@ -90,27 +92,29 @@ last_after judge front last rest messages x fault holds stops ends =
 pub stream_ends : {M : Type 0} (judge : Judged M) (stream : List ℕ) (x : StreamEnd M)
     → EndsStream judge.says stream x → stream_end judge.decide stream ≡ x
 stream_ends judge stream (Held messages) h = rw (held_runs judge stream messages h)
-stream_ends judge stream (Faulty messages fault) (inl (
-  before,
-  rest,
-  split,
-  RefusesRecord front last body stop within holds whole refused is,
-)) =
+stream_ends judge stream (Faulty messages fault) (
+  stop,
+  inl (before, rest, split, RefusesRecord front last body within holds whole refused),
+  is,
+) =
     rw (split, within, is) (last_after judge front last rest messages (Whole body)
     (fault_at messages stop.at stop.reason) holds (record_stops last body whole)
     (ap (judged messages) (judge.refuses messages body stop refused)))
-stream_ends judge stream (Faulty messages fault) (inl (
-  before,
-  rest,
-  split,
-  PassesLimit front last at within holds long is,
-)) =
-    rw (split, within, is) (last_after judge front last rest messages (TooLong at)
-    (fault_at messages at RecordTooLong) holds (too_long_stops last at long) refl)
-stream_ends {M} judge stream (Faulty messages fault)
-    (inr (CutsOpen front last body split holds is_open is)) =
+stream_ends judge stream (Faulty messages fault) (
+  stop,
+  inl (before, rest, split, PassesLimit front last within holds long too_long),
+  is,
+) =
+    rw (split, within, is, too_long) (last_after judge front last rest messages (TooLong stop.at)
+    (fault_at messages stop.at RecordTooLong) holds (too_long_stops last stop.at long) refl)
+stream_ends {M} judge stream (Faulty messages fault) (
+  stop,
+  inr (CutsOpen front last body split holds is_open cut),
+  is,
+) =
     let o = open_in last body is_open in
-    at_joining o.0 o.2 ∙ left_open o.0 o.1 ∙ ap (Faulty messages) (sym is)
+    let there = is ∙ ap (λ (s : Stop). fault_at messages s.at s.reason) cut in
+    at_joining o.0 o.2 ∙ left_open o.0 o.1 ∙ ap (Faulty messages) (sym there)
   where
     at_joining : (j : Joining) → HasJoined last j
         → stream_end judge.decide stream ≡ left_in messages j
@@ -124,16 +128,25 @@ stream_ends {M} judge stream (Faulty messages fault)
     left_open (Header other part) h = rw h refl
     left_open (Bytes other more left) h = rw h refl
 
+-- in an open record
+cut_open : {M : Type 0} (judge : Judgement M) (stream : List ℕ) (messages : List M)
+    {joining : Joining} (body : List ℕ)
+    → (h : HasRead judge stream (reading_with messages joining)) → IsOpen h.last body
+    → EndsStream judge stream (Faulty messages (fault_at messages (length body) RecordCut))
+cut_open judge stream messages body h is_open = (
+  record { at = length body; reason = RecordCut },
+  inr (CutsOpen h.front h.last body h.split h.holds is_open refl),
+  refl,
+)
+
 left_ends : {M : Type 0} (judge : Judgement M) (stream : List ℕ) (messages : List M)
     (joining : Joining) → HasRead judge stream (reading_with messages joining)
     → EndsStream judge stream (left_in messages joining)
 left_ends judge stream messages Between h = between_holds judge stream messages h
 left_ends judge stream messages (Header body part) h =
-    inr (CutsOpen h.front h.last body h.split h.holds
-    (opened h.last body (Header body part) refl h.joined) refl)
+    cut_open judge stream messages body h (opened h.last body (Header body part) refl h.joined)
 left_ends judge stream messages (Bytes body last left) h =
-    inr (CutsOpen h.front h.last body h.split h.holds
-    (opened h.last body (Bytes body last left) refl h.joined) refl)
+    cut_open judge stream messages body h (opened h.last body (Bytes body last left) refl h.joined)
 
 -- it ends in one way that holds
 ends_somehow : {M : Type 0} (judge : Judged M) (stream : List ℕ) (run : Run (Reading M) RecordFault)
@@ -142,9 +155,10 @@ ends_somehow : {M : Type 0} (judge : Judged M) (stream : List ℕ) (run : Run (R
 ends_somehow judge stream (Runs s) h =
     (left_in s.messages s.joining, left_ends judge.says stream s.messages s.joining h)
 ends_somehow judge stream (Stops fault) h =
-    (Faulty h.0 fault, inl (stream, [], sym (append-nil stream), h.1))
+    (Faulty h.0 fault, (h.1, inl (stream, [], sym (append-nil stream), h.2), h.3))
 ends_somehow judge stream (Stopped fault) h =
-    (Faulty h.ending.0 fault, inl (h.front, h.byte ∷ h.back, h.split, h.ending.1))
+    let (messages, stop, shows, is) = h.ending in
+    (Faulty messages fault, (stop, inl (h.front, h.byte ∷ h.back, h.split, shows), is))
 
 pub ends_stream : {M : Type 0} (judge : Judged M) (stream : List ℕ) → AreBytes stream
     → EndsStream judge.says stream (stream_end judge.decide stream)

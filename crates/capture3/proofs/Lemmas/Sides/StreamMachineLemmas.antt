@@ -1,5 +1,5 @@
 -- The machine for a stream against records and messages.
-use Rattle.capture3.proofs.Common.{◌≡◌, ℕ, List, [], ◌∷◌, ◌++◌, refl, sym, ap, subst, ◌∙◌, append_assoc, append-nil, Result, Ok, Err, Run, Runs, Stops, landed, after, Leads, leads_within, after-append, nested_runs, nested_stops, Joins-snoc, AreBytes, Stop, Reading, judged, recorded, stream_next, unread, joined_body, reading_with, IsRecord, Marks, Joining, Between, Joined, Whole, TooLong, join_next, HasJoined, EndsRecord, join_leads, record_stops, joining_runs, Judgement, AreMessages, Holds, HoldsSoFar, RecordFault, RefusesRecord, PassesLimit, StreamShows, too_long_stops}
+use Rattle.capture3.proofs.Common.{◌≡◌, ℕ, List, [], ◌∷◌, ◌++◌, refl, sym, ap, subst, ◌∙◌, append_assoc, append-nil, Result, Ok, Err, Run, Runs, Stops, landed, after, Leads, leads_within, after-append, nested_runs, nested_stops, Joins-snoc, AreBytes, Stop, Reading, judged, recorded, stream_next, unread, joined_body, reading_with, IsRecord, Marks, Joining, Between, Joined, Whole, TooLong, join_next, HasJoined, EndsRecord, join_leads, record_stops, joining_runs, Judgement, AreMessages, Holds, HoldsSoFar, RecordFault, RecordTooLong, fault_at, RefusesRecord, PassesLimit, StreamShows, too_long_stops}
 use Rattle.record_mark.proofs.Takings.{standing, unfinished}
 use Rattle.capture3.proofs.Lemmas.Container.BytesOf.{split_bytes, record_bytes}
 use Rattle.capture3.proofs.Lemmas.Messages.BodyProgramLemmas.{Judged}
@@ -15,7 +15,8 @@ pub record HasRead {M : Type 0} (judge : Judgement M) (stream : List ℕ) (s : R
 
 -- the last byte of the stream shows this fault, after some messages
 abbrev pub ShowsFault : {M : Type 0} → Judgement M → List ℕ → RecordFault → Type 0
-ShowsFault {M} judge stream fault = (messages : List M) × StreamShows judge stream messages fault
+ShowsFault {M} judge stream fault = (messages : List M) × (stop : Stop)
+    × StreamShows judge stream messages stop × (fault ≡ fault_at messages stop.at stop.reason)
 
 -- the machine from a state on
 abbrev pub stream_after : {M : Type 0} → Judged M → Reading M → List ℕ → Run (Reading M) RecordFault
@@ -67,8 +68,9 @@ judged_leads judge stream front last messages body are split holds whole (Ok m) 
     }
 judged_leads judge stream front last messages body are split holds whole (Err stop) e = (
   messages,
-  RefusesRecord front last body stop split holds whole (judge.refused messages body stop are e)
-      refl,
+  stop,
+  RefusesRecord front last body split holds whole (judge.refused messages body stop are e),
+  refl,
 )
 
 recorded_leads : {M : Type 0} (judge : Judged M) (stream front last : List ℕ) (messages : List M)
@@ -78,8 +80,12 @@ recorded_leads : {M : Type 0} (judge : Judged M) (stream front last : List ℕ) 
 recorded_leads judge stream front last messages are split holds (Whole body) h =
     judged_leads judge stream front last messages body (record_bytes last body h are) split holds h
     (judge.decide messages body) refl
-recorded_leads judge stream front last messages are split holds (TooLong at) h =
-    (messages, PassesLimit front last at split holds h refl)
+recorded_leads judge stream front last messages are split holds (TooLong at) h = (
+  messages,
+  record { at = at; reason = RecordTooLong },
+  PassesLimit front last split holds h refl,
+  refl,
+)
 
 pub stream_leads : {M : Type 0} (judge : Judged M) (stream : List ℕ) (s : Reading M) (byte : ℕ)
     → AreBytes (stream ++ byte ∷ []) → HasRead judge.says stream s
@@ -170,18 +176,17 @@ stream_runs judge stream s h =
 
 -- at the last byte of a stream that shows a fault
 pub shown_stops : {M : Type 0} (judge : Judged M) (stream : List ℕ) (messages : List M)
-    (fault : RecordFault) → StreamShows judge.says stream messages fault
-    → after (stream_next judge.decide) (Runs unread) stream ≡ Stops fault
-shown_stops judge stream messages fault
-    (RefusesRecord front last body stop split holds whole refused is) =
+    (stop : Stop) → StreamShows judge.says stream messages stop
+    → after (stream_next judge.decide) (Runs unread) stream
+    ≡ Stops (fault_at messages stop.at stop.reason)
+shown_stops judge stream messages stop (RefusesRecord front last body split holds whole refused) =
     later judge stream front last messages split holds
     ∙ record_closes judge messages last (Whole body) (record_stops last body whole)
     ∙ ap (λ r. landed (judged messages r)) (judge.refuses messages body stop refused)
-    ∙ ap (λ f. Stops f) (sym is)
-shown_stops judge stream messages fault (PassesLimit front last at split holds long is) =
+shown_stops judge stream messages stop (PassesLimit front last split holds long is) =
     later judge stream front last messages split holds
-    ∙ record_closes judge messages last (TooLong at) (too_long_stops last at long)
-    ∙ ap (λ f. Stops f) (sym is)
+    ∙ record_closes judge messages last (TooLong stop.at) (too_long_stops last stop.at long)
+    ∙ ap (λ r. Stops (fault_at messages stop.at r)) (sym is)
 
 -- ---- what is not whole
 
