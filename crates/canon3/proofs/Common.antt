@@ -14,7 +14,7 @@ pub use Rattle.capture3.specs.Laws.{most_entries}
 pub use Rattle.capture3.specs.Reached.{AreFirstReached, Reached}
 pub use Rattle.capture3.specs.SidedChunks.{Streams, size}
 pub use Rattle.capture3.specs.Observed.{Gave, Observed}
-pub use Rattle.capture3.specs.Typed.{AnswerCalls, AreEach, Converses, HaveEntries, HaveOneProcedure, IsIn, Typed, connection_entries, reply_entry}
+pub use Rattle.capture3.specs.Typed.{AnswerCalls, Converses, HaveEntries, HaveOneProcedure, IsIn, IsRecordOf, Typed, connection_entries, reply_entry}
 pub use Rattle.capture3.specs.declared.fault.Error.{Error}
 pub use Rattle.capture3.specs.declared.fault.Place.{Place}
 pub use Rattle.capture3.specs.declared.fault.Side.{Side}

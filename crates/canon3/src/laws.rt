@@ -1,6 +1,6 @@
 //! Laws of the definitions. Each function has a law as its contract, and does nothing.
 
-ghost use Rattle.std.specs.Prelude.{◌≡◌, ◌+◌, ℕ, List, [], ◌∷◌, ◌++◌, map, take, bytes_eq, Result, Some};
+ghost use Rattle.std.specs.Prelude.{◌≡◌, ◌+◌, ℕ, List, [], ◌∷◌, ◌++◌, map, take, bytes_eq, Option, Result, Some};
 ghost use Rattle.std.specs.List.{position_or_len};
 ghost use Rattle.xdr3.specs.Item.{Item};
 ghost use Rattle.rpc_head.specs.declared.values.call.ProcId.{ProcId};
@@ -13,10 +13,12 @@ ghost use Rattle.capture3.specs.Typed.{Typed};
 ghost use Rattle.capture3.specs.Rank.{rank, distinct, with_key};
 ghost use Rattle.canon3.specs.OneToOne.{Member, Pairs, OneToOne, IsHandle, IsInjectiveOn, AreBeside};
 ghost use Rattle.canon3.specs.Renaming.{Pairwise, Same};
-ghost use Rattle.canon3.specs.Comparison.{DecidesGiven, DecidesSame};
-ghost use Rattle.canon3.specs.Summary.{ConcludesAll, ConcludesGiven};
+ghost use Rattle.canon3.specs.Comparison.{Decides, of_bytes, of_source};
+ghost use Rattle.canon3.specs.EntryWriter.{WritesAll, WritesAllCounted, WritesGiven, WritesGivenCounted};
+ghost use Rattle.canon3.specs.Summary.{AreMessageCounts, ConcludesAll, ConcludesGiven};
 ghost use Rattle.canon3.specs.declared.comparison.verdict.SameError.{SameError};
 ghost use Rattle.canon3.specs.declared.comparison.verdict.Verdict.{Verdict};
+ghost use Rattle.canon3.specs.declared.summary.MessageCounts.{MessageCounts};
 ghost use Rattle.canon3.specs.declared.summary.Summary.{Summary};
 ghost use Rattle.canon3.specs.Canonical.{canonical};
 ghost use Rattle.canon3.specs.CanonicalStream.{entries_after};
@@ -116,6 +118,20 @@ pub fn comparison_finds_the_parting()
         → EndTogether a b }
 {}
 
+/// If a source tells which bytes it has left, it gives a prefix of them. So what a call writes by a
+/// form of the bytes that were given (`canon`, `show` and `mask`) is the form of all of those.
+pub fn left_bytes_are_written()
+    ensures summary { (form : List Entry → List ℕ) (bytes : List ℕ)
+        (source : Observed × Observed) (sink : Option (List ℕ) × Option (List ℕ))
+        (result : Result Summary Error) → source.0.left ≡ Some bytes
+        → WritesGiven form source sink result → WritesAll form bytes sink result }
+    ensures counts { (form : List Entry → List ℕ) (bytes : List ℕ)
+        (source : Observed × Observed) (sink : Option (List ℕ) × Option (List ℕ))
+        (result : Result MessageCounts Error) → source.0.left ≡ Some bytes
+        → WritesGivenCounted AreMessageCounts form source sink result
+        → WritesAllCounted AreMessageCounts form bytes sink result }
+{}
+
 /// If a source tells which bytes it has left, it gives a prefix of them. So what `check` and `same`
 /// return of the bytes that were given holds of all of those.
 pub fn left_bytes_are_given()
@@ -123,6 +139,6 @@ pub fn left_bytes_are_given()
         → old.left ≡ Some bytes → ConcludesGiven old new result → ConcludesAll bytes result }
     ensures same { (file other : List ℕ) (first second : Observed × Observed)
         (result : Result Verdict SameError) → first.0.left ≡ Some file
-        → second.0.left ≡ Some other → DecidesGiven first second result
-        → DecidesSame file other result }
+        → second.0.left ≡ Some other → Decides (of_source first) (of_source second) result
+        → Decides (of_bytes file) (of_bytes other) result }
 {}

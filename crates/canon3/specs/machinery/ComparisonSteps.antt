@@ -24,7 +24,7 @@ use Rattle.canon3.specs.declared.canonical_form.message_writer.MessageWriter.{Me
 use Rattle.canon3.specs.machinery.MessageWriter.{values_before, WriterRests, WriterStands}
 use Rattle.canon3.specs.Parting.{IsPlaceOf}
 use Rattle.canon3.specs.machinery.WritingSteps.{HasGiven, ReaderSince, source_since}
-use Rattle.canon3.specs.Comparison.{CountsReadingOf, StopsGiven}
+use Rattle.canon3.specs.Comparison.{CountsReadingOf, StopsComparing, of_source}
 use Rattle.canon3.specs.Summary.{GaveAll, GaveFault}
 
 -- as many first entries of each, whose canonical forms have equal bytes
@@ -115,7 +115,8 @@ module _ {R S H : Type 0} {builds : BuildHasher.Ghosts S H} {hashes : Hasher.Gho
   Meets (Ok (Some findings.Ended)) = ⊥
   Meets (Ok (Some (findings.Parted place))) = PartsHere place
   Meets (Ok (Some (findings.Refused fault))) = GaveFault (source_since second) fault
-  Meets (Err error) = StopsGiven first (source_since second) error.error error.which
+  Meets (Err error) =
+      StopsComparing (of_source first) (of_source (source_since second)) error.error error.which
 
 module _ {A B S H : Type 0} {builds : BuildHasher.Ghosts S H} {hashes : Hasher.Ghosts H}
     (first : ReaderSince A S H builds hashes) (second : ReaderSince B S H builds hashes) where
@@ -154,7 +155,8 @@ module _ {A B S H : Type 0} {builds : BuildHasher.Ghosts S H} {hashes : Hasher.G
   abbrev pub FindsOut : Result Finding SameError → Type 0
   FindsOut (Ok finding) = IsFound finding
   FindsOut (Err error) =
-      StopsGiven (source_since first) (source_since second) error.error error.which
+      StopsComparing (of_source (source_since first)) (of_source (source_since second)) error.error
+      error.which
 
   abbrev pub StepsOn : Comparison S H → Result (Option Finding) SameError → Type 0
   StepsOn comparison (Ok None) = IsComparing comparison

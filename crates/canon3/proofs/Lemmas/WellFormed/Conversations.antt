@@ -1,5 +1,5 @@
 -- The messages of connections, apart from the streams that carry them.
-use Rattle.canon3.proofs.Common.{◌≡◌, ℕ, ◌+◌, ◌≤◌, ◌^◌, List, [], ◌∷◌, ◌++◌, length, map, refl, ap, ◌∙◌, subst, arith, length-append, map-append, Item, Spells, word_bytes, zero_spelling, length_of_spelling, ReplyItems, IsCall, IsReply, Streams, record_bytes, chunk_bytes, message_bytes, Joins, AreEach, IsIn, HaveOneProcedure, AnswerCalls}
+use Rattle.canon3.proofs.Common.{◌≡◌, ℕ, ◌+◌, ◌≤◌, ◌^◌, List, [], ◌∷◌, ◌++◌, length, map, refl, ap, ◌∙◌, subst, arith, length-append, map-append, Item, Spells, word_bytes, zero_spelling, length_of_spelling, ReplyItems, IsCall, IsReply, Streams, record_bytes, chunk_bytes, message_bytes, Joins, IsRecordOf, IsIn, HaveOneProcedure, AnswerCalls}
 use Rattle.std.specs.List.{AllByRecursion, flat_map, concat}
 use Rattle.record_mark.specs.RecordMark.{max_body, IsRecord, Marks}
 use Rattle.record_mark.proofs.Steps.{IsWord-big_bytes, heads, one_fragment}
@@ -57,11 +57,6 @@ is_record body fits =
     one_fragment (word_bytes (2 ^ 31 + length body)) body (length body) (heads (length body) fits)
     refl fits
 
-pub marks_of : (messages : List (List Item)) → AllByRecursion IsSmall messages
-    → Marks (stream_of messages) (map zero_spelling messages)
-marks_of [] h = refl
-marks_of (m ∷ messages) h = (_, _, refl, is_record (zero_spelling m) h.0, marks_of messages h.1)
-
 abbrev records_of : List (List Item) → List (List ℕ)
 records_of messages = map (λ m. record_bytes (zero_spelling m)) messages
 
@@ -108,27 +103,37 @@ module _ {M : Type 0} (items : M → List Item) (Is : List ℕ → M → Type 0)
   abbrev pub HasBody : M → Type 0
   HasBody m = (body : List ℕ) × Is body m × (length body ≤ max_body)
 
-  pub each_has_body : (bodies : List (List ℕ)) (ms : List M) (stream : List ℕ) → Marks stream bodies
-      → AreEach Is bodies ms → AllByRecursion HasBody ms
-  each_has_body [] ms stream marks each = rw each tt
-  each_has_body (body ∷ bodies) ms stream marks each =
-      rw each.2 ((body, each.3, marks.3.fits), each_has_body bodies each.1 marks.1 marks.4 each.4)
+  pub each_has_body : (ms : List M) (stream : List ℕ) → Joins (IsRecordOf Is) stream ms
+      → AllByRecursion HasBody ms
+  each_has_body [] stream h = tt
+  each_has_body (m ∷ ms) stream (front, rest, split, (body, whole, is), more) =
+      ((body, is, whole.fits), each_has_body ms rest more)
 
-  pub each_size : (bodies : List (List ℕ)) (ms : List M) (stream : List ℕ) → Marks stream bodies
-      → AreEach Is bodies ms → length (stream_of (map items ms)) ≤ length stream
-  each_size [] ms stream marks each = rw each (omega arith)
-  each_size (body ∷ bodies) ms stream marks each =
-      rw (each.2, marks.2) (simp length-append (omega (
+  pub each_size : (ms : List M) (stream : List ℕ) → Joins (IsRecordOf Is) stream ms
+      → length (stream_of (map items ms)) ≤ length stream
+  each_size [] stream h = omega arith
+  each_size (m ∷ ms) stream (front, rest, split, (body, whole, is), more) =
+      rw split (simp length-append (omega (
         arith,
-        length_of_spelling (items each.0) body (spelled body each.0 each.3),
-        record_size marks.0 body marks.3,
-        each_size bodies each.1 marks.1 marks.4 each.4,
+        length_of_spelling (items m) body (spelled body m is),
+        record_size front body whole,
+        each_size ms rest more,
       )))
 
-  pub each_from : (ms : List M) → AllByRecursion (λ m. Is (zero_spelling (items m)) m) ms
-      → AreEach Is (map zero_spelling (map items ms)) ms
+  -- the message's zero spelling is a small body of it
+  abbrev pub IsSpelled : M → Type 0
+  IsSpelled m = Is (zero_spelling (items m)) m × IsSmall (items m)
+
+  pub each_from : (ms : List M) → AllByRecursion IsSpelled ms
+      → Joins (IsRecordOf Is) (stream_of (map items ms)) ms
   each_from [] h = refl
-  each_from (m ∷ ms) h = (m, ms, refl, h.0, each_from ms h.1)
+  each_from (m ∷ ms) h = (
+    _,
+    _,
+    refl,
+    (zero_spelling (items m), is_record (zero_spelling (items m)) h.0.1, h.0.0),
+    each_from ms h.1,
+  )
 
 -- ---- the messages of a connection
 

@@ -1,11 +1,11 @@
 -- Messages of connections: from their streams, and in streams of their own.
-use Rattle.canon3.proofs.Common.{ℕ, ◌≤◌, List, [], ◌∷◌, length, map, ap, subst, arith, length-append, AllByRecursion, flat_map, Item, Word, zero_spelling, length_of_spelling, xid_of, Member, here, zero_spelled_all, ReplyItems, IsCall, IsReply, xid_in, Streams, size, AreEach, IsIn, Converses}
+use Rattle.canon3.proofs.Common.{ℕ, ◌≤◌, List, [], ◌∷◌, length, map, ap, subst, arith, length-append, AllByRecursion, flat_map, Item, Word, zero_spelling, length_of_spelling, xid_of, Member, here, zero_spelled_all, ReplyItems, IsCall, IsReply, xid_in, Streams, size, Joins, IsRecordOf, IsIn, Converses}
 use Rattle.std.proofs.lemmas.List.{map-id}
 use Rattle.std.proofs.lemmas.List.Concat.{flat_map-append}
 use Rattle.canon3.proofs.Lemmas.Numbers.RankLemmas.{member-append_left, member-append_right}
 use Rattle.canon3.proofs.Lemmas.Renaming.RenamingLemmas.{all_mapped, all_weaker}
 use Rattle.canon3.proofs.Lemmas.WellFormed.Messages.{BeginsWithWord, call_begins}
-use Rattle.canon3.proofs.Lemmas.WellFormed.Conversations.{of_all, stream_of, IsSmall, marks_of, HasBody, each_has_body, each_size, each_from, Conversation, items_of_reply, reply_items, itself, IsSpelledCall, IsSpelledReply, AreConversing, weight, streams_of}
+use Rattle.canon3.proofs.Lemmas.WellFormed.Conversations.{of_all, stream_of, IsSmall, HasBody, each_has_body, each_size, each_from, Conversation, items_of_reply, reply_items, itself, IsSpelledCall, IsSpelledReply, AreConversing, weight, streams_of}
 
 -- ---- from streams
 
@@ -24,11 +24,11 @@ pub conversing : (streams : Streams) (calls : List (List Item)) (replies : List 
     → Converses streams calls replies → AreConversing (record { calls = calls; replies = replies })
 conversing streams calls replies c = record {
   calls_are =
-      all_weaker _ _ spelled_call calls (each_has_body itself IsCall (λ body m p. p.1)
-      c.client_bodies calls streams.client c.client c.are_calls);
+      all_weaker _ _ spelled_call calls (each_has_body itself IsCall (λ body m p. p.1) calls
+      streams.client c.client);
   replies_are =
       all_weaker _ _ spelled_reply replies (each_has_body items_of_reply IsReply (λ body m p. p.1)
-      c.server_bodies replies streams.server c.server c.are_replies);
+      replies streams.server c.server);
   one_procedure = c.one_procedure;
   answers = c.answers;
 }
@@ -39,11 +39,9 @@ pub conversing_weight : (streams : Streams) (calls : List (List Item)) (replies 
 conversing_weight streams calls replies c =
     omega (
       arith,
-      each_size itself IsCall (λ body m p. p.1) c.client_bodies calls streams.client c.client
-          c.are_calls,
+      each_size itself IsCall (λ body m p. p.1) calls streams.client c.client,
       ap (λ l. length (stream_of l)) (map-id calls),
-      each_size items_of_reply IsReply (λ body m p. p.1) c.server_bodies replies streams.server
-          c.server c.are_replies,
+      each_size items_of_reply IsReply (λ body m p. p.1) replies streams.server c.server,
     )
 
 -- ---- in streams of their own
@@ -55,16 +53,10 @@ small_items replies h = all_mapped _ _ items_of_reply (λ r p. p.1) replies h
 pub converses_anew : (c : Conversation) → AreConversing c
     → Converses (streams_of c) c.calls c.replies
 converses_anew c h = record {
-  client_bodies = map zero_spelling c.calls;
-  server_bodies = map zero_spelling (reply_items c.replies);
-  client = marks_of c.calls (all_weaker _ _ (λ m p. p.1) c.calls h.calls_are);
-  server = marks_of (reply_items c.replies) (small_items c.replies h.replies_are);
-  are_calls = subst (λ l. AreEach IsCall (map zero_spelling l) c.calls) (map-id c.calls)
-      (each_from itself IsCall (λ body m p. p.1) c.calls
-      (all_weaker _ _ (λ m p. p.0) c.calls h.calls_are));
-  are_replies =
-      each_from items_of_reply IsReply (λ body m p. p.1) c.replies
-      (all_weaker _ _ (λ r p. p.0) c.replies h.replies_are);
+  client =
+      subst (λ l. Joins (IsRecordOf IsCall) (stream_of l) c.calls) (map-id c.calls)
+      (each_from itself IsCall (λ body m p. p.1) c.calls h.calls_are);
+  server = each_from items_of_reply IsReply (λ body m p. p.1) c.replies h.replies_are;
   one_procedure = h.one_procedure;
   answers = h.answers;
 }

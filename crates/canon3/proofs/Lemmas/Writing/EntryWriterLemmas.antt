@@ -43,6 +43,22 @@ pub comes_next : {progress : Progress} {lent : LentEntry} (entries : List Entry)
 comes_next entries one left is_lent first few passed =
     record { is_lent = is_lent; first = first; few = omega (arith, few); passed = passed }
 
+-- what is written of all bytes, of which those that were given are a prefix
+pub all_written : {C : Type 0} (form : List Entry → List ℕ) (AreCountsOf : List ℕ → C → Type 0) (bytes : List ℕ)
+    (first observed : Observed) (old new : Option (List ℕ)) (result : Result C Error)
+    → ((given : List ℕ) → Gave first observed given → IsPrefixOf observed given bytes)
+    → WritesGivenCounted AreCountsOf form (first, observed) (old, new) result
+    → WritesAllCounted AreCountsOf form bytes (old, new) result
+all_written form AreCountsOf bytes first observed old new (Ok counts) prefix
+    (entries, all, are, written) =
+    let whole = (prefix all.given all.gave).all all.ended in
+    (entries, rw whole at all.typed, rw whole at are, written)
+all_written form AreCountsOf bytes first observed old new (Err (errors.Refused fault)) prefix
+    (given, gave, (entries, met, written)) =
+    let shown = shown_of_all observed given bytes entries fault (prefix given gave) met in
+    (entries, shown.0, shown.1, written)
+all_written form AreCountsOf bytes first observed old new (Err _) prefix w = tt
+
 module _ (form : List Entry → List ℕ) (prefixes : KeepsPrefixes form) where
   cut_reached : (old new : Option (List ℕ)) (given : List ℕ) (entries : List Entry)
       → AreFirstReached given entries → AppendsFront old new (form entries)
@@ -73,22 +89,6 @@ module _ (form : List Entry → List ℕ) (prefixes : KeepsPrefixes form) where
     gave_none observed,
     (_, reached_by_machine [] (λ k. omega arith), ([], _, refl, Appends-nil old)),
   )
-
-  -- of all bytes, of which those that were given are a prefix
-  pub all_written : {C : Type 0} (AreCountsOf : List ℕ → C → Type 0) (bytes : List ℕ)
-      (first observed : Observed) (old new : Option (List ℕ)) (result : Result C Error)
-      → ((given : List ℕ) → Gave first observed given → IsPrefixOf observed given bytes)
-      → WritesGivenCounted AreCountsOf form (first, observed) (old, new) result
-      → WritesAllCounted AreCountsOf form bytes (old, new) result
-  all_written AreCountsOf bytes first observed old new (Ok counts) prefix
-      (entries, all, are, written) =
-      let whole = (prefix all.given all.gave).all all.ended in
-      (entries, rw whole at all.typed, rw whole at are, written)
-  all_written AreCountsOf bytes first observed old new (Err (errors.Refused fault)) prefix
-      (given, gave, (entries, met, written)) =
-      let shown = shown_of_all observed given bytes entries fault (prefix given gave) met in
-      (entries, shown.0, shown.1, written)
-  all_written AreCountsOf bytes first observed old new (Err _) prefix w = tt
 
   -- an entry was handed out, and cut
   pub cut_stops : (error : Error) (observed : Observed) (old new : Option (List ℕ)) (given : List ℕ)

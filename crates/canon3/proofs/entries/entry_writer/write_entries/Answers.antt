@@ -32,7 +32,7 @@ returns-in-Ok-flush_all-clause-writes g c =
 pub returns-in-Ok-flush_all-clause-whole : goal.returns-in-Ok-flush_all-clause-whole
 returns-in-Ok-flush_all-clause-whole g c bytes gave =
     let first = g.R.Source.observed c.args.source.now in
-    all_written _ c.requires.prefixes g.E.EntryWriter.are_counts bytes first _ _ _
+    all_written _ g.E.EntryWriter.are_counts bytes first _ _ _
     (Ok c.counts.result) (λ given. prefix_of_kept first _ given bytes gave)
     (returns-in-Ok-flush_all-clause-writes g c)
 
@@ -74,7 +74,7 @@ returns-in_err-written-clause-writes g c =
 pub returns-in_err-written-clause-whole : goal.returns-in_err-written-clause-whole
 returns-in_err-written-clause-whole g c bytes gave =
     let first = g.R.Source.observed c.args.source.now in
-    all_written _ c.requires.prefixes g.E.EntryWriter.are_counts bytes first _ _ _ _
+    all_written _ g.E.EntryWriter.are_counts bytes first _ _ _ _
     (λ given. prefix_of_kept first _ given bytes gave) (returns-in_err-written-clause-writes g c)
 
 pub returns-in-Err-clause-writes : goal.returns-in-Err-clause-writes
