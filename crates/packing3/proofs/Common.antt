@@ -3,7 +3,7 @@ pub use Rattle.canon3.proofs.Lemmas.Writing.SinkWritesLemmas.{front_of_first, fr
 pub use Rattle.canon3.specs.Bytes.{chunk_bytes}
 pub use Rattle.canon3.specs.SinkWrites.{AppendsFront}
 pub use Rattle.capture3.proofs.Lemmas.Reader.PassedOn.{error_is}
-pub use Rattle.capture3.proofs.Lemmas.Reader.ObservedLemmas.{gave_both, gave_none, prefix_of_kept}
+pub use Rattle.capture3.proofs.Lemmas.Reader.ObservedLemmas.{IsPrefixOf, gave_both, gave_none, prefix_of_kept, prefix_of_observed}
 pub use Rattle.capture3.specs.Capture.{IsCapture, IsConnection, One, magic, max_connections, total_size}
 pub use Rattle.capture3.specs.Chunks.{IsChunk, IsStream, max_bytes}
 pub use Rattle.capture3.specs.SidedChunks.{Streams, size}

@@ -1,5 +1,6 @@
 -- What each call makes of the pairs for which a packing stood.
-use Rattle.packing3.proofs.Common.{arith, refl, sym, ap, subst, inl, inr, ◌≡◌, ◌∙◌, ◌≤◌, ◌+◌, ℕ, List, [], ◌∷◌, ◌++◌, length, length-append, append_assoc, Option, None, Result, Ok, Err, OnOk, OnErr, IfErr, Gave, GavePrefix, gave_none, prefix_of_kept, Appends, Appends-trans, word_bytes, Error, max_bytes, AppendsFront, front_of_second, ArePacked, IsPackedConnection, HasConnection, IsStopped, StopsInConnection, One, magic, max_connections, total_size, Streams, size, HasNoRoom, BreaksOff, Explains, so_far}
+use Rattle.packing3.proofs.Common.{arith, refl, sym, ap, subst, inl, inr, ◌≡◌, ◌∙◌, ◌≤◌, ◌+◌, ℕ, List, [], ◌∷◌, ◌++◌, length, length-append, append_assoc, Option, None, Result, Ok, Err, OnOk, OnErr, IfErr, Gave, IsPrefixOf, gave_none, prefix_of_observed, Appends, Appends-trans, word_bytes, Error, max_bytes, AppendsFront, front_of_second, ArePacked, IsPackedConnection, HasConnection, IsStopped, StopsInConnection, One, magic, max_connections, total_size, Streams, size, HasNoRoom, BreaksOff, Explains, so_far}
+use Rattle.std.specs.Prelude.{Some}
 use Rattle.record_mark.proofs.Words.{Joins-snoc}
 use Rattle.xdr3.specs.declared.reason.Reason.TheVariants as reasons
 use Rattle.capture3.specs.declared.fault.Error.TheVariants as errors
@@ -60,18 +61,18 @@ module _ {W : Type 0} (written : W → Option (List ℕ)) where
   -- of all bytes of both streams, of which the sources gave prefixes
   pub added_all : (new : Packing W) (sources : Sources) (first : Option (List ℕ))
       (pairs : List Streams) (streams : Streams)
-      → GavePrefix sources.client_before sources.client_after streams.client
-      → GavePrefix sources.server_before sources.server_after streams.server
+      → ((given : List ℕ) → Gave sources.client_before sources.client_after given
+      → IsPrefixOf sources.client_after given streams.client)
+      → ((given : List ℕ) → Gave sources.server_before sources.server_after given
+      → IsPrefixOf sources.server_after given streams.server)
       → AddsTo written new sources first pairs (Ok (tt {0}))
       → HasAdded written new first (pairs ++ streams ∷ [])
   added_all new sources first pairs streams from_client from_server it =
       let (client_ended, server_ended, has) = it.adds in
-      let client : it.streams.client ≡ streams.client = (prefix_of_kept sources.client_before
-      sources.client_after it.streams.client
-      streams.client from_client it.from_client).all client_ended in
-      let server : it.streams.server ≡ streams.server = (prefix_of_kept sources.server_before
-      sources.server_after it.streams.server
-      streams.server from_server it.from_server).all server_ended in
+      let client : it.streams.client ≡ streams.client =
+      (from_client it.streams.client it.from_client).all client_ended in
+      let server : it.streams.server ≡ streams.server =
+      (from_server it.streams.server it.from_server).all server_ended in
       subst
       (λ (l : List ℕ).
       HasAdded written new first
@@ -80,6 +81,21 @@ module _ {W : Type 0} (written : W → Option (List ℕ)) where
       (λ (l : List ℕ).
       HasAdded written new first
       (pairs ++ record { client = l; server = it.streams.server } ∷ [])) client has)
+
+  -- of all bytes that the sources had left
+  pub added_left : (new : Packing W) (sources : Sources) (first : Option (List ℕ))
+      (pairs : List Streams) (streams : Streams) (result : Result (Unit {0}) Error)
+      → sources.client_before.left ≡ Some streams.client
+      → sources.server_before.left ≡ Some streams.server
+      → AddsTo written new sources first pairs result
+      → OnOk result (HasAdded written new first (pairs ++ streams ∷ []))
+  added_left new sources first pairs streams (Ok done) client server it =
+      added_all new sources first pairs streams
+      (λ given.
+      prefix_of_observed sources.client_before sources.client_after given streams.client client)
+      (λ given.
+      prefix_of_observed sources.server_before sources.server_after given streams.server server) it
+  added_left new sources first pairs streams (Err error) client server it = tt
 
   broken_off : (old : Packing W) (sources : Sources) (first w1 : Option (List ℕ))
       (pairs : List Streams) (error : Error)

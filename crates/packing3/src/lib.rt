@@ -3,6 +3,7 @@
 
 mod block;
 mod extent;
+pub mod laws;
 mod packing;
 mod stream;
 
