@@ -1,6 +1,6 @@
 -- The shapes of the heads of messages (RFC 5531, sections 8.2 and 9, appendix A).
 use Rattle.std.specs.Prelude.{◌==◌, if◌then◌else◌, [], ◌∷◌}
-use Rattle.xdr3.specs.Named.{counted, listed, opaque, sized, union, word}
+use Rattle.xdr3.specs.Named.{array, listed, opaque, sized, union, word}
 use Rattle.xdr3.specs.Shape.{Shape, ◌then◌, nothing}
 use Rattle.xdr3.specs.declared.reason.Reason.TheVariants.{BadEnum, Flavor, RpcVersion}
 use Rattle.xdr3.specs.Item.{Text, Var}
@@ -11,7 +11,7 @@ message_start = word "xid" then listed "mtype" (0 ∷ 1 ∷ [])
 
 -- gids<16> of authsys_parms (RFC 5531, appendix A)
 unfoldable pub gids : Shape
-gids = counted "gids" 16 (word "group")
+gids = array "gids" 16 (word "group")
 
 -- authsys_parms (RFC 5531, appendix A)
 unfoldable pub parameters : Shape

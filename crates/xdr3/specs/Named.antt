@@ -41,8 +41,8 @@ opaque kind name max = shapes.opaque kind (called name) max
 abbrev pub linked : String → Shape → Shape
 linked name shape = shapes.linked (called name) shape
 
-abbrev pub counted : String → ℕ → Shape → Shape
-counted name max shape = shapes.counted (called name) max shape
+abbrev pub array : String → ℕ → Shape → Shape
+array name max shape = shapes.counted (called name) max shape
 
 abbrev pub sized : String → Shape → Shape
 sized name shape = shapes.sized (called name) shape
