@@ -9,8 +9,7 @@ use Rattle.nfs3_types.specs.FileKind.{file_kind_words}
 use Rattle.nfs3_types.specs.MountStatus.{mount_status_words}
 use Rattle.nfs3_types.specs.Status.{status_words}
 
--- the longest opaque data, string or array that has no maximum of its own (RFC 4506, sections 4.10,
--- 4.11 and 4.13)
+-- the maximum of what has none of its own (RFC 4506, sections 4.10, 4.11 and 4.13)
 abbrev pub no_maximum : ℕ
 no_maximum = 4294967295
 
@@ -79,8 +78,7 @@ guard = optional "check" (time "ctime_sec" "ctime_nsec")
 unfoldable pub dir_op : Shape
 dir_op = handle then opaque Text "name" no_maximum
 
--- a status, then the parts of a success if it is 0, otherwise those of a failure (RFC 1813,
--- section 3.3)
+-- a status, and then the parts of a success (0) or of a failure (RFC 1813, section 3.3)
 unfoldable pub results : Shape → Shape → Shape
 results done failed = union "status" status_words BadEnum (λ n. if n == 0 then done else failed)
 
@@ -98,16 +96,14 @@ flavor = word "flavor"
 unfoldable pub mount_ok : Shape
 mount_ok = handle then array "flavors" no_maximum flavor
 
--- a mountbody: a hostname of at most 255 bytes and a directory of at most 1024 (RFC 1813, sections
--- 5.1.4 and 5.2.2)
+-- mountbody (RFC 1813, sections 5.1.4 and 5.2.2)
 unfoldable pub mounted : Shape
 mounted = opaque Text "hostname" 255 then opaque Text "directory" 1024
 
--- a groupnode: a name of at most 255 bytes (RFC 1813, sections 5.1.4 and 5.2.5)
+-- groupnode (RFC 1813, sections 5.1.4 and 5.2.5)
 unfoldable pub group : Shape
 group = opaque Text "name" 255
 
--- an exportnode: a directory of at most 1024 bytes and its groups (RFC 1813, sections 5.1.4 and
--- 5.2.5)
+-- exportnode (RFC 1813, sections 5.1.4 and 5.2.5)
 unfoldable pub export : Shape
 export = opaque Text "directory" 1024 then linked "group" group

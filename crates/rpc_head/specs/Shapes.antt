@@ -18,8 +18,7 @@ unfoldable pub parameters : Shape
 parameters =
     word "stamp" then opaque Text "machinename" 255 then word "uid" then word "gid" then gids
 
--- the body<400> of an AUTH_SYS credential: its length, and the parameters in just that many bytes
--- (RFC 5531, section 8.2)
+-- the body<400> of an AUTH_SYS credential: its length and its bytes (RFC 5531, section 8.2)
 unfoldable pub auth_sys : Shape
 auth_sys = sized "cred_length" parameters
 
