@@ -215,7 +215,8 @@ pub fn scan_rest<V: Visit>(
     visitor: &mut V,
 ) -> Result<(), GetError>
     ensures ok { OnOk result
-        (ScansLayout V.stands (remaining name.now) (input.old, visitor.old) (input.new, visitor.new)) }
+        (ScansLayout V.stands (remaining name.now)
+        (input.old, visitor.old) (input.new, visitor.new)) }
     ensures memory { IfErr result (λ error. error ≡ GetError.Memory) }
 {
     let bytes = input.rest();

@@ -39,8 +39,10 @@ fn pass_boolean<V: Visit>(
     visitor: &mut V,
 ) -> Result<(), GetError>
     ensures ok { OnOk result
-        (Scans V.stands (choose name.now is_bool BadBool (λ n. nothing)) (input.old, visitor.old) (input.new, visitor.new)) }
-    ensures err { IfErr result (λ error. Stops (choose name.now is_bool BadBool (λ n. nothing)) input.old error) }
+        (Scans V.stands (choose name.now is_bool BadBool (λ n. nothing))
+        (input.old, visitor.old) (input.new, visitor.new)) }
+    ensures err { IfErr result
+        (λ error. Stops (choose name.now is_bool BadBool (λ n. nothing)) input.old error) }
 {
     scan_boolean(name, input, visitor)?;
     Ok(())
@@ -56,7 +58,9 @@ fn pass_stable<V: Visit>(
     ensures ok { OnOk result
         (Scans V.stands (choose name.now (is_listed stable_words) BadEnum (λ n. nothing))
         (input.old, visitor.old) (input.new, visitor.new)) }
-    ensures err { IfErr result (λ error. Stops (choose name.now (is_listed stable_words) BadEnum (λ n. nothing)) input.old error) }
+    ensures err { IfErr result
+        (λ error. Stops (choose name.now (is_listed stable_words) BadEnum (λ n. nothing))
+        input.old error) }
 {
     scan_listed(name, &[0, 1, 2], input, visitor)?;
     Ok(())

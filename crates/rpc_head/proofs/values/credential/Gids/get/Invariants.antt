@@ -1,4 +1,4 @@
-use Rattle.rpc_head.proofs.Common.{◌≡◌, ◌≤◌, length, take, flat_map, word, group_items, called}
+use Rattle.rpc_head.proofs.Common.{◌≡◌, ◌≤◌, length, take, flat_map, word, group_items}
 use Rattle.xdr3.proofs.Lemmas.Reading.Counted.{TimesSoFar}
 use Rattle.rpc_head.proofs.values.credential.Gids.get.Given as goal
 
