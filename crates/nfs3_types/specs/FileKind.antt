@@ -1,9 +1,9 @@
--- The numbers of ftype3 (RFC 1813, section 2.5).
+-- The numbers of ftype3 (RFC 1813).
 use Rattle.std.specs.Prelude.{ℕ, List, [], ◌∷◌}
 use Rattle.nfs3_types.specs.declared.values.kind.FileKind.{FileKind}
 use Rattle.nfs3_types.specs.declared.values.kind.FileKind.TheVariants.{Reg, Dir, Blk, Chr, Lnk, Sock, Fifo}
 
--- ftype3 (RFC 1813, section 2.5)
+-- ftype3 (RFC 1813)
 abbrev pub file_kind_words : List ℕ
 file_kind_words = 1 ∷ 2 ∷ 3 ∷ 4 ∷ 5 ∷ 6 ∷ 7 ∷ []
 

@@ -1,4 +1,4 @@
--- A file handle as its bytes (RFC 1813, section 2.5).
+-- A file handle as its bytes (RFC 1813).
 use Rattle.std.specs.Prelude.{ℕ, List, take}
 use Rattle.nfs3_types.specs.declared.values.handle.Handle.{Handle}
 

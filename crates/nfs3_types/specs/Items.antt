@@ -1,4 +1,4 @@
--- The items of the parts (RFC 1813, sections 2.5 and 2.6).
+-- The items of the parts (RFC 1813).
 use Rattle.std.specs.Prelude.{ℕ, List, [], ◌∷◌, Option}
 use Rattle.xdr3.specs.Combined.{optional_items}
 use Rattle.xdr3.specs.Item.{Item, followed_by, Handle, Hyper, Opaque, Text, Word, called}

@@ -1,11 +1,11 @@
--- The numbers of nfsstat3 (RFC 1813, section 2.6).
+-- The numbers of nfsstat3 (RFC 1813).
 use Rattle.std.specs.Prelude.{ℕ, List, [], ◌∷◌}
 use Rattle.nfs3_types.specs.declared.values.status.Status.{Status}
 use Rattle.nfs3_types.specs.declared.values.status.Status.TheVariants.{Ok, Failed}
 use Rattle.nfs3_types.specs.declared.values.status.Failure.{Failure}
 use Rattle.nfs3_types.specs.declared.values.status.Failure.TheVariants.{Perm, NoEnt, Io, Nxio, Acces, Exist, XDev, NoDev, NotDir, IsDir, Inval, FBig, NoSpc, RoFs, MLink, NameTooLong, NotEmpty, DQuot, Stale, Remote, BadHandle, NotSync, BadCookie, NotSupp, TooSmall, ServerFault, BadType, Jukebox}
 
--- nfsstat3 (RFC 1813, section 2.6)
+-- nfsstat3 (RFC 1813)
 abbrev pub status_words : List ℕ
 status_words =
     0 ∷ 1 ∷ 2 ∷ 5 ∷ 6 ∷ 13 ∷ 17 ∷ 18 ∷ 19 ∷ 20 ∷ 21 ∷ 22 ∷ 27 ∷ 28 ∷ 30 ∷ 31 ∷ 63 ∷ 66 ∷ 69 ∷ 70

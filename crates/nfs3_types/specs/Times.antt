@@ -1,4 +1,4 @@
--- The items of times (RFC 1813, sections 2.5 and 2.6). Their names are those of the place where
+-- The items of times (RFC 1813). Their names are those of the place where
 -- they stand.
 use Rattle.std.specs.Prelude.{ℕ, List, [], ◌∷◌}
 use Rattle.xdr3.specs.Item.{Item, Word}

@@ -1,4 +1,4 @@
-//! The parts of NFS version 3 and MOUNT version 3 messages (RFC 1813, sections 2.5, 2.6 and 5).
+//! The parts of NFS version 3 and MOUNT version 3 messages (RFC 1813).
 #![tactic(auto)]
 
 mod scans;

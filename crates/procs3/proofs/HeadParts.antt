@@ -3,7 +3,8 @@
 use Rattle.std.specs.Prelude.{ℕ, nat_eq}
 use Rattle.xdr3.specs.declared.reason.Reason.TheVariants.{RpcVersion}
 use Rattle.xdr3.specs.Item.{Var, called}
-use Rattle.xdr3.specs.Shape.{Shape, ◌then◌, listed, nothing, opaque, word}
+use Rattle.xdr3.specs.Named.{listed, word}
+use Rattle.xdr3.specs.Shape.{Shape, ◌then◌, nothing, opaque}
 use Rattle.xdr3.proofs.Lemmas.Shapes.ShapeParts.{HasParts, Part, parts_if, parts_weaker, word_part}
 use Rattle.rpc_head.specs.Messages.{start_of_type}
 use Rattle.rpc_head.specs.machinery.HeadEnds.{auth_stats}
@@ -37,7 +38,7 @@ unfolding deny called
 deny_parts = (
   assumption,
   λ n.
-      parts_if IsProtocolPart (nat_eq n 0) versions (listed (called "auth_stat") auth_stats)
+      parts_if IsProtocolPart (nat_eq n 0) versions (listed "auth_stat" auth_stats)
       (assumption) (assumption),
 )
 
@@ -61,7 +62,7 @@ start_parts mtype = assumption
 -- call_body after its version
 abbrev pub after_version : Shape
 after_version =
-    word (called "prog") then word (called "vers") then word (called "proc") then credential
+    word "prog" then word "vers" then word "proc" then credential
     then verifier
 
 pub after_version_parts : AreProtocolParts after_version

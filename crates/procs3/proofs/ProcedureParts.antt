@@ -4,20 +4,20 @@ use Rattle.std.proofs.Common.{ℕ, List, arith, refl}
 use Rattle.std.specs.List.{AllByRecursion}
 use Rattle.std.specs.Prelude.{nat_eq, ◌||◌, if◌then◌else◌}
 use Rattle.xdr3.specs.Item.{Item, called}
-use Rattle.xdr3.specs.Shape.{Shape, ◌then◌, fixed, hyper, nothing, optional, word}
-use Rattle.xdr3.specs.Layout.{Layout, exactly, rest}
+use Rattle.xdr3.specs.Shape.{Shape, fixed, hyper, nothing, optional_named, word_named}
+use Rattle.xdr3.specs.Layout.{Layout, exactly, remaining}
 use Rattle.xdr3.proofs.Lemmas.Shapes.ShapeParts.{RowHasParts, parts_if, row_if}
 use Rattle.rpc_head.specs.declared.values.call.ProcId.{ProcId}
 use Rattle.rpc_head.specs.Messages.{has_results}
-use Rattle.nfs3_types.specs.Shapes.{attributes, dir_op, export, file_kind, flavor, group, handle, mount_ok, mounted, post_op_attr, post_op_fh, results, set_word, settable, time, time_how, times, wcc, wcc_attr}
-use Rattle.procs3.specs.Shapes.{create_how, create_ok, dirpath, entry, entry_plus, file_range, mknod_what, mount_results}
-use Rattle.procs3.specs.Table.{arguments_of, mount_procedures, nfs_procedures, results_of}
+use Rattle.nfs3_types.specs.Shapes.{attributes, dir_op, export, flavor, group, guard, handle, mount_ok, mounted, post_op_attr, post_op_fh, results, settable, time, time_how_named, time_named, wcc, wcc_attr}
+use Rattle.procs3.specs.Shapes.{create_how, create_ok, device, dirpath, entry, entry_plus, file_range, mknod_what, mount_results}
+use Rattle.procs3.specs.Table.{Procedure, arguments_of, mount_procedures, nfs_procedures, results_of}
 use Rattle.procs3.proofs.TableLemmas.{layout_of_procedure}
 use Rattle.procs3.proofs.ProtocolParts.{AWord, AreProtocolParts, IsNameOf, IsProtocolPart}
 
 optional_parts : (name : List ℕ) (s : Shape) → IsNameOf name AWord → AreProtocolParts s
-    → AreProtocolParts (optional name s)
-unfolding optional
+    → AreProtocolParts (optional_named name s)
+unfolding optional_named
 optional_parts name s w h = (assumption, λ n. parts_if IsProtocolPart (nat_eq n 0) nothing s tt h)
 
 -- ---- parts
@@ -27,24 +27,20 @@ unfolding handle called
 handle_parts = record { reason = tt; room = (omega arith, omega arith); name = (refl, refl) }
 
 time_parts : (sec nsec : List ℕ) → IsNameOf sec AWord → IsNameOf nsec AWord
-    → AreProtocolParts (time sec nsec)
-unfolding time
+    → AreProtocolParts (time_named sec nsec)
+unfolding time_named
 time_parts sec nsec h k = assumption
 
-times_parts : AreProtocolParts times
-unfolding times time called
-times_parts = assumption
-
 attributes_parts : AreProtocolParts attributes
-unfolding attributes file_kind called
-attributes_parts = assumption times_parts
+unfolding attributes time_named called
+attributes_parts = assumption
 
 post_op_attr_parts : AreProtocolParts post_op_attr
 unfolding post_op_attr called
 post_op_attr_parts = optional_parts (called "attr") attributes (refl, refl) attributes_parts
 
 wcc_attr_parts : AreProtocolParts wcc_attr
-unfolding wcc_attr time called
+unfolding wcc_attr time_named called
 wcc_attr_parts = assumption
 
 wcc_parts : AreProtocolParts wcc
@@ -57,19 +53,18 @@ unfolding post_op_fh called
 post_op_fh_parts = optional_parts (called "handle") handle (refl, refl) handle_parts
 
 time_how_parts : (name sec nsec : List ℕ) → IsNameOf name AWord → IsNameOf sec AWord
-    → IsNameOf nsec AWord → AreProtocolParts (time_how name sec nsec)
-unfolding time_how
+    → IsNameOf nsec AWord → AreProtocolParts (time_how_named name sec nsec)
+unfolding time_how_named
 time_how_parts name sec nsec w h k = (
   assumption,
   λ how.
-      parts_if IsProtocolPart (nat_eq how 2) (time sec nsec) nothing (time_parts sec nsec h k)
+      parts_if IsProtocolPart (nat_eq how 2) (time_named sec nsec) nothing (time_parts sec nsec h k)
       tt,
 )
 
 set_word_parts : (set name : List ℕ) → IsNameOf set AWord → IsNameOf name AWord
-    → AreProtocolParts (set_word set name)
-unfolding set_word
-set_word_parts set name w h = optional_parts set (word name) w assumption
+    → AreProtocolParts (optional_named set (word_named name))
+set_word_parts set name w h = optional_parts set (word_named name) w assumption
 
 settable_parts : AreProtocolParts settable
 unfolding settable called
@@ -86,11 +81,10 @@ settable_parts = assumption (
       (refl, refl),
 )
 
-guard_parts :
-    AreProtocolParts (optional (called "check") (time (called "ctime_sec") (called "ctime_nsec")))
+guard_parts : AreProtocolParts guard
 unfolding called
 guard_parts =
-    optional_parts (called "check") (time (called "ctime_sec") (called "ctime_nsec")) (refl, refl)
+    optional_parts (called "check") (time "ctime_sec" "ctime_nsec") (refl, refl)
     (time_parts (called "ctime_sec") (called "ctime_nsec") (refl, refl) (refl, refl))
 
 results_parts : (done failed : Shape) → AreProtocolParts done → AreProtocolParts failed
@@ -130,8 +124,8 @@ create_how_parts = (
       settable_parts,
 )
 
-device_parts : AreProtocolParts (settable then word (called "spec1") then word (called "spec2"))
-unfolding called
+device_parts : AreProtocolParts device
+unfolding device called
 device_parts = assumption settable_parts
 
 mknod_what_parts : AreProtocolParts mknod_what
@@ -139,8 +133,7 @@ unfolding mknod_what called
 mknod_what_parts = (
   assumption,
   λ kind.
-      parts_if IsProtocolPart (nat_eq kind 3 || nat_eq kind 4)
-      (settable then word (called "spec1") then word (called "spec2"))
+      parts_if IsProtocolPart (nat_eq kind 3 || nat_eq kind 4) device
       (if nat_eq kind 6 || nat_eq kind 7 then settable else nothing) device_parts
       (parts_if IsProtocolPart (nat_eq kind 6 || nat_eq kind 7) settable nothing settable_parts tt),
 )
@@ -164,11 +157,11 @@ abbrev pub IsProtocolRow : Layout → Type 0
 IsProtocolRow layout = RowHasParts IsProtocolPart layout
 
 -- the arguments and the results of one procedure
-abbrev AreProtocolRows : Shape × Shape → Type 0
-AreProtocolRows row = AreProtocolParts row.0 × AreProtocolParts row.1
+abbrev AreProtocolRows : Procedure → Type 0
+AreProtocolRows row = AreProtocolParts row.1 × AreProtocolParts row.2
 
 nfs_procedures_parts : AllByRecursion AreProtocolRows nfs_procedures
-unfolding nfs_procedures entry entry_plus time called
+unfolding nfs_procedures entry entry_plus time_named called
 nfs_procedures_parts =
     search (
       results_parts,
@@ -191,20 +184,20 @@ unfolding mount_procedures called
 mount_procedures_parts =
     search (dirpath_parts, mount_results_parts, mounted_parts, export_parts) depth 20
 
-rest_parts : IsProtocolRow (rest (called "rest"))
+rest_parts : IsProtocolRow (remaining (called "rest"))
 unfolding called
 rest_parts = assumption
 
 pub arguments_have_parts : (id : ProcId) → IsProtocolRow (arguments_of id)
 unfolding arguments_of
 arguments_have_parts id =
-    layout_of_procedure AreProtocolRows IsProtocolRow (λ row. exactly row.0) (λ row h. h.0)
+    layout_of_procedure AreProtocolRows IsProtocolRow (λ row. exactly row.1) (λ row h. h.0)
     nfs_procedures_parts mount_procedures_parts rest_parts id
 
 pub results_have_parts : (id : ProcId) → IsProtocolRow (results_of id)
 unfolding results_of
 results_have_parts id =
-    layout_of_procedure AreProtocolRows IsProtocolRow (λ row. exactly row.1) (λ row h. h.1)
+    layout_of_procedure AreProtocolRows IsProtocolRow (λ row. exactly row.2) (λ row h. h.1)
     nfs_procedures_parts mount_procedures_parts rest_parts id
 
 -- what follows the head of a reply

@@ -1,7 +1,6 @@
 -- Arguments and results by procedure.
 pub mod Shapes
 pub mod Table
-pub mod Names
 pub mod Tagged
 pub mod Files
 pub mod Creation

@@ -1,7 +1,8 @@
 //! The names of procedures.
+#![tactic(auto, unfolding(crate::specs::Table::nfs_procedures, crate::specs::Table::mount_procedures))]
 
 ghost use Rattle.std.specs.Prelude.{◌≡◌, IfSome, IsNone, Some, None};
-ghost use Rattle.procs3.specs.Names.{mount_name, name_of_procedure, nfs_name};
+ghost use Rattle.procs3.specs.Table.{mount_procedures, name_in, name_of_procedure, nfs_procedures};
 
 use rpc_head::ProcId;
 
@@ -20,8 +21,8 @@ pub fn proc_name(id: ProcId) -> Option<&'static str>
 
 /// Returns the name of a procedure of NFS version 3.
 fn nfs_name(proc_no: u32) -> Option<&'static str>
-    ensures name { IfSome result (λ name. nfs_name proc_no ≡ Some name.now) }
-    ensures none { IsNone result → nfs_name proc_no ≡ None }
+    ensures name { IfSome result (λ name. name_in nfs_procedures proc_no ≡ Some name.now) }
+    ensures none { IsNone result → name_in nfs_procedures proc_no ≡ None }
 {
     match proc_no {
         0 => Some("NFSPROC3_NULL"),
@@ -52,8 +53,8 @@ fn nfs_name(proc_no: u32) -> Option<&'static str>
 
 /// Returns the name of a procedure of MOUNT version 3.
 fn mount_name(proc_no: u32) -> Option<&'static str>
-    ensures name { IfSome result (λ name. mount_name proc_no ≡ Some name.now) }
-    ensures none { IsNone result → mount_name proc_no ≡ None }
+    ensures name { IfSome result (λ name. name_in mount_procedures proc_no ≡ Some name.now) }
+    ensures none { IsNone result → name_in mount_procedures proc_no ≡ None }
 {
     match proc_no {
         0 => Some("MOUNTPROC3_NULL"),

@@ -12,7 +12,8 @@ unfoldable pub use Rattle.xdr3.specs.Layout.{reading_layout}
 pub use Rattle.xdr3.specs.Reading.{number_at, refused, run_at, word_at, ◌>>=◌}
 unfoldable pub use Rattle.xdr3.specs.Reading.{reading}
 unfoldable pub use Rattle.xdr3.specs.Scan.{Scans, Stops}
-pub use Rattle.xdr3.specs.Shape.{Shape, choose, is_any, is_listed, nothing, word, ◌then◌}
+pub use Rattle.xdr3.specs.Shape.{Shape, choose, is_any, is_listed, nothing, word_named, ◌then◌}
+pub use Rattle.xdr3.specs.Named.{word}
 pub use Rattle.xdr3.specs.View.{MovesOn, View}
 pub use Rattle.xdr3.specs.Visit.{Adds}
 unfoldable pub use Rattle.xdr3.specs.Visit.{AreWithinLimit}

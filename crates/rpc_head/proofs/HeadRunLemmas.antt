@@ -2,7 +2,7 @@
 use Rattle.std.proofs.Common.{inl, inr, ◌≡◌, ℕ, ◌+◌, ◌-◌, ◌*◌, ◌/◌, ◌<◌, ◌≤◌, Bool, true, false, cond, ltb, List, [], ◌∷◌, ◌++◌, length, take, drop, Ok, Err, refl, sym, ap, subst, ◌∙◌, arith}
 use Rattle.std.proofs.lemmas.Bool.{cases_lt, ne_eqb, ltb-false, lt-ltb, le-ltb}
 use Rattle.std.proofs.lemmas.List.{drop-drop, drop-take}
-use Rattle.rpc_head.proofs.Common.{big_number, GetError, Stop, Item, Word, Scans, Stops, MovesOn, View, Adds, moves_both, adds_joined, called, BadEnum, Flavor, RpcVersion, Short, number_at, reading, refused, run_at, word_at, Shape, ◌then◌, choose, is_any, is_listed, nothing, word, Opening}
+use Rattle.rpc_head.proofs.Common.{big_number, GetError, Stop, Item, Word, Scans, Stops, MovesOn, View, Adds, moves_both, adds_joined, called, BadEnum, Flavor, RpcVersion, Short, number_at, reading, refused, run_at, word_at, Shape, ◌then◌, choose, is_any, is_listed, nothing, word, word_named, Opening}
 use Rattle.byteorder.specs.Numbers.{big_from-take}
 use Rattle.xdr3.specs.declared.reason.GetError.TheVariants as errors
 use Rattle.xdr3.specs.declared.reason.Reason.{Reason}
@@ -59,14 +59,14 @@ one_short name accepted other next rest body at place h is =
 
 pub later_stop : (name : List ℕ) (rest : Shape) (body : List ℕ) (at : ℕ) (stop : Stop)
     → at + 4 ≤ length body → reading rest body (at + 4) ≡ Err stop
-    → reading (word name then rest) body at ≡ Err stop
+    → reading (word_named name then rest) body at ≡ Err stop
 unfolding reading
 later_stop name rest body at stop h e = rw (le-ltb (length body) (at + 4) h, e) refl
 
 -- the first word that is not whole, after the RPC version
 after_version_short : (body : List ℕ) (at left : ℕ) → left + at ≡ length body → left < 16
     → reading
-    (word (called "prog") then word (called "vers") then word (called "proc")
+    (word "prog" then word "vers" then word "proc"
     then credential then verifier) body at
     ≡ Err (record { at = at + left / 4 * 4; reason = Short })
 unfolding credential
@@ -75,16 +75,16 @@ after_version_short body at left is few =
     let last = credential then verifier in
     elim (cases_lt left 4) [
       | inl lt ↦ one_short (called "prog") is_any BadEnum (λ n. nothing)
-          (word (called "vers") then word (called "proc") then last) body at (at + left / 4 * 4)
+          (word "vers" then word "proc" then last) body at (at + left / 4 * 4)
           (omega (arith, is, lt)) (omega (arith, lt))
       | inr le ↦ later_stop (called "prog")
-          (word (called "vers") then word (called "proc") then last) body at
+          (word "vers" then word "proc" then last) body at
           (record { at = at + left / 4 * 4; reason = Short }) (omega (arith, is, le)) (
           elim (cases_lt left 8) [
             | inl lt ↦ one_short (called "vers") is_any BadEnum (λ n. nothing)
-                (word (called "proc") then last) body (at + 4) (at + left / 4 * 4)
+                (word "proc" then last) body (at + 4) (at + left / 4 * 4)
                 (omega (arith, is, lt)) (omega (arith, le, lt))
-            | inr le8 ↦ later_stop (called "vers") (word (called "proc") then last) body (at + 4)
+            | inr le8 ↦ later_stop (called "vers") (word "proc" then last) body (at + 4)
                 (record { at = at + left / 4 * 4; reason = Short }) (omega (arith, is, le8)) (
                 elim (cases_lt left 12) [
                   | inl lt ↦ one_short (called "proc") is_any BadEnum (λ n. nothing) last body

@@ -1,7 +1,8 @@
 -- A message is read as its parts are: its first two words, its head, and what the head chooses.
 use Rattle.rpc_head.proofs.Common.{◌≡◌, ℕ, Bool, true, false, cond, List, [], ◌∷◌, ◌++◌, Ok, Err, refl, sym, ap, subst, ◌∙◌, Stop, Item, Word, called, BadEnum, RpcVersion, ◌>>=◌, number_at, reading, refused, word_at, MessageStart, start_items}
 use Rattle.xdr3.specs.Layout.{Layout, after, exactly, reading_layout}
-use Rattle.xdr3.specs.Shape.{Shape, ◌then◌, both, choose, is_any, is_listed, listed, nothing, word}
+use Rattle.xdr3.specs.Named.{listed, word}
+use Rattle.xdr3.specs.Shape.{Shape, ◌then◌, both, choose, is_any, is_listed, nothing, word_named}
 use Rattle.xdr3.specs.View.{word_of}
 use Rattle.xdr3.proofs.Lemmas.Reading.Bytes.{accept_ok, bind_ok, ok_is}
 use Rattle.xdr3.proofs.Lemmas.Reading.Linked.{with_front}
@@ -47,12 +48,12 @@ one_read name accepted body at z e =
 types_narrowed : (fewer body : List ℕ) (s : MessageStart) (at to : ℕ)
     → reading message_start body at ≡ Ok (start_items s, to)
     → is_listed fewer (word_of s.is_reply) ≡ true
-    → reading (word (called "xid") then listed (called "mtype") fewer) body at
+    → reading (word "xid" then listed "mtype" fewer) body at
     ≡ Ok (start_items s, to)
 unfolding message_start reading
 types_narrowed fewer body s at to e is =
     let z =
-    both_read (word (called "xid")) (listed (called "mtype") (0 ∷ 1 ∷ [])) body at
+    both_read (word "xid") (listed "mtype" (0 ∷ 1 ∷ [])) body at
     (start_items s, to) e in
     let x = one_read (called "xid") is_any body at z.0 z.2 in
     let y = one_read (called "mtype") (is_listed (0 ∷ 1 ∷ [])) body z.0.1 z.1 z.3 in
@@ -101,11 +102,11 @@ head_refused start head next body xs stop at then_at x y = rw (x, y) refl
 -- ---- calls
 
 then_word : (name : List ℕ) (b : Shape) (body : List ℕ) (at : ℕ) (z : List Item × ℕ)
-    → reading (both (word name) b) body at ≡ Ok z
+    → reading (both (word_named name) b) body at ≡ Ok z
     → (n : ℕ) × (y : List Item × ℕ) × (to : ℕ) × (reading b body to ≡ Ok y)
     × (z.0 ≡ Word name n ∷ y.0)
 then_word name b body at z e =
-    let r = both_read (word name) b body at z e in
+    let r = both_read (word_named name) b body at z e in
     let o = one_read name is_any body at r.0 r.2 in (
       o.0.0,
       r.1,
@@ -126,19 +127,19 @@ procedure_read body xs more at to e =
     bind_ok (word_at (is_listed (2 ∷ [])) RpcVersion body at)
     (λ n.
     reading
-    (word (called "prog") then word (called "vers") then word (called "proc") then last)
+    (word "prog" then word "vers" then word "proc" then last)
     body n.1 >>= λ l. Ok (Word (called "rpcvers") n.0 ∷ l.0, l.1)) (xs, to) e in
     let m =
     bind_ok
     (reading
-    (word (called "prog") then word (called "vers") then word (called "proc") then last)
+    (word "prog" then word "vers" then word "proc" then last)
     body n.0.1) (λ l. Ok (Word (called "rpcvers") n.0.0 ∷ l.0, l.1)) (xs, to) n.2 in
     let all = ok_is (Word (called "rpcvers") n.0.0 ∷ m.0.0, m.0.1) (xs, to) m.2 in
     let prog =
-    then_word (called "prog") (word (called "vers") then word (called "proc") then last) body n.0.1
+    then_word (called "prog") (word "vers" then word "proc" then last) body n.0.1
     m.0 m.1 in
     let vers =
-    then_word (called "vers") (word (called "proc") then last) body prog.2 prog.1 prog.3 in
+    then_word (called "vers") (word "proc" then last) body prog.2 prog.1 prog.3 in
     let proc = then_word (called "proc") last body vers.2 vers.1 vers.3 in
     let are : Word (called "rpcvers") n.0.0 ∷ Word (called "prog") prog.0
     ∷ Word (called "vers") vers.0 ∷ Word (called "proc") proc.0 ∷ proc.1.0 ≡ xs =

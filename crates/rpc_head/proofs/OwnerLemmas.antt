@@ -8,14 +8,15 @@ use Rattle.xdr3.specs.declared.reason.GetError.TheVariants as errors
 use Rattle.xdr3.specs.declared.reason.Reason.TheVariants.{BadEnum, Short, TooLong}
 use Rattle.xdr3.specs.Plain.{run_shape, run_size, shape_of, width}
 use Rattle.xdr3.specs.Reading.{Outcome, ◌>>=◌, number_at, reading, run_at, times_at, word_at}
-use Rattle.xdr3.specs.Shape.{◌then◌, is_any, is_at_most, nothing, word}
+use Rattle.xdr3.specs.Named.{word}
+use Rattle.xdr3.specs.Shape.{◌then◌, is_any, is_at_most, nothing}
 use Rattle.xdr3.proofs.Lemmas.Scans.ScanLemmas.{last_scans, last_stops, moves_both}
 use Rattle.rpc_head.specs.machinery.HeadEnds.{group_words, owner}
 use Rattle.rpc_head.proofs.HeadRunLemmas.{later_stop, one_short, run_accepts, run_ends, run_refuses, run_word, stops_at}
 
 -- ---- the groups
 
-fields_shape : (n : ℕ) (g : PlainField) → shape_of g ≡ word (called "group")
+fields_shape : (n : ℕ) (g : PlainField) → shape_of g ≡ word "group"
     → run_shape (replicate n g) ≡ group_words n
 fields_shape zero g is = refl
 fields_shape (suc n) g is = let more = fields_shape n g is in rw (is, more) refl
@@ -24,7 +25,7 @@ fields_size : (n : ℕ) (g : PlainField) → width g ≡ 4 → run_size (replica
 fields_size zero g is = refl
 fields_size (suc n) g is = let more = fields_size n g is in omega (arith, is, more)
 
-pub groups_shape : (n : ℕ) (g : PlainField) → n ≤ 16 → shape_of g ≡ word (called "group")
+pub groups_shape : (n : ℕ) (g : PlainField) → n ≤ 16 → shape_of g ≡ word "group"
     → run_shape (take n (replicate 16 g)) ≡ group_words n
 groups_shape n g few is = ap run_shape (take-replicate n 16 g few) ∙ fields_shape n g is
 
@@ -43,12 +44,12 @@ glue_same (Ok x) f g same =
 glue_same (Err stop) f g same = refl
 
 times_reads : (n : ℕ) (body : List ℕ) (at : ℕ)
-    → reading (group_words n) body at ≡ times_at (reading (word (called "group"))) n body at
+    → reading (group_words n) body at ≡ times_at (reading (word "group")) n body at
 unfolding reading glue
 times_reads zero body at = refl
 times_reads (suc n) body at =
-    glue_same (reading (word (called "group")) body at) (λ k. reading (group_words n) body k)
-    (λ k. times_at (reading (word (called "group"))) n body k) (λ k. times_reads n body k)
+    glue_same (reading (word "group") body at) (λ k. reading (group_words n) body k)
+    (λ k. times_at (reading (word "group")) n body k) (λ k. times_reads n body k)
 
 -- ---- the user, the group and the number of groups
 
@@ -104,9 +105,9 @@ owner_short v few within =
     stops_at owner v (short_after v.at (length v.body - v.at)) (
     elim (cases_lt (length v.body - v.at) 4) [
       | inl lt ↦ one_short (called "uid") is_any BadEnum (λ n. nothing)
-          (word (called "gid") then gids) v.body v.at (v.at + (length v.body - v.at) / 4 * 4)
+          (word "gid" then gids) v.body v.at (v.at + (length v.body - v.at) / 4 * 4)
           (omega (arith, lt, within)) (omega (arith, lt))
-      | inr le ↦ later_stop (called "uid") (word (called "gid") then gids) v.body v.at
+      | inr le ↦ later_stop (called "uid") (word "gid" then gids) v.body v.at
           (short_after v.at (length v.body - v.at)) (omega (arith, le, within)) (
           elim (cases_lt (length v.body - v.at) 8) [
             | inl lt ↦ one_short (called "gid") is_any BadEnum (λ n. nothing) gids v.body (v.at + 4)
@@ -141,7 +142,7 @@ owner_scans stands run v0 v1 v2 s0 s1 s2 e moves few a y =
     (λ (body : List ℕ).
     reading (group_words (big_number 4 (drop 8 run))) body v1.at ≡ Ok (y.0, v2.at))
     moves.same_body y.1 in
-    let parts : times_at (reading (word (called "group"))) (big_number 4 (drop 8 run)) v0.body v1.at
+    let parts : times_at (reading (word "group")) (big_number 4 (drop 8 run)) v0.body v1.at
     ≡ Ok (y.0, v2.at) = sym (times_reads (big_number 4 (drop 8 run)) v0.body v1.at) ∙ there in
     let d8 : drop 4 (drop 4 run) ≡ drop 8 run = drop-drop 4 4 run in
     let passed : Adds stands s0 s1 (Word (called "uid") (big_number 4 run)
@@ -178,7 +179,7 @@ groups_stop run v0 v1 error e moves few h = λ stop is.
     subst
     (λ (body : List ℕ). reading (group_words (big_number 4 (drop 8 run))) body v1.at ≡ Err stop)
     moves.same_body (h stop is) in
-    let cut : times_at (reading (word (called "group"))) (big_number 4 (drop 8 run)) v0.body v1.at
+    let cut : times_at (reading (word "group")) (big_number 4 (drop 8 run)) v0.body v1.at
     ≡ Err stop = sym (times_reads (big_number 4 (drop 8 run)) v0.body v1.at) ∙ there in
     rw (w.uid, w.gid, count, cut) refl
 
@@ -208,12 +209,12 @@ owner_stopped run v0 v1 (Err error) e moves few h = groups_stop run v0 v1 error 
 pub whole_scans : {V X : Type 0} (stands : V → List Item → Type 0) (v0 v1 : View) (s0 s1 : V)
     (r : Result X GetError) → OnOk r (Scans stands owner (v0, s0) (v1, s1))
     → OnOk r
-    (Scans stands (word (called "uid") then word (called "gid") then gids) (v0, s0) (v1, s1))
+    (Scans stands (word "uid" then word "gid" then gids) (v0, s0) (v1, s1))
 unfolding owner
 whole_scans stands v0 v1 s0 s1 r h = h
 
 pub whole_stops : {X : Type 0} (v0 : View) (r : Result X GetError) → IfErr r (λ e. Stops owner v0 e)
-    → IfErr r (λ e. Stops (word (called "uid") then word (called "gid") then gids) v0 e)
+    → IfErr r (λ e. Stops (word "uid" then word "gid" then gids) v0 e)
 unfolding owner
 whole_stops v0 r h = h
 

@@ -1,16 +1,17 @@
 -- How whole messages are laid out (RFC 5531, section 9).
 use Rattle.std.specs.Prelude.{ℕ, Bool, ◌==◌, ◌&&◌, if◌then◌else◌, List, [], ◌∷◌}
-use Rattle.xdr3.specs.Item.{Item, called}
+use Rattle.xdr3.specs.Item.{Item}
 use Rattle.xdr3.specs.Layout.{Layout, after, exactly, word_in}
-use Rattle.xdr3.specs.Shape.{Shape, ◌then◌, listed, nothing, word}
+use Rattle.xdr3.specs.Named.{listed, word}
+use Rattle.xdr3.specs.Shape.{Shape, ◌then◌, nothing}
 use Rattle.rpc_head.specs.declared.values.call.ProcId.{ProcId}
 use Rattle.rpc_head.specs.Shapes.{call_head, reply_head}
 
 -- rpc_msg up to its mtype: CALL (0) in a call, REPLY (1) in a reply (RFC 5531, section 9)
 unfoldable pub start_of_type : ℕ → Shape
-start_of_type mtype = word (called "xid") then listed (called "mtype") (mtype ∷ [])
+start_of_type mtype = word "xid" then listed "mtype" (mtype ∷ [])
 
--- a call's items begin with xid, mtype, rpcvers, prog, vers and proc (RFC 5531, section 9)
+-- A call begins with the words xid (0), mtype (1), rpcvers (2), prog (3), vers (4) and proc (5).
 abbrev pub procedure_in : List Item → ProcId
 procedure_in items =
     record { prog = word_in items 3; vers = word_in items 4; proc_no = word_in items 5 }
@@ -20,9 +21,8 @@ unfoldable pub call_layout : (ProcId → Layout) → Layout
 call_layout arguments =
     after (start_of_type 0 then call_head) (λ items. arguments (procedure_in items))
 
--- An accepted reply's items begin with xid, mtype, reply_stat, verf_flavor, verf_body and
--- accept_stat. Results follow if reply_stat is MSG_ACCEPTED (0) and accept_stat is SUCCESS (0) (RFC
--- 5531, section 9).
+-- An accepted reply begins with xid (0), mtype (1), reply_stat (2), verf_flavor (3), verf_body (4)
+-- and accept_stat (5). Results follow if both stats are 0: MSG_ACCEPTED and SUCCESS.
 abbrev pub has_results : List Item → Bool
 has_results items = (word_in items 2 == 0) && (word_in items 5 == 0)
 

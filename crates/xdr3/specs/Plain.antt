@@ -4,7 +4,7 @@ use Rattle.byteorder.specs.Endian.{big_number}
 use Rattle.xdr3.specs.declared.plain.PlainField.{PlainField}
 use Rattle.xdr3.specs.declared.plain.PlainField.TheVariants as fields
 use Rattle.xdr3.specs.Item.{Item, Word, Hyper}
-use Rattle.xdr3.specs.Shape.{Shape, ◌then◌, hyper, nothing, word}
+use Rattle.xdr3.specs.Shape.{Shape, ◌then◌, hyper, nothing, word_named}
 
 -- how many bytes a field has (RFC 4506, sections 4.1 and 4.5)
 abbrev pub width : PlainField → ℕ
@@ -13,7 +13,7 @@ width (fields.Hyper name) = 8
 
 -- the shape of a field
 abbrev pub shape_of : PlainField → Shape
-shape_of (fields.Word name) = word name.now
+shape_of (fields.Word name) = word_named name.now
 shape_of (fields.Hyper name) = hyper name.now
 
 -- the item that the first of the bytes spell

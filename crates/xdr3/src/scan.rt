@@ -4,10 +4,10 @@
 ghost use Rattle.std.specs.Prelude.{◌≡◌, ◌<◌, IfErr, IfOk, OnOk};
 ghost use Rattle.std.specs.Int.{from_bool};
 ghost use Rattle.xdr3.specs.Item.{Handle, Text, Var};
-ghost use Rattle.xdr3.specs.Layout.{Layout, rest};
+ghost use Rattle.xdr3.specs.Layout.{Layout, remaining};
 ghost use Rattle.xdr3.specs.Scan.{Scans, ScansLayout, ScansWord, Stops, StopsWord};
 ghost use Rattle.xdr3.specs.machinery.WindowScans.{ScansInside, StopsInside};
-ghost use Rattle.xdr3.specs.Shape.{Shape, counted, fixed, hyper, is_any, is_at_most, is_bool, is_listed, linked, opaque, optional, sized, write_verf};
+ghost use Rattle.xdr3.specs.Shape.{Shape, counted, fixed, hyper, is_any, is_at_most, is_bool, is_listed, linked, opaque, optional_named, sized, write_verf};
 
 use crate::input::Input;
 use crate::pass;
@@ -215,7 +215,8 @@ pub fn scan_rest<V: Visit>(
     visitor: &mut V,
 ) -> Result<(), GetError>
     ensures ok { OnOk result
-        (ScansLayout V.stands (rest name.now) (input.old, visitor.old) (input.new, visitor.new)) }
+        (ScansLayout V.stands (remaining name.now)
+        (input.old, visitor.old) (input.new, visitor.new)) }
     ensures memory { IfErr result (λ error. error ≡ GetError.Memory) }
 {
     let bytes = input.rest();
@@ -225,16 +226,16 @@ pub fn scan_rest<V: Visit>(
 
 /// Reads a bool, and the shape if it is true (optional data, RFC 4506, section 4.19).
 #[inline(always)]
-#[tactic(auto, using(crate::proofs::Lemmas::Scans::ScanLemmas::scans), unfolding(crate::specs::Shape::optional))]
+#[tactic(auto, using(crate::proofs::Lemmas::Scans::ScanLemmas::scans), unfolding(crate::specs::Shape::optional_named))]
 pub fn scan_optional<T: Scan, V: Visit>(
     name: &'static str,
     input: &mut Input,
     visitor: &mut V,
 ) -> Result<(), GetError>
     ensures ok { OnOk result
-        (Scans V.stands (optional name.now T.shape)
+        (Scans V.stands (optional_named name.now T.shape)
         (input.old, visitor.old) (input.new, visitor.new)) }
-    ensures err { IfErr result (λ error. Stops (optional name.now T.shape) input.old error) }
+    ensures err { IfErr result (λ error. Stops (optional_named name.now T.shape) input.old error) }
 {
     if scan_boolean(name, input, visitor)? {
         T::scan(input, visitor)

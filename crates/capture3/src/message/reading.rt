@@ -2,7 +2,7 @@
 
 ghost use Rattle.std.specs.Prelude.{◌≡◌, ◌≢◌, ◌≤◌, length, is_some, IfErr, IfOk, IfSome};
 ghost use Rattle.xdr3.specs.Visit.{body_limit};
-ghost use Rattle.procs3.specs.Names.{name_of_procedure};
+ghost use Rattle.procs3.specs.Table.{name_of_procedure};
 ghost use Rattle.xdr3.specs.Gives.{Gives};
 ghost use Rattle.xdr3.specs.declared.reason.GetError.TheVariants.{Memory};
 ghost use Rattle.xdr3.specs.Layout.{reading_layout};

@@ -103,7 +103,7 @@ fn xid_of(body: &[u8]) -> u32
 }
 
 impl<'a> CallRef<'a> {
-    ghost use Rattle.procs3.specs.Names.{name_of_procedure};
+    ghost use Rattle.procs3.specs.Table.{name_of_procedure};
     ghost use Rattle.procs3.specs.Variants.{args_name};
     ghost use Rattle.capture3.specs.MessageValues.{call_items};
 
@@ -149,7 +149,7 @@ impl<'a> CallRef<'a> {
 }
 
 impl<'a> ReplyRef<'a> {
-    ghost use Rattle.procs3.specs.Names.{name_of_procedure};
+    ghost use Rattle.procs3.specs.Table.{name_of_procedure};
     ghost use Rattle.procs3.specs.Variants.{results_name};
     ghost use Rattle.capture3.specs.MessageValues.{answered_items, is_success};
 
@@ -221,7 +221,7 @@ impl<'a> ReplyRef<'a> {
 }
 
 impl KeptCall {
-    ghost use Rattle.procs3.specs.Names.{name_of_procedure};
+    ghost use Rattle.procs3.specs.Table.{name_of_procedure};
     ghost use Rattle.procs3.specs.Variants.{args_name};
     ghost use Rattle.capture3.specs.MessageValues.{call_items};
 
@@ -237,7 +237,7 @@ impl KeptCall {
 }
 
 impl KeptReply {
-    ghost use Rattle.procs3.specs.Names.{name_of_procedure};
+    ghost use Rattle.procs3.specs.Table.{name_of_procedure};
     ghost use Rattle.procs3.specs.Variants.{results_name};
     ghost use Rattle.capture3.specs.MessageValues.{answered_items, is_success};
 

@@ -1,4 +1,4 @@
-//! Attributes, passed to a visitor as they are read (RFC 1813, sections 2.5 and 2.6).
+//! Attributes, passed to a visitor as they are read (RFC 1813).
 
 ghost use Rattle.std.specs.Prelude.{IfErr, OnOk};
 ghost use Rattle.nfs3_types.specs.machinery.AttributeTails.{after_type};
@@ -7,7 +7,7 @@ ghost use Rattle.xdr3.specs.Scan.{Scans, Stops};
 use crate::values::attributes::{Fattr, PostOpAttr, Wcc, WccAttr};
 use xdr3::{GetError, Input, PlainField, Scan, Visit, scan_listed, scan_optional, scan_plain};
 
-/// A file's attributes after its type (RFC 1813, section 2.5).
+/// A file's attributes after its type (RFC 1813).
 const ATTRIBUTES: [PlainField; 16] = [
     PlainField::Word("mode"),
     PlainField::Word("nlink"),
@@ -32,7 +32,7 @@ impl Scan for Fattr {
 
     ghost shape = { attributes };
 
-    #[tactic(auto, using(xdr3::proofs::Lemmas::Scans::ScanLemmas::scans, crate::proofs::AttributeTailLemmas::whole_attributes), unfolding(crate::specs::Shapes::file_kind, xdr3::specs::Item::called))]
+    #[tactic(auto, using(xdr3::proofs::Lemmas::Scans::ScanLemmas::scans, crate::proofs::AttributeTailLemmas::whole_attributes), unfolding(xdr3::specs::Item::called))]
     fn scan<V: Visit>(input: &mut Input, visitor: &mut V) -> Result<(), GetError> {
         scan_listed("type", &[1, 2, 3, 4, 5, 6, 7], input, visitor)?;
         scan_after_type(input, visitor)
@@ -40,7 +40,7 @@ impl Scan for Fattr {
 }
 
 #[inline]
-#[tactic(auto, using(xdr3::proofs::Lemmas::Shapes::FlatLemmas::flats), unfolding(crate::specs::machinery::AttributeTails::after_type, crate::specs::Shapes::times, crate::specs::Shapes::time, xdr3::specs::Item::called))]
+#[tactic(auto, using(xdr3::proofs::Lemmas::Shapes::FlatLemmas::flats), unfolding(crate::specs::machinery::AttributeTails::after_type, crate::specs::machinery::AttributeTails::times, crate::specs::Shapes::time_named, xdr3::specs::Item::called))]
 fn scan_after_type<V: Visit>(input: &mut Input, visitor: &mut V) -> Result<(), GetError>
     ensures ok { OnOk result
         (Scans V.stands after_type (input.old, visitor.old) (input.new, visitor.new)) }
@@ -61,7 +61,7 @@ impl Scan for PostOpAttr {
     }
 }
 
-/// A file's attributes before a change (RFC 1813, section 2.6).
+/// A file's attributes before a change (RFC 1813).
 const ATTRIBUTES_BEFORE: [PlainField; 5] = [
     PlainField::Hyper("size"),
     PlainField::Word("mtime_sec"),

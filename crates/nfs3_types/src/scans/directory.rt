@@ -1,5 +1,4 @@
-//! Names in directories, and optional handles, passed to a visitor as they are read (RFC 1813,
-//! section 2.6).
+//! Names in directories, and optional handles, passed to a visitor as they are read (RFC 1813).
 #![tactic(auto, using(xdr3::proofs::Lemmas::Scans::ScanLemmas::scans), unfolding(crate::specs::Shapes::dir_op, crate::specs::Shapes::post_op_fh, xdr3::specs::Item::called))]
 
 ghost use Rattle.std.specs.Prelude.{IfErr, OnOk};

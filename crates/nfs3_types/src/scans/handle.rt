@@ -1,4 +1,4 @@
-//! File handles, passed to a visitor as they are read (RFC 1813, section 2.5).
+//! File handles, passed to a visitor as they are read (RFC 1813).
 
 use crate::values::handle::Handle;
 use xdr3::{GetError, Input, Scan, Visit, scan_handle};

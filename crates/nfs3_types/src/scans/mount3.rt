@@ -2,15 +2,16 @@
 #![tactic(auto, using(xdr3::proofs::Lemmas::Scans::ScanLemmas::scans), unfolding(crate::specs::Shapes::flavor, crate::specs::Shapes::mount_ok, crate::specs::Shapes::mounted, crate::specs::Shapes::group, crate::specs::Shapes::export, xdr3::specs::Item::called))]
 
 ghost use Rattle.std.specs.Prelude.{IfErr, OnOk};
-ghost use Rattle.xdr3.specs.Item.{Text, called};
+ghost use Rattle.xdr3.specs.Item.{Text};
 ghost use Rattle.xdr3.specs.Scan.{Scans, Stops};
-ghost use Rattle.xdr3.specs.Shape.{linked, opaque};
+ghost use Rattle.xdr3.specs.Named.{linked};
+ghost use Rattle.xdr3.specs.Shape.{opaque};
 
 use crate::values::handle::Handle;
 use crate::values::mount3::{Export, Exports, Flavor, Group, MountList, MountOk, Mounted};
 use xdr3::{GetError, Input, Scan, Visit, scan_counted, scan_linked, scan_text, scan_word};
 
-/// Reads and visits a path of at most 1,024 bytes (RFC 1813, section 5.1.2).
+/// Reads and visits a path of at most 1,024 bytes (RFC 1813, section 5.1.4).
 #[inline]
 pub fn scan_path<V: Visit>(
     name: &'static str,
@@ -66,14 +67,14 @@ impl<'a> Scan for Mounted<'a> {
 impl<'a> Scan for MountList<'a> {
     ghost use Rattle.nfs3_types.specs.Shapes.{mounted};
 
-    ghost shape = { linked (called "entry") mounted };
+    ghost shape = { linked "entry" mounted };
 
     fn scan<V: Visit>(input: &mut Input, visitor: &mut V) -> Result<(), GetError>
         ensures ok { OnOk result
-            (Scans V.stands (linked (called "entry") mounted)
+            (Scans V.stands (linked "entry" mounted)
             (input.old, visitor.old) (input.new, visitor.new)) }
         ensures err { IfErr result
-            (λ error. Stops (linked (called "entry") mounted) input.old error) }
+            (λ error. Stops (linked "entry" mounted) input.old error) }
     {
         scan_linked::<Mounted, V>("entry", input, visitor)
     }
@@ -111,14 +112,14 @@ impl<'a> Scan for Export<'a> {
 impl<'a> Scan for Exports<'a> {
     ghost use Rattle.nfs3_types.specs.Shapes.{export};
 
-    ghost shape = { linked (called "entry") export };
+    ghost shape = { linked "entry" export };
 
     fn scan<V: Visit>(input: &mut Input, visitor: &mut V) -> Result<(), GetError>
         ensures ok { OnOk result
-            (Scans V.stands (linked (called "entry") export)
+            (Scans V.stands (linked "entry" export)
             (input.old, visitor.old) (input.new, visitor.new)) }
         ensures err { IfErr result
-            (λ error. Stops (linked (called "entry") export) input.old error) }
+            (λ error. Stops (linked "entry" export) input.old error) }
     {
         scan_linked::<Export, V>("entry", input, visitor)
     }

@@ -1,19 +1,16 @@
-//! Attributes that a caller sets, passed to a visitor as they are read (RFC 1813, sections 2.6 and
-//! 3.3.2).
-#![tactic(auto, using(xdr3::proofs::Lemmas::Scans::ScanLemmas::scans), unfolding(crate::specs::Shapes::set_word, crate::specs::machinery::AttributeTails::settable_times, xdr3::specs::Shape::optional, xdr3::specs::Item::called))]
+//! Attributes that a caller sets, passed to a visitor as they are read (RFC 1813, section 3.3.2).
+#![tactic(auto, using(xdr3::proofs::Lemmas::Scans::ScanLemmas::scans), unfolding(crate::specs::machinery::AttributeTails::settable_times, xdr3::specs::Shape::optional_named, xdr3::specs::Item::called))]
 
 ghost use Rattle.std.specs.Prelude.{IfErr, OnOk};
 ghost use Rattle.nfs3_types.specs.machinery.AttributeTails.{settable_times};
-ghost use Rattle.nfs3_types.specs.Shapes as shapes;
-ghost use Rattle.xdr3.specs.Item.{called};
 ghost use Rattle.xdr3.specs.Scan.{Scans, Stops};
-ghost use Rattle.xdr3.specs.Shape.{hyper, optional};
+ghost use Rattle.xdr3.specs.Shape.{hyper, optional_named, word_named};
 
 use crate::scans::time::{scan_time, scan_time_how};
 use crate::values::settable::{Guard, Sattr};
 use xdr3::{GetError, Input, Scan, Visit, scan_boolean, scan_hyper, scan_word};
 
-/// Reads and visits an optional word (RFC 1813, section 2.6).
+/// Reads and visits an optional word (RFC 1813).
 #[inline]
 fn scan_set_word<V: Visit>(
     set: &'static str,
@@ -22,9 +19,10 @@ fn scan_set_word<V: Visit>(
     visitor: &mut V,
 ) -> Result<(), GetError>
     ensures ok { OnOk result
-        (Scans V.stands (shapes.set_word set.now name.now)
+        (Scans V.stands (optional_named set.now (word_named name.now))
         (input.old, visitor.old) (input.new, visitor.new)) }
-    ensures err { IfErr result (λ error. Stops (shapes.set_word set.now name.now) input.old error) }
+    ensures err { IfErr result
+        (λ error. Stops (optional_named set.now (word_named name.now)) input.old error) }
 {
     if scan_boolean(set, input, visitor)? {
         scan_word(name, input, visitor)?;
@@ -32,7 +30,7 @@ fn scan_set_word<V: Visit>(
     Ok(())
 }
 
-/// Reads and visits an optional hyper (RFC 1813, section 2.6).
+/// Reads and visits an optional hyper (RFC 1813).
 #[inline]
 fn scan_set_hyper<V: Visit>(
     set: &'static str,
@@ -41,10 +39,10 @@ fn scan_set_hyper<V: Visit>(
     visitor: &mut V,
 ) -> Result<(), GetError>
     ensures ok { OnOk result
-        (Scans V.stands (optional set.now (hyper name.now))
+        (Scans V.stands (optional_named set.now (hyper name.now))
         (input.old, visitor.old) (input.new, visitor.new)) }
     ensures err { IfErr result
-        (λ error. Stops (optional set.now (hyper name.now)) input.old error) }
+        (λ error. Stops (optional_named set.now (hyper name.now)) input.old error) }
 {
     if scan_boolean(set, input, visitor)? {
         scan_hyper(name, input, visitor)
@@ -79,9 +77,9 @@ fn scan_settable_times<V: Visit>(input: &mut Input, visitor: &mut V) -> Result<(
 }
 
 impl Scan for Guard {
-    ghost use Rattle.nfs3_types.specs.Shapes.{time};
+    ghost use Rattle.nfs3_types.specs.Shapes.{guard};
 
-    ghost shape = { optional (called "check") (time (called "ctime_sec") (called "ctime_nsec")) };
+    ghost shape = { guard };
 
     fn scan<V: Visit>(input: &mut Input, visitor: &mut V) -> Result<(), GetError> {
         if scan_boolean("check", input, visitor)? {

@@ -1,4 +1,4 @@
-//! Results by their status, passed to a visitor as they are read (RFC 1813, section 2.6).
+//! Results by their status, passed to a visitor as they are read (RFC 1813).
 
 ghost use Rattle.xdr3.specs.Scan.{Scans};
 

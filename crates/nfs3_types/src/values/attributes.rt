@@ -1,12 +1,12 @@
-//! Attributes (RFC 1813, sections 2.5 and 2.6).
-#![tactic(auto, using(xdr3::proofs::Lemmas::Shapes::Walks::steps), unfolding(xdr3::specs::Reading::reading, crate::specs::Shapes::attributes, crate::specs::Shapes::post_op_attr, crate::specs::Shapes::wcc_attr, xdr3::specs::Item::called))]
+//! Attributes (RFC 1813).
+#![tactic(auto, using(xdr3::proofs::Lemmas::Shapes::Walks::steps), unfolding(xdr3::specs::Reading::reading, crate::specs::Shapes::attributes, crate::specs::machinery::AttributeTails::times, crate::specs::Shapes::post_op_attr, crate::specs::Shapes::wcc_attr, xdr3::specs::Item::called))]
 
 use crate::values::kind::FileKind;
 use crate::values::time::{Time, Times};
 use std::alloc::{AllocError, Global};
 use xdr3::{Field, GetError, Input, Visit, Walk, Xdr, get_optional, walk_fields, walk_optional};
 
-/// A file's attributes: `fattr3`, 84 bytes (RFC 1813, section 2.5). Sizes are in bytes.
+/// A file's attributes: `fattr3`, 84 bytes (RFC 1813). Sizes are in bytes.
 #[derive(Clone, Copy, Debug, PartialEq, Eq)]
 pub struct Fattr {
     pub kind: FileKind,
@@ -91,7 +91,7 @@ impl Walk for Fattr {
     }
 }
 
-/// The attributes of a file, which a reply may leave out: `post_op_attr` (RFC 1813, section 2.6).
+/// The attributes of a file, which a reply may leave out: `post_op_attr` (RFC 1813).
 #[derive(Clone, Copy, Debug, PartialEq, Eq)]
 pub struct PostOpAttr {
     pub attr: Option<Fattr>,
@@ -119,7 +119,7 @@ impl Walk for PostOpAttr {
 }
 
 /// A file's size and times before a change, by which a client sees whether another one changed the
-/// file: `wcc_attr` (RFC 1813, section 2.6).
+/// file: `wcc_attr` (RFC 1813).
 #[derive(Clone, Copy, Debug, PartialEq, Eq)]
 pub struct WccAttr {
     pub size: u64,
@@ -158,7 +158,7 @@ impl Walk for WccAttr {
 }
 
 /// A file's attributes before and after a change, each of which a reply may leave out: `wcc_data`
-/// (RFC 1813, section 2.6).
+/// (RFC 1813).
 #[derive(Clone, Copy, Debug, PartialEq, Eq)]
 pub struct Wcc {
     pub before: Option<WccAttr>,

@@ -1,11 +1,11 @@
-//! Names in directories, and optional handles (RFC 1813, section 2.6).
+//! Names in directories, and optional handles (RFC 1813).
 #![tactic(auto, unfolding(xdr3::specs::Reading::reading, crate::specs::Shapes::dir_op, crate::specs::Shapes::post_op_fh, xdr3::specs::Item::called))]
 
 use crate::values::handle::Handle;
 use std::alloc::{AllocError, Global};
 use xdr3::{Field, GetError, Input, Visit, Walk, Xdr, get_optional, walk_fields, walk_optional};
 
-/// A name in a directory: `diropargs3` (RFC 1813, section 2.6). The name borrows from the record.
+/// A name in a directory: `diropargs3` (RFC 1813). The name borrows from the record.
 #[derive(Clone, Copy)]
 pub struct DirOp<'a> {
     pub dir: Handle,
@@ -38,7 +38,7 @@ impl<'a> Walk for DirOp<'a> {
     }
 }
 
-/// A file handle, which a reply may leave out: `post_op_fh3` (RFC 1813, section 2.6).
+/// A file handle, which a reply may leave out: `post_op_fh3` (RFC 1813).
 #[derive(Clone, Copy, PartialEq, Eq)]
 pub struct PostOpFh {
     pub handle: Option<Handle>,

@@ -1,4 +1,4 @@
-//! File handles (RFC 1813, section 2.5).
+//! File handles (RFC 1813).
 
 ghost use Rattle.std.specs.Prelude.{◌≡◌, ◌≤◌, ◌<◌, ◌-◌, ◌*◌, ◌↔◌, [], ◌∷◌, IfSome, IsNone, IsTrue, Some, bytes_eq, drop, length, refl, replicate, take};
 ghost use Rattle.std.proofs.Common.{rules};
@@ -12,7 +12,7 @@ use std::cmp::Ordering;
 use std::hash::{Hash, Hasher};
 use xdr3::{Field, GetError, Input, Visit, Walk, Xdr, walk_fields};
 
-/// A file handle of 0 to 64 bytes (RFC 1813, section 2.5). Equality, order and hash are those of
+/// A file handle of 0 to 64 bytes (RFC 1813). Equality, order and hash are those of
 /// its bytes.
 #[derive(Clone, Copy, Debug)]
 pub struct Handle {

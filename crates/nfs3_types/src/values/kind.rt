@@ -1,4 +1,4 @@
-//! Types of files (RFC 1813, section 2.5).
+//! Types of files (RFC 1813).
 
 ghost use Rattle.std.specs.Prelude.{◌≡◌, ◌↔◌, IfSome, IsSome, IsTrue};
 ghost use Rattle.xdr3.specs.Reading.{word_at};
@@ -8,7 +8,7 @@ ghost use Rattle.xdr3.specs.View.{Answers, MovesOn};
 use std::alloc::{AllocError, Global};
 use xdr3::{Field, GetError, Input, Reason, Stop, Visit, Walk, Xdr, walk_fields};
 
-/// The type of a file: `ftype3`, 1 to 7 (RFC 1813, section 2.5).
+/// The type of a file: `ftype3`, 1 to 7 (RFC 1813).
 #[derive(Clone, Copy, Debug, PartialEq, Eq)]
 pub enum FileKind {
     /// `NF3REG` (1): a regular file.
@@ -79,11 +79,12 @@ impl FileKind {
 }
 
 impl<'a> Xdr<'a> for FileKind {
-    ghost use Rattle.nfs3_types.specs.Shapes.{file_kind};
+    ghost use Rattle.nfs3_types.specs.FileKind.{file_kind_words};
+    ghost use Rattle.xdr3.specs.Named.{listed};
 
-    ghost shape = { file_kind };
+    ghost shape = { listed "type" file_kind_words };
 
-    #[tactic(auto, unfolding(xdr3::specs::Reading::reading, crate::specs::Shapes::file_kind))]
+    #[tactic(auto, unfolding(xdr3::specs::Reading::reading))]
     fn get(_alloc: Global, input: &mut Input<'a>) -> Result<FileKind, GetError> {
         let value = FileKind::take(input)?;
         Ok(value)

@@ -2,9 +2,9 @@
 #![tactic(auto, using(xdr3::proofs::Lemmas::Shapes::Walks::steps), unfolding(xdr3::specs::Reading::reading, crate::specs::Shapes::mount_status, crate::specs::Shapes::flavor, crate::specs::Shapes::mounted, crate::specs::Shapes::group, xdr3::specs::Item::called))]
 
 ghost use Rattle.std.specs.Prelude.{◌≡◌, ◌↔◌, IfSome, IsSome, IsTrue};
-ghost use Rattle.xdr3.specs.Item.{called};
 ghost use Rattle.xdr3.specs.Reading.{word_at};
-ghost use Rattle.xdr3.specs.Shape.{is_listed, linked};
+ghost use Rattle.xdr3.specs.Named.{linked};
+ghost use Rattle.xdr3.specs.Shape.{is_listed};
 ghost use Rattle.xdr3.specs.View.{Answers, MovesOn};
 
 use crate::values::handle::Handle;
@@ -228,7 +228,7 @@ impl<'a> Xdr<'a> for MountList<'a> {
     ghost use Rattle.std.specs.Prelude.{true};
     ghost use Rattle.nfs3_types.specs.Shapes.{mounted};
 
-    ghost shape = { linked (called "entry") mounted };
+    ghost shape = { linked "entry" mounted };
 
     ghost owns_memory = { true };
 
@@ -323,7 +323,7 @@ impl<'a> Xdr<'a> for Exports<'a> {
     ghost use Rattle.std.specs.Prelude.{true};
     ghost use Rattle.nfs3_types.specs.Shapes.{export};
 
-    ghost shape = { linked (called "entry") export };
+    ghost shape = { linked "entry" export };
 
     ghost owns_memory = { true };
 

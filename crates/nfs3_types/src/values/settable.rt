@@ -1,21 +1,20 @@
-//! Attributes that a caller sets (RFC 1813, sections 2.6 and 3.3.2).
-#![tactic(auto, using(xdr3::proofs::Lemmas::Shapes::Walks::steps), unfolding(xdr3::specs::Reading::reading, xdr3::specs::Shape::optional, crate::specs::Shapes::set_word, xdr3::specs::Item::called))]
+//! Attributes that a caller sets (RFC 1813, section 3.3.2).
+#![tactic(auto, using(xdr3::proofs::Lemmas::Shapes::Walks::steps), unfolding(xdr3::specs::Reading::reading, xdr3::specs::Shape::optional_named, crate::specs::machinery::AttributeTails::set_word, xdr3::specs::Item::called))]
 
 ghost use Rattle.std.specs.Prelude.{ℕ, List, OnErr, OnOk};
-ghost use Rattle.xdr3.specs.Item.{called};
 ghost use Rattle.xdr3.specs.Reading.{reading};
-ghost use Rattle.xdr3.specs.Shape.{hyper, optional};
+ghost use Rattle.xdr3.specs.Shape.{hyper, optional_named};
 ghost use Rattle.xdr3.specs.View.{Answers, MovesOn};
 ghost use Rattle.xdr3.specs.Visit.{Adds, AddsSome, AreWithinLimit};
-ghost use Rattle.nfs3_types.specs.Items.{set_hyper_items, set_word_items};
+ghost use Rattle.nfs3_types.specs.Items.{set_hyper_items, set_word_items, settable_items};
+ghost use Rattle.nfs3_types.specs.machinery.AttributeTails.{set_word, settable_parts};
 ghost use Rattle.nfs3_types.specs.machinery.SettableItems.{size_and_times_items};
-ghost use Rattle.nfs3_types.specs.Shapes as shapes;
 
 use crate::values::time::{Time, TimeHow};
 use std::alloc::{AllocError, Global};
 use xdr3::{Field, GetError, Input, Stop, Visit, Walk, Xdr, walk_fields};
 
-/// Attributes to be set, each of them optional: `sattr3` (RFC 1813, section 2.6).
+/// Attributes to be set, each of them optional: `sattr3` (RFC 1813).
 #[derive(Clone, Copy, Debug, PartialEq, Eq)]
 pub struct Sattr {
     pub mode: Option<u32>,
@@ -31,23 +30,34 @@ impl<'a> Xdr<'a> for Sattr {
 
     ghost shape = { settable };
 
-    #[tactic(auto, unfolding(xdr3::specs::Reading::reading, crate::specs::Shapes::settable, xdr3::specs::Item::followed_by))]
+    #[tactic(auto, unfolding(crate::specs::Shapes::settable, crate::specs::machinery::AttributeTails::set_word, crate::specs::machinery::AttributeTails::settable_parts))]
     fn get(_alloc: Global, input: &mut Input<'a>) -> Result<Sattr, GetError> {
-        let mode = optional_word(input)?;
-        let uid = optional_word(input)?;
-        let gid = optional_word(input)?;
-        let size = optional_hyper(input)?;
-        let atime = TimeHow::take(input)?;
-        let mtime = TimeHow::take(input)?;
-        Ok(Sattr {
-            mode,
-            uid,
-            gid,
-            size,
-            atime,
-            mtime,
-        })
+        let value = take_parts(input)?;
+        Ok(value)
     }
+}
+
+/// Reads the attributes part by part.
+#[tactic(auto, unfolding(xdr3::specs::Reading::reading, crate::specs::machinery::AttributeTails::settable_parts, xdr3::specs::Item::followed_by))]
+fn take_parts(input: &mut Input) -> Result<Sattr, Stop>
+    ensures read { Answers settable_items result input.new.at
+        (reading settable_parts input.old.body input.old.at) }
+    ensures moves { MovesOn input.old input.new }
+{
+    let mode = optional_word(input)?;
+    let uid = optional_word(input)?;
+    let gid = optional_word(input)?;
+    let size = optional_hyper(input)?;
+    let atime = TimeHow::take(input)?;
+    let mtime = TimeHow::take(input)?;
+    Ok(Sattr {
+        mode,
+        uid,
+        gid,
+        size,
+        atime,
+        mtime,
+    })
 }
 
 impl Walk for Sattr {
@@ -84,7 +94,7 @@ fn walk_size_and_times<V: Visit>(attr: &Sattr, visitor: &mut V) -> Result<(), Al
 fn optional_word(input: &mut Input) -> Result<Option<u32>, Stop>
     ensures read { (set name : List ℕ)
         → Answers (set_word_items set name) result input.new.at
-        (reading (shapes.set_word set name) input.old.body input.old.at) }
+        (reading (set_word set name) input.old.body input.old.at) }
     ensures moves { MovesOn input.old input.new }
 {
     if input.boolean()? {
@@ -99,7 +109,7 @@ fn optional_word(input: &mut Input) -> Result<Option<u32>, Stop>
 fn optional_hyper(input: &mut Input) -> Result<Option<u64>, Stop>
     ensures read { (set name : List ℕ)
         → Answers (set_hyper_items set name) result input.new.at
-        (reading (optional set (hyper name)) input.old.body input.old.at) }
+        (reading (optional_named set (hyper name)) input.old.body input.old.at) }
     ensures moves { MovesOn input.old input.new }
 {
     if input.boolean()? {
@@ -154,9 +164,9 @@ pub struct Guard {
 }
 
 impl<'a> Xdr<'a> for Guard {
-    ghost use Rattle.nfs3_types.specs.Shapes.{time};
+    ghost use Rattle.nfs3_types.specs.Shapes.{guard};
 
-    ghost shape = { optional (called "check") (time (called "ctime_sec") (called "ctime_nsec")) };
+    ghost shape = { guard };
 
     fn get(_alloc: Global, input: &mut Input<'a>) -> Result<Guard, GetError> {
         if input.boolean()? {

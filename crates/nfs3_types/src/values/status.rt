@@ -1,4 +1,4 @@
-//! Statuses, and results that depend on them (RFC 1813, section 2.6).
+//! Statuses, and results that depend on them (RFC 1813).
 #![tactic(auto, using(xdr3::proofs::Lemmas::Shapes::Walks::steps), unfolding(xdr3::specs::Reading::reading, crate::specs::Shapes::status, xdr3::specs::Item::called))]
 
 ghost use Rattle.std.specs.Prelude.{◌≡◌, ◌≢◌, ◌↔◌, IfSome, IsSome, IsTrue};
@@ -9,7 +9,7 @@ ghost use Rattle.xdr3.specs.View.{Answers, MovesOn};
 use std::alloc::{AllocError, Global};
 use xdr3::{Field, GetError, Input, Reason, Stop, Visit, Walk, Xdr, walk_fields};
 
-/// The status of a call of an NFS procedure: `nfsstat3`, one of 29 numbers (RFC 1813, section 2.6).
+/// The status of a call of an NFS procedure: `nfsstat3`, one of 29 numbers (RFC 1813).
 #[derive(Clone, Copy, Debug, PartialEq, Eq)]
 pub enum Status {
     /// `NFS3_OK` (0): the call succeeded.
@@ -18,7 +18,7 @@ pub enum Status {
     Failed(Failure),
 }
 
-/// Why a call of an NFS procedure failed: an `nfsstat3` other than 0 (RFC 1813, section 2.6).
+/// Why a call of an NFS procedure failed: an `nfsstat3` other than 0 (RFC 1813).
 #[derive(Clone, Copy, Debug, PartialEq, Eq)]
 pub enum Failure {
     /// `NFS3ERR_PERM` (1): the caller is not the owner.
@@ -227,12 +227,12 @@ pub enum Res<T, F> {
 }
 
 impl<'a, T: Xdr<'a> + Drop, F: Xdr<'a> + Drop> Xdr<'a> for Res<T, F> {
-    ghost use Rattle.std.specs.Prelude.{true};
+    ghost use Rattle.std.specs.Prelude.{◌||◌};
     ghost use Rattle.nfs3_types.specs.Shapes.{results};
 
     ghost shape = { results T.shape F.shape };
 
-    ghost owns_memory = { true };
+    ghost owns_memory = { T.owns_memory || F.owns_memory };
 
     #[tactic(auto, unfolding(xdr3::specs::Reading::reading, crate::specs::Shapes::results, xdr3::specs::Item::followed_by))]
     fn get(alloc: Global, input: &mut Input<'a>) -> Result<Res<T, F>, GetError> {

@@ -1,4 +1,4 @@
-//! Times (RFC 1813, sections 2.5 and 2.6). Their items are named after the time that they are.
+//! Times (RFC 1813). Their items are named after the time that they are.
 
 ghost use Rattle.std.specs.Prelude.{ℕ, List, OnErr, OnOk};
 ghost use Rattle.xdr3.specs.Reading.{reading};
@@ -8,7 +8,7 @@ ghost use Rattle.xdr3.specs.Visit.{Adds, AddsSome, AreWithinLimit};
 use std::alloc::AllocError;
 use xdr3::{Field, Input, Stop, Visit, walk_fields};
 
-/// A time: seconds and nanoseconds since 1970-01-01 00:00 UTC, `nfstime3` (RFC 1813, section 2.5).
+/// A time: seconds and nanoseconds since 1970-01-01 00:00 UTC, `nfstime3` (RFC 1813).
 #[derive(Clone, Copy, Debug, PartialEq, Eq)]
 pub struct Time {
     pub sec: u32,
@@ -16,15 +16,15 @@ pub struct Time {
 }
 
 impl Time {
-    ghost use Rattle.nfs3_types.specs.Shapes.{time};
+    ghost use Rattle.nfs3_types.specs.Shapes.{time_named};
     ghost use Rattle.nfs3_types.specs.Times.{time_items};
 
     /// Reads a time from the next two words. `Short` at the one that is not whole.
-    #[tactic(auto, unfolding(xdr3::specs::Reading::reading, crate::specs::Shapes::time))]
+    #[tactic(auto, unfolding(xdr3::specs::Reading::reading, crate::specs::Shapes::time_named))]
     pub fn take(input: &mut Input) -> Result<Time, Stop>
         ensures read { (sec nsec : List ℕ)
             → Answers (time_items sec nsec) result input.new.at
-            (reading (time sec nsec) input.old.body input.old.at) }
+            (reading (time_named sec nsec) input.old.body input.old.at) }
         ensures moves { MovesOn input.old input.new }
     {
         let sec = input.word()?;
@@ -33,7 +33,7 @@ impl Time {
     }
 }
 
-/// How a time is set (RFC 1813, section 2.6): not at all (0), to the server's time (1), or to the
+/// How a time is set (RFC 1813): not at all (0), to the server's time (1), or to the
 /// time that the caller gives (2).
 #[derive(Clone, Copy, Debug, PartialEq, Eq)]
 pub enum TimeHow {
@@ -43,16 +43,16 @@ pub enum TimeHow {
 }
 
 impl TimeHow {
-    ghost use Rattle.nfs3_types.specs.Shapes.{time_how};
+    ghost use Rattle.nfs3_types.specs.Shapes.{time_how_named};
     ghost use Rattle.nfs3_types.specs.Times.{time_how_items};
 
     /// Reads a word, and a time if it is 2. `BadEnum` at a word over 2, `Short` at a word that is
     /// not whole.
-    #[tactic(auto, unfolding(xdr3::specs::Reading::reading, crate::specs::Shapes::time_how))]
+    #[tactic(auto, unfolding(xdr3::specs::Reading::reading, crate::specs::Shapes::time_how_named))]
     pub fn take(input: &mut Input) -> Result<TimeHow, Stop>
         ensures read { (name sec nsec : List ℕ)
             → Answers (time_how_items name sec nsec) result input.new.at
-            (reading (time_how name sec nsec) input.old.body input.old.at) }
+            (reading (time_how_named name sec nsec) input.old.body input.old.at) }
         ensures moves { MovesOn input.old input.new }
     {
         match input.listed(&[0, 1, 2])? {
@@ -103,11 +103,11 @@ pub(crate) struct Times {
 }
 
 impl Times {
-    ghost use Rattle.nfs3_types.specs.Shapes.{times};
+    ghost use Rattle.nfs3_types.specs.machinery.AttributeTails.{times};
     ghost use Rattle.nfs3_types.specs.machinery.TimesItems.{times_items};
 
     /// Reads the times from the next six words. `Short` at the one that is not whole.
-    #[tactic(auto, unfolding(xdr3::specs::Reading::reading, crate::specs::Shapes::times))]
+    #[tactic(auto, unfolding(xdr3::specs::Reading::reading, crate::specs::machinery::AttributeTails::times))]
     pub fn take(input: &mut Input) -> Result<Times, Stop>
         ensures read { Answers times_items result input.new.at
             (reading times input.old.body input.old.at) }

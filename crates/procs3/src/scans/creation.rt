@@ -1,6 +1,6 @@
 //! What `values::creation` has, passed to a visitor as it is read: creation of files and
 //! directories (RFC 1813, sections 3.3.8 to 3.3.11).
-#![tactic(auto, using(xdr3::proofs::Lemmas::Scans::ScanLemmas::scans), unfolding(crate::specs::Shapes::create_how, crate::specs::Shapes::mknod_what, xdr3::specs::Item::called))]
+#![tactic(auto, using(xdr3::proofs::Lemmas::Scans::ScanLemmas::scans), unfolding(crate::specs::Shapes::create_how, crate::specs::Shapes::device, crate::specs::Shapes::mknod_what, xdr3::specs::Item::called))]
 
 ghost use Rattle.procs3.specs.Shapes.{create_how, mknod_what};
 ghost use Rattle.xdr3.specs.Scan.{Scans};

@@ -2,9 +2,8 @@
 //! sections 3.3.3 and 3.3.14 to 3.3.17).
 #![tactic(auto, using(xdr3::proofs::Lemmas::Scans::ScanLemmas::scans), unfolding(xdr3::specs::Item::called))]
 
-ghost use Rattle.xdr3.specs.Item.{called};
+ghost use Rattle.xdr3.specs.Named.{linked};
 ghost use Rattle.xdr3.specs.Scan.{Scans};
-ghost use Rattle.xdr3.specs.Shape.{linked};
 
 use crate::scans::both::Both;
 use crate::scans::items::{Cookie, CookieVerf, Count, DirCount, Eof, FileId, FileName, MaxCount};
@@ -37,7 +36,7 @@ type Entry = Both<FileId, Both<FileName, Cookie>>;
 pub(crate) struct EntryList<E>(PhantomData<E>);
 
 impl<E: Scan> Scan for EntryList<E> {
-    ghost shape = { linked (called "entry") E.shape };
+    ghost shape = { linked "entry" E.shape };
 
     #[inline(always)]
     fn scan<V: Visit>(input: &mut Input, visitor: &mut V) -> Result<(), GetError> {
@@ -55,7 +54,7 @@ pub(crate) type ReadDirPlusArgs = Both<Handle, Both<Cookie, Both<CookieVerf, Dir
 type DirCounts = Both<DirCount, MaxCount>;
 
 /// entryplus3 (RFC 1813, section 3.3.17).
-type EntryPlus = Both<FileId, Both<FileName, Both<Cookie, Both<PostOpAttr, PostOpFh>>>>;
+type EntryPlus = Both<Entry, Both<PostOpAttr, PostOpFh>>;
 
 /// READDIRPLUS3resok (RFC 1813, section 3.3.17).
 pub(crate) type ReadDirPlusOk = Both<PostOpAttr, Both<CookieVerf, Both<EntryList<EntryPlus>, Eof>>>;

@@ -1,10 +1,10 @@
 //! What `values::file_system` has, passed to a visitor as it is read: file systems (RFC 1813,
 //! sections 3.3.18 to 3.3.20).
-#![tactic(auto, using(xdr3::proofs::Lemmas::Shapes::FlatLemmas::flats), unfolding(nfs3_types::specs::Shapes::time, xdr3::specs::Item::called))]
+#![tactic(auto, using(xdr3::proofs::Lemmas::Shapes::FlatLemmas::flats), unfolding(nfs3_types::specs::Shapes::time_named, xdr3::specs::Item::called))]
 
-ghost use Rattle.xdr3.specs.Item.{called};
 ghost use Rattle.nfs3_types.specs.Shapes.{time};
-ghost use Rattle.xdr3.specs.Shape.{◌then◌, hyper, word};
+ghost use Rattle.xdr3.specs.Named.{hyper, word};
+ghost use Rattle.xdr3.specs.Shape.{◌then◌};
 
 use crate::scans::both::Both;
 use crate::scans::items::{
@@ -31,9 +31,9 @@ const FSSTAT: [PlainField; 7] = [
 ];
 
 impl Scan for FsStatNumbers {
-    ghost shape = { hyper (called "tbytes") then hyper (called "fbytes")
-        then hyper (called "abytes") then hyper (called "tfiles") then hyper (called "ffiles")
-        then hyper (called "afiles") then word (called "invarsec") };
+    ghost shape = { hyper "tbytes" then hyper "fbytes"
+        then hyper "abytes" then hyper "tfiles" then hyper "ffiles"
+        then hyper "afiles" then word "invarsec" };
 
     #[inline]
     fn scan<V: Visit>(input: &mut Input, visitor: &mut V) -> Result<(), GetError> {
@@ -64,10 +64,10 @@ const FSINFO: [PlainField; 11] = [
 ];
 
 impl Scan for FsInfoNumbers {
-    ghost shape = { word (called "rtmax") then word (called "rtpref") then word (called "rtmult")
-        then word (called "wtmax") then word (called "wtpref") then word (called "wtmult")
-        then word (called "dtpref") then hyper (called "maxfilesize")
-        then time (called "delta_sec") (called "delta_nsec") then word (called "properties") };
+    ghost shape = { word "rtmax" then word "rtpref" then word "rtmult"
+        then word "wtmax" then word "wtpref" then word "wtmult"
+        then word "dtpref" then hyper "maxfilesize"
+        then time "delta_sec" "delta_nsec" then word "properties" };
 
     #[inline]
     fn scan<V: Visit>(input: &mut Input, visitor: &mut V) -> Result<(), GetError> {

@@ -1,8 +1,8 @@
 //! What `values::files` has, passed to a visitor as it is read: files (RFC 1813,
 //! sections 3.3.2 to 3.3.7 and 3.3.21).
 
-ghost use Rattle.xdr3.specs.Item.{called};
-ghost use Rattle.xdr3.specs.Shape.{◌then◌, hyper, word};
+ghost use Rattle.xdr3.specs.Named.{hyper, word};
+ghost use Rattle.xdr3.specs.Shape.{◌then◌};
 
 use crate::scans::both::Both;
 use crate::scans::items::{
@@ -33,7 +33,7 @@ pub(crate) struct Range;
 const RANGE: [PlainField; 2] = [PlainField::Hyper("offset"), PlainField::Word("count")];
 
 impl Scan for Range {
-    ghost shape = { hyper (called "offset") then word (called "count") };
+    ghost shape = { hyper "offset" then word "count" };
 
     #[inline]
     #[tactic(auto, using(xdr3::proofs::Lemmas::Shapes::FlatLemmas::flats), unfolding(xdr3::specs::Item::called))]

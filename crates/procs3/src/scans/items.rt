@@ -5,9 +5,11 @@
 ghost use Rattle.std.specs.Prelude.{IfErr, OnOk};
 ghost use Rattle.nfs3_types.specs.Shapes.{no_maximum};
 ghost use Rattle.nfs3_types.specs.Stable.{stable_words};
-ghost use Rattle.xdr3.specs.Item.{Text, Var, called};
+ghost use Rattle.xdr3.specs.Item.{Text, Var};
 ghost use Rattle.xdr3.specs.Scan.{Scans, Stops};
-ghost use Rattle.xdr3.specs.Shape.{boolean, fixed, hyper, listed, opaque, word, write_verf};
+ghost use Rattle.xdr3.specs.Named.{boolean, fixed, hyper, listed, opaque, word, write_verf};
+ghost use Rattle.xdr3.specs.Shape.{choose, is_bool, is_listed, nothing, word_named};
+ghost use Rattle.xdr3.specs.declared.reason.Reason.TheVariants.{BadBool, BadEnum};
 
 use xdr3::{
     GetError, Input, Scan, Visit, scan_boolean, scan_fixed, scan_hyper, scan_listed, scan_text,
@@ -22,8 +24,8 @@ fn pass_word<V: Visit>(
     visitor: &mut V,
 ) -> Result<(), GetError>
     ensures ok { OnOk result
-        (Scans V.stands (word name.now) (input.old, visitor.old) (input.new, visitor.new)) }
-    ensures err { IfErr result (λ error. Stops (word name.now) input.old error) }
+        (Scans V.stands (word_named name.now) (input.old, visitor.old) (input.new, visitor.new)) }
+    ensures err { IfErr result (λ error. Stops (word_named name.now) input.old error) }
 {
     scan_word(name, input, visitor)?;
     Ok(())
@@ -37,8 +39,10 @@ fn pass_boolean<V: Visit>(
     visitor: &mut V,
 ) -> Result<(), GetError>
     ensures ok { OnOk result
-        (Scans V.stands (boolean name.now) (input.old, visitor.old) (input.new, visitor.new)) }
-    ensures err { IfErr result (λ error. Stops (boolean name.now) input.old error) }
+        (Scans V.stands (choose name.now is_bool BadBool (λ n. nothing))
+        (input.old, visitor.old) (input.new, visitor.new)) }
+    ensures err { IfErr result
+        (λ error. Stops (choose name.now is_bool BadBool (λ n. nothing)) input.old error) }
 {
     scan_boolean(name, input, visitor)?;
     Ok(())
@@ -52,9 +56,11 @@ fn pass_stable<V: Visit>(
     visitor: &mut V,
 ) -> Result<(), GetError>
     ensures ok { OnOk result
-        (Scans V.stands (listed name.now stable_words)
+        (Scans V.stands (choose name.now (is_listed stable_words) BadEnum (λ n. nothing))
         (input.old, visitor.old) (input.new, visitor.new)) }
-    ensures err { IfErr result (λ error. Stops (listed name.now stable_words) input.old error) }
+    ensures err { IfErr result
+        (λ error. Stops (choose name.now (is_listed stable_words) BadEnum (λ n. nothing))
+        input.old error) }
 {
     scan_listed(name, &[0, 1, 2], input, visitor)?;
     Ok(())
@@ -64,7 +70,7 @@ fn pass_stable<V: Visit>(
 pub(crate) struct Access;
 
 impl Scan for Access {
-    ghost shape = { word (called "access") };
+    ghost shape = { word "access" };
 
     #[inline]
     fn scan<V: Visit>(input: &mut Input, visitor: &mut V) -> Result<(), GetError> {
@@ -72,11 +78,11 @@ impl Scan for Access {
     }
 }
 
-/// nfspath3: what a symbolic link contains (RFC 1813, sections 2.5 and 3.3.5).
+/// nfspath3: what a symbolic link contains (RFC 1813, section 3.3.5).
 pub(crate) struct Path;
 
 impl Scan for Path {
-    ghost shape = { opaque Text (called "path") no_maximum };
+    ghost shape = { opaque Text "path" no_maximum };
 
     #[inline]
     fn scan<V: Visit>(input: &mut Input, visitor: &mut V) -> Result<(), GetError> {
@@ -84,11 +90,11 @@ impl Scan for Path {
     }
 }
 
-/// offset3: where data is written (RFC 1813, sections 2.5 and 3.3.7).
+/// offset3: where data is written (RFC 1813, section 3.3.7).
 pub(crate) struct Offset;
 
 impl Scan for Offset {
-    ghost shape = { hyper (called "offset") };
+    ghost shape = { hyper "offset" };
 
     #[inline]
     fn scan<V: Visit>(input: &mut Input, visitor: &mut V) -> Result<(), GetError> {
@@ -96,11 +102,11 @@ impl Scan for Offset {
     }
 }
 
-/// count3: a number of bytes (RFC 1813, section 2.5).
+/// count3: a number of bytes (RFC 1813).
 pub(crate) struct Count;
 
 impl Scan for Count {
-    ghost shape = { word (called "count") };
+    ghost shape = { word "count" };
 
     #[inline]
     fn scan<V: Visit>(input: &mut Input, visitor: &mut V) -> Result<(), GetError> {
@@ -112,7 +118,7 @@ impl Scan for Count {
 pub(crate) struct Eof;
 
 impl Scan for Eof {
-    ghost shape = { boolean (called "eof") };
+    ghost shape = { boolean "eof" };
 
     #[inline]
     fn scan<V: Visit>(input: &mut Input, visitor: &mut V) -> Result<(), GetError> {
@@ -124,7 +130,7 @@ impl Scan for Eof {
 pub(crate) struct Data;
 
 impl Scan for Data {
-    ghost shape = { opaque Var (called "data") no_maximum };
+    ghost shape = { opaque Var "data" no_maximum };
 
     #[inline]
     fn scan<V: Visit>(input: &mut Input, visitor: &mut V) -> Result<(), GetError> {
@@ -136,7 +142,7 @@ impl Scan for Data {
 pub(crate) struct StableHow;
 
 impl Scan for StableHow {
-    ghost shape = { listed (called "stable") stable_words };
+    ghost shape = { listed "stable" stable_words };
 
     #[inline]
     fn scan<V: Visit>(input: &mut Input, visitor: &mut V) -> Result<(), GetError> {
@@ -148,7 +154,7 @@ impl Scan for StableHow {
 pub(crate) struct Committed;
 
 impl Scan for Committed {
-    ghost shape = { listed (called "committed") stable_words };
+    ghost shape = { listed "committed" stable_words };
 
     #[inline]
     fn scan<V: Visit>(input: &mut Input, visitor: &mut V) -> Result<(), GetError> {
@@ -160,7 +166,7 @@ impl Scan for Committed {
 pub(crate) struct WriteVerf;
 
 impl Scan for WriteVerf {
-    ghost shape = { write_verf (called "verf") };
+    ghost shape = { write_verf "verf" };
 
     #[inline]
     fn scan<V: Visit>(input: &mut Input, visitor: &mut V) -> Result<(), GetError> {
@@ -172,7 +178,7 @@ impl Scan for WriteVerf {
 pub(crate) struct CreateVerf;
 
 impl Scan for CreateVerf {
-    ghost shape = { fixed (called "createverf") };
+    ghost shape = { fixed "createverf" };
 
     #[inline]
     fn scan<V: Visit>(input: &mut Input, visitor: &mut V) -> Result<(), GetError> {
@@ -180,11 +186,11 @@ impl Scan for CreateVerf {
     }
 }
 
-/// fileid3: the number of a file (RFC 1813, sections 2.5 and 3.3.16).
+/// fileid3: the number of a file (RFC 1813, section 3.3.16).
 pub(crate) struct FileId;
 
 impl Scan for FileId {
-    ghost shape = { hyper (called "fileid") };
+    ghost shape = { hyper "fileid" };
 
     #[inline]
     fn scan<V: Visit>(input: &mut Input, visitor: &mut V) -> Result<(), GetError> {
@@ -192,11 +198,11 @@ impl Scan for FileId {
     }
 }
 
-/// filename3 (RFC 1813, sections 2.5 and 3.3.16).
+/// filename3 (RFC 1813, section 3.3.16).
 pub(crate) struct FileName;
 
 impl Scan for FileName {
-    ghost shape = { opaque Text (called "name") no_maximum };
+    ghost shape = { opaque Text "name" no_maximum };
 
     #[inline]
     fn scan<V: Visit>(input: &mut Input, visitor: &mut V) -> Result<(), GetError> {
@@ -208,7 +214,7 @@ impl Scan for FileName {
 pub(crate) struct Cookie;
 
 impl Scan for Cookie {
-    ghost shape = { hyper (called "cookie") };
+    ghost shape = { hyper "cookie" };
 
     #[inline]
     fn scan<V: Visit>(input: &mut Input, visitor: &mut V) -> Result<(), GetError> {
@@ -220,7 +226,7 @@ impl Scan for Cookie {
 pub(crate) struct CookieVerf;
 
 impl Scan for CookieVerf {
-    ghost shape = { fixed (called "cookieverf") };
+    ghost shape = { fixed "cookieverf" };
 
     #[inline]
     fn scan<V: Visit>(input: &mut Input, visitor: &mut V) -> Result<(), GetError> {
@@ -232,7 +238,7 @@ impl Scan for CookieVerf {
 pub(crate) struct LinkMax;
 
 impl Scan for LinkMax {
-    ghost shape = { word (called "linkmax") };
+    ghost shape = { word "linkmax" };
 
     #[inline]
     fn scan<V: Visit>(input: &mut Input, visitor: &mut V) -> Result<(), GetError> {
@@ -244,7 +250,7 @@ impl Scan for LinkMax {
 pub(crate) struct NameMax;
 
 impl Scan for NameMax {
-    ghost shape = { word (called "name_max") };
+    ghost shape = { word "name_max" };
 
     #[inline]
     fn scan<V: Visit>(input: &mut Input, visitor: &mut V) -> Result<(), GetError> {
@@ -256,7 +262,7 @@ impl Scan for NameMax {
 pub(crate) struct NoTrunc;
 
 impl Scan for NoTrunc {
-    ghost shape = { boolean (called "no_trunc") };
+    ghost shape = { boolean "no_trunc" };
 
     #[inline]
     fn scan<V: Visit>(input: &mut Input, visitor: &mut V) -> Result<(), GetError> {
@@ -268,7 +274,7 @@ impl Scan for NoTrunc {
 pub(crate) struct ChownRestricted;
 
 impl Scan for ChownRestricted {
-    ghost shape = { boolean (called "chown_restricted") };
+    ghost shape = { boolean "chown_restricted" };
 
     #[inline]
     fn scan<V: Visit>(input: &mut Input, visitor: &mut V) -> Result<(), GetError> {
@@ -280,7 +286,7 @@ impl Scan for ChownRestricted {
 pub(crate) struct CaseInsensitive;
 
 impl Scan for CaseInsensitive {
-    ghost shape = { boolean (called "case_insensitive") };
+    ghost shape = { boolean "case_insensitive" };
 
     #[inline]
     fn scan<V: Visit>(input: &mut Input, visitor: &mut V) -> Result<(), GetError> {
@@ -292,7 +298,7 @@ impl Scan for CaseInsensitive {
 pub(crate) struct CasePreserving;
 
 impl Scan for CasePreserving {
-    ghost shape = { boolean (called "case_preserving") };
+    ghost shape = { boolean "case_preserving" };
 
     #[inline]
     fn scan<V: Visit>(input: &mut Input, visitor: &mut V) -> Result<(), GetError> {
@@ -304,7 +310,7 @@ impl Scan for CasePreserving {
 pub(crate) struct DirCount;
 
 impl Scan for DirCount {
-    ghost shape = { word (called "dircount") };
+    ghost shape = { word "dircount" };
 
     #[inline]
     fn scan<V: Visit>(input: &mut Input, visitor: &mut V) -> Result<(), GetError> {
@@ -316,7 +322,7 @@ impl Scan for DirCount {
 pub(crate) struct MaxCount;
 
 impl Scan for MaxCount {
-    ghost shape = { word (called "maxcount") };
+    ghost shape = { word "maxcount" };
 
     #[inline]
     fn scan<V: Visit>(input: &mut Input, visitor: &mut V) -> Result<(), GetError> {
@@ -328,7 +334,7 @@ impl Scan for MaxCount {
 pub(crate) struct Spec1;
 
 impl Scan for Spec1 {
-    ghost shape = { word (called "spec1") };
+    ghost shape = { word "spec1" };
 
     #[inline]
     fn scan<V: Visit>(input: &mut Input, visitor: &mut V) -> Result<(), GetError> {
@@ -340,7 +346,7 @@ impl Scan for Spec1 {
 pub(crate) struct Spec2;
 
 impl Scan for Spec2 {
-    ghost shape = { word (called "spec2") };
+    ghost shape = { word "spec2" };
 
     #[inline]
     fn scan<V: Visit>(input: &mut Input, visitor: &mut V) -> Result<(), GetError> {

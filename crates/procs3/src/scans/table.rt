@@ -52,10 +52,10 @@ fn scan_nfs_arguments<V: Visit>(
     visitor: &mut V,
 ) -> Result<(), GetError>
     ensures ok { OnOk result
-        (ScansLayout V.stands (layout_in (λ row. row.0) nfs_procedures proc_no)
+        (ScansLayout V.stands (layout_in (λ row. row.1) nfs_procedures proc_no)
         (input.old, visitor.old) (input.new, visitor.new)) }
     ensures err { IfErr result
-        (λ error. StopsLayout (layout_in (λ row. row.0) nfs_procedures proc_no) input.old error) }
+        (λ error. StopsLayout (layout_in (λ row. row.1) nfs_procedures proc_no) input.old error) }
 {
     match proc_no {
         0 => Void::scan(input, visitor),
@@ -78,10 +78,10 @@ fn scan_nfs_arguments_from_create<V: Visit>(
 ) -> Result<(), GetError>
     requires { 8 ≤ proc_no }
     ensures ok { OnOk result
-        (ScansLayout V.stands (layout_in (λ row. row.0) nfs_procedures proc_no)
+        (ScansLayout V.stands (layout_in (λ row. row.1) nfs_procedures proc_no)
         (input.old, visitor.old) (input.new, visitor.new)) }
     ensures err { IfErr result
-        (λ error. StopsLayout (layout_in (λ row. row.0) nfs_procedures proc_no) input.old error) }
+        (λ error. StopsLayout (layout_in (λ row. row.1) nfs_procedures proc_no) input.old error) }
 {
     match proc_no {
         8 => CreateArgs::scan(input, visitor),
@@ -103,10 +103,10 @@ fn scan_nfs_arguments_from_link<V: Visit>(
 ) -> Result<(), GetError>
     requires { 15 ≤ proc_no }
     ensures ok { OnOk result
-        (ScansLayout V.stands (layout_in (λ row. row.0) nfs_procedures proc_no)
+        (ScansLayout V.stands (layout_in (λ row. row.1) nfs_procedures proc_no)
         (input.old, visitor.old) (input.new, visitor.new)) }
     ensures err { IfErr result
-        (λ error. StopsLayout (layout_in (λ row. row.0) nfs_procedures proc_no) input.old error) }
+        (λ error. StopsLayout (layout_in (λ row. row.1) nfs_procedures proc_no) input.old error) }
 {
     match proc_no {
         15 => LinkArgs::scan(input, visitor),
@@ -127,10 +127,10 @@ fn scan_mount_arguments<V: Visit>(
     visitor: &mut V,
 ) -> Result<(), GetError>
     ensures ok { OnOk result
-        (ScansLayout V.stands (layout_in (λ row. row.0) mount_procedures proc_no)
+        (ScansLayout V.stands (layout_in (λ row. row.1) mount_procedures proc_no)
         (input.old, visitor.old) (input.new, visitor.new)) }
     ensures err { IfErr result
-        (λ error. StopsLayout (layout_in (λ row. row.0) mount_procedures proc_no) input.old error) }
+        (λ error. StopsLayout (layout_in (λ row. row.1) mount_procedures proc_no) input.old error) }
 {
     match proc_no {
         0 => Void::scan(input, visitor),
@@ -174,10 +174,10 @@ fn scan_nfs_results<V: Visit>(
     visitor: &mut V,
 ) -> Result<(), GetError>
     ensures ok { OnOk result
-        (ScansLayout V.stands (layout_in (λ row. row.1) nfs_procedures proc_no)
+        (ScansLayout V.stands (layout_in (λ row. row.2) nfs_procedures proc_no)
         (input.old, visitor.old) (input.new, visitor.new)) }
     ensures err { IfErr result
-        (λ error. StopsLayout (layout_in (λ row. row.1) nfs_procedures proc_no) input.old error) }
+        (λ error. StopsLayout (layout_in (λ row. row.2) nfs_procedures proc_no) input.old error) }
 {
     match proc_no {
         0 => Void::scan(input, visitor),
@@ -200,10 +200,10 @@ fn scan_nfs_results_from_create<V: Visit>(
 ) -> Result<(), GetError>
     requires { 8 ≤ proc_no }
     ensures ok { OnOk result
-        (ScansLayout V.stands (layout_in (λ row. row.1) nfs_procedures proc_no)
+        (ScansLayout V.stands (layout_in (λ row. row.2) nfs_procedures proc_no)
         (input.old, visitor.old) (input.new, visitor.new)) }
     ensures err { IfErr result
-        (λ error. StopsLayout (layout_in (λ row. row.1) nfs_procedures proc_no) input.old error) }
+        (λ error. StopsLayout (layout_in (λ row. row.2) nfs_procedures proc_no) input.old error) }
 {
     match proc_no {
         8 => Res::<CreateOk, Wcc>::scan(input, visitor),
@@ -225,10 +225,10 @@ fn scan_nfs_results_from_link<V: Visit>(
 ) -> Result<(), GetError>
     requires { 15 ≤ proc_no }
     ensures ok { OnOk result
-        (ScansLayout V.stands (layout_in (λ row. row.1) nfs_procedures proc_no)
+        (ScansLayout V.stands (layout_in (λ row. row.2) nfs_procedures proc_no)
         (input.old, visitor.old) (input.new, visitor.new)) }
     ensures err { IfErr result
-        (λ error. StopsLayout (layout_in (λ row. row.1) nfs_procedures proc_no) input.old error) }
+        (λ error. StopsLayout (layout_in (λ row. row.2) nfs_procedures proc_no) input.old error) }
 {
     match proc_no {
         15 => Res::<LinkWcc, LinkWcc>::scan(input, visitor),
@@ -249,10 +249,10 @@ fn scan_mount_results<V: Visit>(
     visitor: &mut V,
 ) -> Result<(), GetError>
     ensures ok { OnOk result
-        (ScansLayout V.stands (layout_in (λ row. row.1) mount_procedures proc_no)
+        (ScansLayout V.stands (layout_in (λ row. row.2) mount_procedures proc_no)
         (input.old, visitor.old) (input.new, visitor.new)) }
     ensures err { IfErr result
-        (λ error. StopsLayout (layout_in (λ row. row.1) mount_procedures proc_no) input.old error) }
+        (λ error. StopsLayout (layout_in (λ row. row.2) mount_procedures proc_no) input.old error) }
 {
     match proc_no {
         0 => Void::scan(input, visitor),

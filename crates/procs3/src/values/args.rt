@@ -3,8 +3,7 @@
 
 ghost use Rattle.std.specs.Prelude.{◌≡◌, ◌≢◌, ◌≤◌, IfErr, IfOk};
 ghost use Rattle.procs3.specs.Items.{args_items};
-ghost use Rattle.procs3.specs.Names.{mount_name, name_of_procedure, nfs_name};
-ghost use Rattle.procs3.specs.Table.{arguments_of, layout_in, mount_procedures, nfs_procedures};
+ghost use Rattle.procs3.specs.Table.{arguments_of, layout_in, mount_procedures, name_in, name_of_procedure, nfs_procedures};
 ghost use Rattle.procs3.specs.Variants.{args_name};
 ghost use Rattle.xdr3.specs.declared.reason.GetError.TheVariants.{Memory};
 ghost use Rattle.xdr3.specs.Gives.{Gives, IsRead};
@@ -122,9 +121,9 @@ impl<'a> Args<'a> {
     /// Those of a procedure of NFS version 3.
     fn get_nfs(alloc: Global, proc_no: u32, input: &mut Input<'a>) -> Result<Args<'a>, GetError>
         ensures read { Gives args_items result input.new.at
-            (reading_layout (layout_in (λ row. row.0) nfs_procedures proc_no)
+            (reading_layout (layout_in (λ row. row.1) nfs_procedures proc_no)
             input.old.body input.old.at) }
-        ensures variant { IfOk result (λ args. args_name args ≡ nfs_name proc_no) }
+        ensures variant { IfOk result (λ args. args_name args ≡ name_in nfs_procedures proc_no) }
         ensures memory { IfErr result (λ error. error ≢ Memory) }
         ensures moves { MovesOn input.old input.new }
     {
@@ -151,9 +150,9 @@ impl<'a> Args<'a> {
     ) -> Result<Args<'a>, GetError>
         requires { 8 ≤ proc_no }
         ensures read { Gives args_items result input.new.at
-            (reading_layout (layout_in (λ row. row.0) nfs_procedures proc_no)
+            (reading_layout (layout_in (λ row. row.1) nfs_procedures proc_no)
             input.old.body input.old.at) }
-        ensures variant { IfOk result (λ args. args_name args ≡ nfs_name proc_no) }
+        ensures variant { IfOk result (λ args. args_name args ≡ name_in nfs_procedures proc_no) }
         ensures memory { IfErr result (λ error. error ≢ Memory) }
         ensures moves { MovesOn input.old input.new }
     {
@@ -179,9 +178,9 @@ impl<'a> Args<'a> {
     ) -> Result<Args<'a>, GetError>
         requires { 15 ≤ proc_no }
         ensures read { Gives args_items result input.new.at
-            (reading_layout (layout_in (λ row. row.0) nfs_procedures proc_no)
+            (reading_layout (layout_in (λ row. row.1) nfs_procedures proc_no)
             input.old.body input.old.at) }
-        ensures variant { IfOk result (λ args. args_name args ≡ nfs_name proc_no) }
+        ensures variant { IfOk result (λ args. args_name args ≡ name_in nfs_procedures proc_no) }
         ensures memory { IfErr result (λ error. error ≢ Memory) }
         ensures moves { MovesOn input.old input.new }
     {
@@ -202,9 +201,9 @@ impl<'a> Args<'a> {
     /// Those of a procedure of MOUNT version 3.
     fn get_mount(alloc: Global, proc_no: u32, input: &mut Input<'a>) -> Result<Args<'a>, GetError>
         ensures read { Gives args_items result input.new.at
-            (reading_layout (layout_in (λ row. row.0) mount_procedures proc_no)
+            (reading_layout (layout_in (λ row. row.1) mount_procedures proc_no)
             input.old.body input.old.at) }
-        ensures variant { IfOk result (λ args. args_name args ≡ mount_name proc_no) }
+        ensures variant { IfOk result (λ args. args_name args ≡ name_in mount_procedures proc_no) }
         ensures memory { IfErr result (λ error. error ≢ Memory) }
         ensures moves { MovesOn input.old input.new }
     {

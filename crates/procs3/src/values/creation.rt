@@ -81,10 +81,11 @@ pub struct SymLinkArgs<'a> {
 
 impl<'a> Xdr<'a> for SymLinkArgs<'a> {
     ghost use Rattle.nfs3_types.specs.Shapes.{dir_op, no_maximum, settable};
-    ghost use Rattle.xdr3.specs.Item.{Text, called};
-    ghost use Rattle.xdr3.specs.Shape.{opaque, ◌then◌};
+    ghost use Rattle.xdr3.specs.Item.{Text};
+    ghost use Rattle.xdr3.specs.Named.{opaque};
+    ghost use Rattle.xdr3.specs.Shape.{◌then◌};
 
-    ghost shape = { dir_op then settable then opaque Text (called "path") no_maximum };
+    ghost shape = { dir_op then settable then opaque Text "path" no_maximum };
 
     #[tactic(auto, unfolding(xdr3::specs::Reading::reading, xdr3::specs::Item::followed_by))]
     fn get(alloc: Global, input: &mut Input<'a>) -> Result<SymLinkArgs<'a>, GetError> {
@@ -117,13 +118,11 @@ pub struct Device {
 }
 
 impl<'a> Xdr<'a> for Device {
-    ghost use Rattle.xdr3.specs.Item.{called};
-    ghost use Rattle.nfs3_types.specs.Shapes.{settable};
-    ghost use Rattle.xdr3.specs.Shape.{word, ◌then◌};
+    ghost use Rattle.procs3.specs.Shapes.{device};
 
-    ghost shape = { settable then word (called "spec1") then word (called "spec2") };
+    ghost shape = { device };
 
-    #[tactic(auto, unfolding(xdr3::specs::Reading::reading, xdr3::specs::Item::followed_by))]
+    #[tactic(auto, unfolding(xdr3::specs::Reading::reading, crate::specs::Shapes::device, xdr3::specs::Item::followed_by))]
     fn get(alloc: Global, input: &mut Input<'a>) -> Result<Device, GetError> {
         let attr = Sattr::get(alloc, input)?;
         let spec1 = input.word()?;

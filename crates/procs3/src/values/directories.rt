@@ -176,12 +176,9 @@ pub struct ReadDirArgs {
 }
 
 impl<'a> Xdr<'a> for ReadDirArgs {
-    ghost use Rattle.xdr3.specs.Item.{called};
-    ghost use Rattle.nfs3_types.specs.Shapes.{handle};
-    ghost use Rattle.xdr3.specs.Shape.{fixed, hyper, word, ◌then◌};
+    ghost use Rattle.procs3.specs.Table.{readdir3args};
 
-    ghost shape = { handle then hyper (called "cookie") then fixed (called "cookieverf")
-        then word (called "count") };
+    ghost shape = { readdir3args };
 
     fn get(alloc: Global, input: &mut Input<'a>) -> Result<ReadDirArgs, GetError> {
         let handle = Handle::get(alloc, input)?;
@@ -265,13 +262,9 @@ pub struct ReadDirOk<'a> {
 
 impl<'a> Xdr<'a> for ReadDirOk<'a> {
     ghost use Rattle.std.specs.Prelude.{true};
-    ghost use Rattle.xdr3.specs.Item.{called};
-    ghost use Rattle.nfs3_types.specs.Shapes.{post_op_attr};
-    ghost use Rattle.procs3.specs.Shapes.{entry};
-    ghost use Rattle.xdr3.specs.Shape.{boolean, fixed, linked, ◌then◌};
+    ghost use Rattle.procs3.specs.Table.{readdir3resok};
 
-    ghost shape = { post_op_attr then fixed (called "cookieverf") then linked (called "entry") entry
-        then boolean (called "eof") };
+    ghost shape = { readdir3resok };
 
     ghost owns_memory = { true };
 
@@ -317,12 +310,9 @@ pub struct ReadDirPlusArgs {
 }
 
 impl<'a> Xdr<'a> for ReadDirPlusArgs {
-    ghost use Rattle.xdr3.specs.Item.{called};
-    ghost use Rattle.nfs3_types.specs.Shapes.{handle};
-    ghost use Rattle.xdr3.specs.Shape.{fixed, hyper, word, ◌then◌};
+    ghost use Rattle.procs3.specs.Table.{readdirplus3args};
 
-    ghost shape = { handle then hyper (called "cookie") then fixed (called "cookieverf")
-        then word (called "dircount") then word (called "maxcount") };
+    ghost shape = { readdirplus3args };
 
     fn get(alloc: Global, input: &mut Input<'a>) -> Result<ReadDirPlusArgs, GetError> {
         let handle = Handle::get(alloc, input)?;
@@ -373,7 +363,7 @@ impl<'a> Xdr<'a> for EntryPlus<'a> {
 
     ghost shape = { entry_plus };
 
-    #[tactic(auto, unfolding(xdr3::specs::Reading::reading, crate::specs::Shapes::entry_plus, xdr3::specs::Item::followed_by))]
+    #[tactic(auto, unfolding(xdr3::specs::Reading::reading, crate::specs::Shapes::entry_plus, crate::specs::Shapes::entry, xdr3::specs::Item::followed_by))]
     fn get(alloc: Global, input: &mut Input<'a>) -> Result<EntryPlus<'a>, GetError> {
         let fileid = input.hyper()?;
         let name = input.var(u32::MAX)?;
@@ -418,13 +408,9 @@ pub struct ReadDirPlusOk<'a> {
 
 impl<'a> Xdr<'a> for ReadDirPlusOk<'a> {
     ghost use Rattle.std.specs.Prelude.{true};
-    ghost use Rattle.xdr3.specs.Item.{called};
-    ghost use Rattle.nfs3_types.specs.Shapes.{post_op_attr};
-    ghost use Rattle.procs3.specs.Shapes.{entry_plus};
-    ghost use Rattle.xdr3.specs.Shape.{boolean, fixed, linked, ◌then◌};
+    ghost use Rattle.procs3.specs.Table.{readdirplus3resok};
 
-    ghost shape = { post_op_attr then fixed (called "cookieverf")
-        then linked (called "entry") entry_plus then boolean (called "eof") };
+    ghost shape = { readdirplus3resok };
 
     ghost owns_memory = { true };
 

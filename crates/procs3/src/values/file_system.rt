@@ -21,13 +21,9 @@ pub struct FsStatOk {
 }
 
 impl<'a> Xdr<'a> for FsStatOk {
-    ghost use Rattle.xdr3.specs.Item.{called};
-    ghost use Rattle.nfs3_types.specs.Shapes.{post_op_attr};
-    ghost use Rattle.xdr3.specs.Shape.{hyper, word, ◌then◌};
+    ghost use Rattle.procs3.specs.Table.{fsstat3resok};
 
-    ghost shape = { post_op_attr then hyper (called "tbytes") then hyper (called "fbytes")
-        then hyper (called "abytes") then hyper (called "tfiles") then hyper (called "ffiles")
-        then hyper (called "afiles") then word (called "invarsec") };
+    ghost shape = { fsstat3resok };
 
     #[tactic(auto, unfolding(xdr3::specs::Reading::reading, xdr3::specs::Item::followed_by))]
     fn get(alloc: Global, input: &mut Input<'a>) -> Result<FsStatOk, GetError> {
@@ -89,14 +85,9 @@ pub struct FsInfoOk {
 }
 
 impl<'a> Xdr<'a> for FsInfoOk {
-    ghost use Rattle.xdr3.specs.Item.{called};
-    ghost use Rattle.nfs3_types.specs.Shapes.{post_op_attr, time};
-    ghost use Rattle.xdr3.specs.Shape.{hyper, word, ◌then◌};
+    ghost use Rattle.procs3.specs.Table.{fsinfo3resok};
 
-    ghost shape = { post_op_attr then word (called "rtmax") then word (called "rtpref")
-        then word (called "rtmult") then word (called "wtmax") then word (called "wtpref")
-        then word (called "wtmult") then word (called "dtpref") then hyper (called "maxfilesize")
-        then time (called "delta_sec") (called "delta_nsec") then word (called "properties") };
+    ghost shape = { fsinfo3resok };
 
     #[tactic(auto, unfolding(xdr3::specs::Reading::reading, xdr3::specs::Item::followed_by))]
     fn get(alloc: Global, input: &mut Input<'a>) -> Result<FsInfoOk, GetError> {
@@ -163,13 +154,9 @@ pub struct PathConfOk {
 }
 
 impl<'a> Xdr<'a> for PathConfOk {
-    ghost use Rattle.xdr3.specs.Item.{called};
-    ghost use Rattle.nfs3_types.specs.Shapes.{post_op_attr};
-    ghost use Rattle.xdr3.specs.Shape.{boolean, word, ◌then◌};
+    ghost use Rattle.procs3.specs.Table.{pathconf3resok};
 
-    ghost shape = { post_op_attr then word (called "linkmax") then word (called "name_max")
-        then boolean (called "no_trunc") then boolean (called "chown_restricted")
-        then boolean (called "case_insensitive") then boolean (called "case_preserving") };
+    ghost shape = { pathconf3resok };
 
     #[tactic(auto, unfolding(xdr3::specs::Reading::reading, xdr3::specs::Item::followed_by))]
     fn get(alloc: Global, input: &mut Input<'a>) -> Result<PathConfOk, GetError> {

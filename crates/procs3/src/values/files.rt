@@ -15,12 +15,10 @@ pub struct SetAttrArgs {
 }
 
 impl<'a> Xdr<'a> for SetAttrArgs {
-    ghost use Rattle.nfs3_types.specs.Shapes.{handle, settable, time};
-    ghost use Rattle.xdr3.specs.Item.{called};
-    ghost use Rattle.xdr3.specs.Shape.{optional, ◌then◌};
+    ghost use Rattle.nfs3_types.specs.Shapes.{guard, handle, settable};
+    ghost use Rattle.xdr3.specs.Shape.{◌then◌};
 
-    ghost shape = { handle then settable
-        then optional (called "check") (time (called "ctime_sec") (called "ctime_nsec")) };
+    ghost shape = { handle then settable then guard };
 
     #[tactic(auto, unfolding(xdr3::specs::Reading::reading, xdr3::specs::Item::followed_by))]
     fn get(alloc: Global, input: &mut Input<'a>) -> Result<SetAttrArgs, GetError> {
@@ -53,11 +51,11 @@ pub struct AccessArgs {
 }
 
 impl<'a> Xdr<'a> for AccessArgs {
-    ghost use Rattle.xdr3.specs.Item.{called};
     ghost use Rattle.nfs3_types.specs.Shapes.{handle};
-    ghost use Rattle.xdr3.specs.Shape.{word, ◌then◌};
+    ghost use Rattle.xdr3.specs.Named.{word};
+    ghost use Rattle.xdr3.specs.Shape.{◌then◌};
 
-    ghost shape = { handle then word (called "access") };
+    ghost shape = { handle then word "access" };
 
     fn get(alloc: Global, input: &mut Input<'a>) -> Result<AccessArgs, GetError> {
         let handle = Handle::get(alloc, input)?;
@@ -88,11 +86,11 @@ pub struct AccessOk {
 }
 
 impl<'a> Xdr<'a> for AccessOk {
-    ghost use Rattle.xdr3.specs.Item.{called};
     ghost use Rattle.nfs3_types.specs.Shapes.{post_op_attr};
-    ghost use Rattle.xdr3.specs.Shape.{word, ◌then◌};
+    ghost use Rattle.xdr3.specs.Named.{word};
+    ghost use Rattle.xdr3.specs.Shape.{◌then◌};
 
-    ghost shape = { post_op_attr then word (called "access") };
+    ghost shape = { post_op_attr then word "access" };
 
     fn get(alloc: Global, input: &mut Input<'a>) -> Result<AccessOk, GetError> {
         let attr = PostOpAttr::get(alloc, input)?;
@@ -121,10 +119,11 @@ pub struct ReadLinkOk<'a> {
 
 impl<'a> Xdr<'a> for ReadLinkOk<'a> {
     ghost use Rattle.nfs3_types.specs.Shapes.{no_maximum, post_op_attr};
-    ghost use Rattle.xdr3.specs.Item.{Text, called};
-    ghost use Rattle.xdr3.specs.Shape.{opaque, ◌then◌};
+    ghost use Rattle.xdr3.specs.Item.{Text};
+    ghost use Rattle.xdr3.specs.Named.{opaque};
+    ghost use Rattle.xdr3.specs.Shape.{◌then◌};
 
-    ghost shape = { post_op_attr then opaque Text (called "path") no_maximum };
+    ghost shape = { post_op_attr then opaque Text "path" no_maximum };
 
     fn get(alloc: Global, input: &mut Input<'a>) -> Result<ReadLinkOk<'a>, GetError> {
         let attr = PostOpAttr::get(alloc, input)?;
@@ -195,12 +194,9 @@ pub struct ReadOk<'a> {
 }
 
 impl<'a> Xdr<'a> for ReadOk<'a> {
-    ghost use Rattle.nfs3_types.specs.Shapes.{no_maximum, post_op_attr};
-    ghost use Rattle.xdr3.specs.Item.{Var, called};
-    ghost use Rattle.xdr3.specs.Shape.{boolean, opaque, word, ◌then◌};
+    ghost use Rattle.procs3.specs.Table.{read3resok};
 
-    ghost shape = { post_op_attr then word (called "count") then boolean (called "eof")
-        then opaque Var (called "data") no_maximum };
+    ghost shape = { read3resok };
 
     fn get(alloc: Global, input: &mut Input<'a>) -> Result<ReadOk<'a>, GetError> {
         let attr = PostOpAttr::get(alloc, input)?;
@@ -242,13 +238,9 @@ pub struct WriteArgs<'a> {
 }
 
 impl<'a> Xdr<'a> for WriteArgs<'a> {
-    ghost use Rattle.nfs3_types.specs.Shapes.{handle, no_maximum};
-    ghost use Rattle.nfs3_types.specs.Stable.{stable_words};
-    ghost use Rattle.xdr3.specs.Item.{Var, called};
-    ghost use Rattle.xdr3.specs.Shape.{hyper, listed, opaque, word, ◌then◌};
+    ghost use Rattle.procs3.specs.Table.{write3args};
 
-    ghost shape = { handle then hyper (called "offset") then word (called "count")
-        then listed (called "stable") stable_words then opaque Var (called "data") no_maximum };
+    ghost shape = { write3args };
 
     fn get(alloc: Global, input: &mut Input<'a>) -> Result<WriteArgs<'a>, GetError> {
         let handle = Handle::get(alloc, input)?;
@@ -293,13 +285,9 @@ pub struct WriteOk {
 }
 
 impl<'a> Xdr<'a> for WriteOk {
-    ghost use Rattle.xdr3.specs.Item.{called};
-    ghost use Rattle.nfs3_types.specs.Shapes.{wcc};
-    ghost use Rattle.nfs3_types.specs.Stable.{stable_words};
-    ghost use Rattle.xdr3.specs.Shape.{listed, word, write_verf, ◌then◌};
+    ghost use Rattle.procs3.specs.Table.{write3resok};
 
-    ghost shape = { wcc then word (called "count") then listed (called "committed") stable_words
-        then write_verf (called "verf") };
+    ghost shape = { write3resok };
 
     fn get(alloc: Global, input: &mut Input<'a>) -> Result<WriteOk, GetError> {
         let wcc = Wcc::get(alloc, input)?;
@@ -338,11 +326,11 @@ pub struct CommitOk {
 }
 
 impl<'a> Xdr<'a> for CommitOk {
-    ghost use Rattle.xdr3.specs.Item.{called};
     ghost use Rattle.nfs3_types.specs.Shapes.{wcc};
-    ghost use Rattle.xdr3.specs.Shape.{write_verf, ◌then◌};
+    ghost use Rattle.xdr3.specs.Named.{write_verf};
+    ghost use Rattle.xdr3.specs.Shape.{◌then◌};
 
-    ghost shape = { wcc then write_verf (called "verf") };
+    ghost shape = { wcc then write_verf "verf" };
 
     fn get(alloc: Global, input: &mut Input<'a>) -> Result<CommitOk, GetError> {
         let wcc = Wcc::get(alloc, input)?;

@@ -1,13 +1,14 @@
 //! The results of accepted calls.
 #![tactic(auto, unfolding(xdr3::specs::Reading::reading, xdr3::specs::Layout::reading_layout, crate::specs::Table::results_of, crate::specs::Table::nfs_procedures, crate::specs::Table::mount_procedures, xdr3::specs::Item::called))]
 
-ghost use Rattle.std.specs.Prelude.{◌≡◌, ◌≤◌, IfOk};
+ghost use Rattle.std.specs.Prelude.{◌≡◌, ◌≢◌, ◌≤◌, [], ◌∷◌, IfErr, IfOk, IsFalse};
 ghost use Rattle.procs3.specs.Items.{results_items};
-ghost use Rattle.procs3.specs.Names.{mount_name, name_of_procedure, nfs_name};
-ghost use Rattle.procs3.specs.Table.{layout_in, mount_procedures, nfs_procedures, results_of};
+ghost use Rattle.procs3.specs.Table.{has_list, layout_in, mount_procedures, name_in, name_of_procedure, nfs_procedures, results_of};
 ghost use Rattle.procs3.specs.Variants.{results_name};
+ghost use Rattle.xdr3.specs.declared.reason.GetError.TheVariants.{Memory};
 ghost use Rattle.xdr3.specs.Gives.{Gives, IsRead};
 ghost use Rattle.xdr3.specs.Layout.{ReadsLayout, RefusesLayout, reading_layout};
+ghost use Rattle.xdr3.specs.Shape.{is_listed};
 ghost use Rattle.xdr3.specs.View.{MovesOn};
 ghost use Rattle.xdr3.specs.Visit.{AreWithinLimit};
 
@@ -88,7 +89,8 @@ pub enum Results<'a> {
 impl<'a> Results<'a> {
     /// Reads the results of a successful call of this procedure, as its layout says. Their items
     /// are between the old position and the new one; otherwise the error says where and why the
-    /// bytes are refused. The result is of this procedure's variant, and can be visited.
+    /// bytes are refused. The result is of this procedure's variant, and can be visited. Memory is
+    /// allocated for lists alone.
     pub fn get(alloc: Global, id: ProcId, input: &mut Input<'a>) -> Result<Results<'a>, GetError>
         ensures read { Gives results_items result input.new.at
             (reading_layout (results_of id) input.old.body input.old.at) }
@@ -96,6 +98,7 @@ impl<'a> Results<'a> {
         ensures relations { IsRead (ReadsLayout (results_of id), RefusesLayout (results_of id))
             results_items input.old result input.new }
         ensures limit { IfOk result (λ results. AreWithinLimit (results_items results)) }
+        ensures memory { IsFalse (has_list id) → IfErr result (λ error. error ≢ Memory) }
         ensures moves { MovesOn input.old input.new }
     {
         // The prover concludes from this that the position is within the body.
@@ -111,6 +114,7 @@ impl<'a> Results<'a> {
         ensures read { Gives results_items result input.new.at
             (reading_layout (results_of id) input.old.body input.old.at) }
         ensures variant { IfOk result (λ results. results_name results ≡ name_of_procedure id) }
+        ensures memory { IsFalse (has_list id) → IfErr result (λ error. error ≢ Memory) }
         ensures moves { MovesOn input.old input.new }
     {
         // The prover concludes from this that the position is within the body.
@@ -125,9 +129,12 @@ impl<'a> Results<'a> {
     /// Those of a procedure of NFS version 3.
     fn get_nfs(alloc: Global, proc_no: u32, input: &mut Input<'a>) -> Result<Results<'a>, GetError>
         ensures read { Gives results_items result input.new.at
-            (reading_layout (layout_in (λ row. row.1) nfs_procedures proc_no)
+            (reading_layout (layout_in (λ row. row.2) nfs_procedures proc_no)
             input.old.body input.old.at) }
-        ensures variant { IfOk result (λ results. results_name results ≡ nfs_name proc_no) }
+        ensures variant { IfOk result
+            (λ results. results_name results ≡ name_in nfs_procedures proc_no) }
+        ensures memory { IsFalse (is_listed (16 ∷ 17 ∷ []) proc_no)
+            → IfErr result (λ error. error ≢ Memory) }
         ensures moves { MovesOn input.old input.new }
     {
         // The prover concludes from this that the position is within the body.
@@ -153,9 +160,12 @@ impl<'a> Results<'a> {
     ) -> Result<Results<'a>, GetError>
         requires { 8 ≤ proc_no }
         ensures read { Gives results_items result input.new.at
-            (reading_layout (layout_in (λ row. row.1) nfs_procedures proc_no)
+            (reading_layout (layout_in (λ row. row.2) nfs_procedures proc_no)
             input.old.body input.old.at) }
-        ensures variant { IfOk result (λ results. results_name results ≡ nfs_name proc_no) }
+        ensures variant { IfOk result
+            (λ results. results_name results ≡ name_in nfs_procedures proc_no) }
+        ensures memory { IsFalse (is_listed (16 ∷ 17 ∷ []) proc_no)
+            → IfErr result (λ error. error ≢ Memory) }
         ensures moves { MovesOn input.old input.new }
     {
         // The prover concludes from this that the position is within the body.
@@ -180,9 +190,12 @@ impl<'a> Results<'a> {
     ) -> Result<Results<'a>, GetError>
         requires { 15 ≤ proc_no }
         ensures read { Gives results_items result input.new.at
-            (reading_layout (layout_in (λ row. row.1) nfs_procedures proc_no)
+            (reading_layout (layout_in (λ row. row.2) nfs_procedures proc_no)
             input.old.body input.old.at) }
-        ensures variant { IfOk result (λ results. results_name results ≡ nfs_name proc_no) }
+        ensures variant { IfOk result
+            (λ results. results_name results ≡ name_in nfs_procedures proc_no) }
+        ensures memory { IsFalse (is_listed (16 ∷ 17 ∷ []) proc_no)
+            → IfErr result (λ error. error ≢ Memory) }
         ensures moves { MovesOn input.old input.new }
     {
         // The prover concludes from this that the position is within the body.
@@ -206,9 +219,12 @@ impl<'a> Results<'a> {
         input: &mut Input<'a>,
     ) -> Result<Results<'a>, GetError>
         ensures read { Gives results_items result input.new.at
-            (reading_layout (layout_in (λ row. row.1) mount_procedures proc_no)
+            (reading_layout (layout_in (λ row. row.2) mount_procedures proc_no)
             input.old.body input.old.at) }
-        ensures variant { IfOk result (λ results. results_name results ≡ mount_name proc_no) }
+        ensures variant { IfOk result
+            (λ results. results_name results ≡ name_in mount_procedures proc_no) }
+        ensures memory { IsFalse (is_listed (1 ∷ 2 ∷ 5 ∷ []) proc_no)
+            → IfErr result (λ error. error ≢ Memory) }
         ensures moves { MovesOn input.old input.new }
     {
         // The prover concludes from this that the position is within the body.

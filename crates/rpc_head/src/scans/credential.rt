@@ -7,7 +7,8 @@ ghost use Rattle.rpc_head.specs.Shapes as shapes;
 ghost use Rattle.xdr3.specs.Scan.{Scans, ScansWord, Stops, StopsWord};
 ghost use Rattle.rpc_head.specs.machinery.HeadEnds.{credential_of, group_words, owner};
 ghost use Rattle.xdr3.specs.Item.{Text, Var, called};
-ghost use Rattle.xdr3.specs.Shape.{is_listed, opaque};
+ghost use Rattle.xdr3.specs.Named.{opaque};
+ghost use Rattle.xdr3.specs.Shape.{is_listed};
 
 use crate::scans::word::{first_short, scan_listed_or, stop, word_in};
 use crate::values::credential::{AuthSys, Cred, Parameters, Verf};
@@ -33,10 +34,10 @@ fn scan_cred_flavor<V: Visit>(input: &mut Input, visitor: &mut V) -> Result<u32,
 #[inline(always)]
 fn scan_cred_body<V: Visit>(input: &mut Input, visitor: &mut V) -> Result<(), GetError>
     ensures ok { OnOk result
-        (Scans V.stands (opaque Var (called "cred_body") 400)
+        (Scans V.stands (opaque Var "cred_body" 400)
         (input.old, visitor.old) (input.new, visitor.new)) }
     ensures err { IfErr result
-        (λ error. Stops (opaque Var (called "cred_body") 400) input.old error) }
+        (λ error. Stops (opaque Var "cred_body" 400) input.old error) }
 {
     scan_var("cred_body", 400, input, visitor)
 }
@@ -44,10 +45,10 @@ fn scan_cred_body<V: Visit>(input: &mut Input, visitor: &mut V) -> Result<(), Ge
 #[inline(always)]
 fn scan_machinename<V: Visit>(input: &mut Input, visitor: &mut V) -> Result<(), GetError>
     ensures ok { OnOk result
-        (Scans V.stands (opaque Text (called "machinename") 255)
+        (Scans V.stands (opaque Text "machinename" 255)
         (input.old, visitor.old) (input.new, visitor.new)) }
     ensures err { IfErr result
-        (λ error. Stops (opaque Text (called "machinename") 255) input.old error) }
+        (λ error. Stops (opaque Text "machinename" 255) input.old error) }
 {
     scan_text("machinename", 255, input, visitor)
 }
@@ -67,10 +68,10 @@ fn scan_verf_flavor<V: Visit>(input: &mut Input, visitor: &mut V) -> Result<u32,
 #[inline(always)]
 pub(crate) fn scan_verf_body<V: Visit>(input: &mut Input, visitor: &mut V) -> Result<(), GetError>
     ensures ok { OnOk result
-        (Scans V.stands (opaque Var (called "verf_body") 400)
+        (Scans V.stands (opaque Var "verf_body" 400)
         (input.old, visitor.old) (input.new, visitor.new)) }
     ensures err { IfErr result
-        (λ error. Stops (opaque Var (called "verf_body") 400) input.old error) }
+        (λ error. Stops (opaque Var "verf_body" 400) input.old error) }
 {
     scan_var("verf_body", 400, input, visitor)
 }

@@ -1,6 +1,8 @@
 -- Bodies of calls and of replies, judged from left to right, against what they are.
 use Rattle.capture3.proofs.Common.{WrongSide, XidConflict, Stop, reads_whole, ProcId, call_layout, start_of_type, reply_layout, procedure_in, arguments_of, results_of, calls_in_turn, replies_to, judge_replies, Item, Word, AreBytes, Spells, ◌>>=◌, reading, refused, complete, called, ◌≡◌, ◌≢◌, ◌⊎◌, ℕ, ◌+◌, Bool, true, false, cond, nat_eq, IsTrue, List, [], ◌∷◌, ◌++◌, length, drop, Option, Some, None, Result, Ok, Err, refl, sym, ap, ap₂, subst, ◌∙◌, append_assoc, inl, inr, arith, eqb-true, eq-eqb, ◌&&◌, Layout, ReadsLayout, word_in, Spells-split, ReplyItems, IsCall, xid_in, procedure_of, Starts, AcceptsCall, RefusesCall, AReply, BadCall, LongCall, OtherCall, AcceptsReply, RefusesReply, ACall, Unasked, BadReply, LongReply}
-use Rattle.xdr3.specs.Shape.{Fits, Reads, Refuses, ◌then◌, is_listed, listed, word}
+use Rattle.xdr3.specs.Named.{listed, word}
+use Rattle.xdr3.specs.Shape.{Fits, Reads, Refuses, ◌then◌, choose, is_listed, nothing, word_named}
+use Rattle.xdr3.specs.declared.reason.Reason.TheVariants.{BadEnum}
 use Rattle.xdr3.proofs.Lemmas.Reading.Bytes.{ok_is}
 use Rattle.xdr3.proofs.Lemmas.Reading.Decided.{both_ways}
 use Rattle.rpc_head.specs.Shapes.{message_start}
@@ -33,18 +35,19 @@ start_refused body stop r =
     (complete message_start).stops body 0 stop.at stop.reason (omega arith) r
     ∙ ap (λ (k : ℕ). refused k stop.reason) same
 
-word_fits : (name : List ℕ) (items : List Item) → Fits (word name) items
+word_fits : (name : List ℕ) (items : List Item) → Fits (word_named name) items
     → (n : ℕ) × (items ≡ Word name n ∷ [])
 word_fits name items f = (f.0, f.4 ∙ ap (λ (more : List Item). Word name f.0 ∷ more) f.3)
 
-listed_fits : (name words : List ℕ) (items : List Item) → Fits (listed name words) items
+listed_fits : (name words : List ℕ) (items : List Item)
+    → Fits (choose name (is_listed words) BadEnum (λ n. nothing)) items
     → (n : ℕ) × IsTrue (is_listed words n) × (items ≡ Word name n ∷ [])
 listed_fits name words items f =
     (f.0, f.2, f.4 ∙ ap (λ (more : List Item). Word name f.0 ∷ more) f.3)
 
 -- a start has two words
 pub two_words : (words : List ℕ) (items : List Item)
-    → Fits (word (called "xid") then listed (called "mtype") words) items
+    → Fits (word "xid" then listed "mtype" words) items
     → (xid : ℕ) × (mtype : ℕ) × IsTrue (is_listed words mtype) × (items ≡ start_of xid mtype)
 two_words words items f =
     let x = word_fits (called "xid") f.0 f.2 in
@@ -70,7 +73,7 @@ zero_or_one n h = grind (arith, h)
 starts_of : (mtype : ℕ) (body front left : List ℕ) (items xs ys zs : List Item)
     → IsTrue (is_listed (0 ∷ 1 ∷ []) mtype)
     → ((n : ℕ) → IsTrue (is_listed (mtype ∷ []) n) → n ≡ mtype)
-    → Fits (word (called "xid") then listed (called "mtype") (mtype ∷ [])) xs
+    → Fits (word "xid" then listed "mtype" (mtype ∷ [])) xs
     → Spells (xs ++ ys) front → body ≡ front ++ left → items ≡ (xs ++ ys) ++ zs
     → Starts body (xid_in items) mtype
 unfolding message_start

@@ -1,7 +1,7 @@
 -- A whole body by its layout, decided.
 use Rattle.capture3.proofs.Common.{lengths, ◌≡◌, ◌⊎◌, ℕ, ◌+◌, ◌<◌, ◌≤◌, nat_eq, List, [], length, drop, Ok, Err, refl, sym, ap, subst, ◌∙◌, inl, inr, arith, eqb-true, eq-eqb, ne_eqb, eqb-false, Reason, Trailing, Stop, Item, AreBytes, Spells, refused, complete, all_of_body, read_whole, layout_decides, reads_whole, LeavesMore}
 use Rattle.std.proofs.lemmas.List.{length-drop, drop_all}
-use Rattle.xdr3.specs.Layout.{Layout, exactly, rest, after, FitsLayout, ReadsLayout, RefusesLayout, reading_layout}
+use Rattle.xdr3.specs.Layout.{Layout, exactly, remaining, after, FitsLayout, ReadsLayout, RefusesLayout, reading_layout}
 use Rattle.xdr3.proofs.Lemmas.Reading.Bytes.{drop_front, front_ends, bind_ok, bind_err, accept_ok, accept_err}
 
 -- ---- what is so is read
@@ -15,7 +15,7 @@ layout_reads (exactly shape) body at items left h r = (
   (complete shape).reads body at items r.front left h r.fits r.spells r.whole,
   omega (lengths, ap length r.whole, length-drop at body),
 )
-layout_reads (rest name) body at items left h r = (
+layout_reads (remaining name) body at items left h r = (
   length body,
   ap (λ (xs : List Item). Ok (xs, length body)) (sym r.1),
   omega (arith, ap length r.2),
@@ -36,7 +36,7 @@ pub layout_refuses : (layout : Layout) (body : List ℕ) (at further : ℕ) (rea
 unfolding reading_layout
 layout_refuses (exactly shape) body at further reason h r =
     (complete shape).stops body at further reason h r
-layout_refuses (rest name) body at further reason h r = absurd r
+layout_refuses (remaining name) body at further reason h r = absurd r
 layout_refuses (after shape next) body at further reason h (inl s) =
     let x = (complete shape).stops body at further reason h s in rw x refl
 layout_refuses (after shape next) body at further reason h (inr t) =

@@ -1,7 +1,7 @@
 -- What `Input` answers, by the relations of shapes.
 use Rattle.xdr3.proofs.Common.{◌≡◌, ℕ, ◌≤◌, List, [], ◌∷◌, length, Ok, Err, refl, sym, ap, ◌∙◌, Stop, Item, Word, Hyper, Fixed, Opaque, AreBytes, Outcome, ◌>>=◌, number_at, word_at, run_at, opaque_at, reading}
 use Rattle.xdr3.specs.Laws.{DecidesItem, InputDecides}
-use Rattle.xdr3.specs.Shape.{Shape, choose, hyper, fixed, opaque, nothing, word}
+use Rattle.xdr3.specs.Shape.{Shape, choose, hyper, fixed, opaque, nothing, word_named}
 use Rattle.xdr3.proofs.Lemmas.Reading.Bytes.{pair_is, never}
 use Rattle.xdr3.proofs.Lemmas.Reading.Decided.{both_ways}
 
@@ -49,7 +49,7 @@ pub input_decides : (name body : List ℕ) (at : ℕ) → AreBytes body → at �
 unfolding reading
 input_decides name body at fits h = record {
   word =
-      item_decides (number_at 4) (word name) (Word name) body at fits h (λ x y e. cc)
+      item_decides (number_at 4) (word_named name) (Word name) body at fits h (λ x y e. cc)
       (ap (one_item (Word name)) (same_step (number_at 4 body at)));
   accepted =
       λ accepted other.

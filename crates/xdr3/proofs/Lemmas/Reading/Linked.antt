@@ -1,5 +1,5 @@
 -- Reading a linked list, as a loop does.
-use Rattle.xdr3.proofs.Common.{◌≡◌, ℕ, zero, suc, ◌+◌, ◌-◌, ◌<◌, ◌≤◌, Bool, true, false, cond, eqb, List, [], ◌∷◌, ◌++◌, length, map, Ok, Err, refl, sym, ap, subst, ◌∙◌, append_assoc, arith, inl, inr, flat_map, flat_map-append, BadBool, Stop, GetError, Item, Word, Shape, nothing, optional, linked, links, is_bool, Outcome, ◌>>=◌, word_at, links_at, reading, Fails}
+use Rattle.xdr3.proofs.Common.{◌≡◌, ℕ, zero, suc, ◌+◌, ◌-◌, ◌<◌, ◌≤◌, Bool, true, false, cond, eqb, List, [], ◌∷◌, ◌++◌, length, map, Ok, Err, refl, sym, ap, subst, ◌∙◌, append_assoc, arith, inl, inr, flat_map, flat_map-append, BadBool, Stop, GetError, Item, Word, Shape, nothing, optional_named, linked, links, is_bool, Outcome, ◌>>=◌, word_at, links_at, reading, Fails}
 use Rattle.std.specs.Prelude.{Option, Some, None}
 use Rattle.std.proofs.lemmas.List.{append-nil, map_push}
 use Rattle.xdr3.specs.Combined.{linked_items, optional_items}
@@ -25,9 +25,9 @@ record IsOne (name : List ℕ) (s : Shape) (body : List ℕ) (at to n : ℕ) (pa
   rest : reading (cond (eqb n 0) nothing s) body after ≡ Ok (part, to)
 
 is_one : (name : List ℕ) (s : Shape) (body : List ℕ) (at to n : ℕ) (part : List Item)
-    → reading (optional name s) body at ≡ Ok (Word name n ∷ part, to)
+    → reading (optional_named name s) body at ≡ Ok (Word name n ∷ part, to)
     → IsOne name s body at to n part
-unfolding reading optional
+unfolding reading optional_named
 is_one name s body at to n part e =
     let w =
     bind_ok (word_at is_bool BadBool body at)
@@ -78,7 +78,7 @@ regroup front name part (Err e) = refl
 -- one link more
 pub links_more : (name : List ℕ) (s : Shape) (front part : List Item) (body : List ℕ)
     (start at to : ℕ) → at ≤ length body → at < to → LinksSoFar name s front body start at
-    → reading (optional name s) body at ≡ Ok (Word name 1 ∷ part, to)
+    → reading (optional_named name s) body at ≡ Ok (Word name 1 ∷ part, to)
     → LinksSoFar name s (front ++ (Word name 1 ∷ part)) body start to
 links_more name s front part body start at to h moved l e = go l.fuel l.enough l.total
   where
@@ -107,7 +107,7 @@ links_more name s front part body start at to h moved l e = go l.fuel l.enough l
 -- the last link
 pub links_end : (name : List ℕ) (s : Shape) (front : List Item) (body : List ℕ) (start at to : ℕ)
     → at ≤ length body → LinksSoFar name s front body start at
-    → reading (optional name s) body at ≡ Ok (Word name 0 ∷ [], to)
+    → reading (optional_named name s) body at ≡ Ok (Word name 0 ∷ [], to)
     → reading (linked name s) body start ≡ Ok (front ++ Word name 0 ∷ [], to)
 unfolding with_front reading
 links_end name s front body start at to h l e = go l.fuel l.enough l.total
@@ -136,8 +136,9 @@ chosen_err false s body at stop e = (refl, e)
 -- a link that is refused
 pub links_fail : (name : List ℕ) (s : Shape) (front : List Item) (body : List ℕ) (start at : ℕ)
     (stop : Stop) → at ≤ length body → LinksSoFar name s front body start at
-    → reading (optional name s) body at ≡ Err stop → reading (linked name s) body start ≡ Err stop
-unfolding with_front reading optional
+    → reading (optional_named name s) body at ≡ Err stop
+    → reading (linked name s) body start ≡ Err stop
+unfolding with_front reading optional_named
 links_fail name s front body start at stop h l e = go l.fuel l.enough l.total
   where
     go : (fuel : ℕ) → length body < fuel + at
@@ -180,11 +181,11 @@ pub links_pushed : {T : Type 0} (name : List ℕ) (s : Shape) (items : T → Lis
     (values pushed : List T) (link : Option T) (x : T) (body now : List ℕ) (start at to : ℕ)
     → pushed ≡ values ++ x ∷ [] → link ≡ Some x → now ≡ body → at < to → to ≤ length now
     → LinksSoFar name s (links name (map items values)) body start at
-    → reading (optional name s) now at ≡ Ok (optional_items name items link, to)
+    → reading (optional_named name s) now at ≡ Ok (optional_items name items link, to)
     → LinksSoFar name s (links name (map items pushed)) body start to
 links_pushed name s items values pushed link x body now start at to p o b h w l e =
-    let read : reading (optional name s) body at ≡ Ok (Word name 1 ∷ items x, to) =
-    subst (λ (v : List ℕ). reading (optional name s) v at ≡ Ok (Word name 1 ∷ items x, to)) b
+    let read : reading (optional_named name s) body at ≡ Ok (Word name 1 ∷ items x, to) =
+    subst (λ (v : List ℕ). reading (optional_named name s) v at ≡ Ok (Word name 1 ∷ items x, to)) b
     (rw o at e) in
     let within : at ≤ length body = omega (arith, ap length b) in
     subst (λ (front : List Item). LinksSoFar name s front body start to)
@@ -201,11 +202,12 @@ links-map name items (x ∷ values) =
 pub links_done : {T : Type 0} (name : List ℕ) (s : Shape) (items : T → List Item) (values : List T)
     (link : Option T) (body now : List ℕ) (start at to : ℕ) → link ≡ None → now ≡ body → at < to
     → to ≤ length now → LinksSoFar name s (links name (map items values)) body start at
-    → reading (optional name s) now at ≡ Ok (optional_items name items link, to)
+    → reading (optional_named name s) now at ≡ Ok (optional_items name items link, to)
     → reading (linked name s) body start ≡ Ok (linked_items name items values, to)
 links_done name s items values link body now start at to o b h w l e =
-    let read : reading (optional name s) body at ≡ Ok (Word name 0 ∷ [], to) =
-    subst (λ (v : List ℕ). reading (optional name s) v at ≡ Ok (Word name 0 ∷ [], to)) b (rw o at e)
+    let read : reading (optional_named name s) body at ≡ Ok (Word name 0 ∷ [], to) =
+    subst (λ (v : List ℕ). reading (optional_named name s) v at ≡ Ok (Word name 0 ∷ [], to)) b
+    (rw o at e)
     in
     links_end name s (links name (map items values)) body start at to (omega (arith, ap length b)) l
     read
@@ -214,9 +216,9 @@ links_done name s items values link body now start at to o b h w l e =
 pub links_gone : (name : List ℕ) (s : Shape) (front : List Item) (error : GetError)
     (body now : List ℕ) (start at to : ℕ) → now ≡ body → at ≤ to → to ≤ length now
     → LinksSoFar name s front body start at
-    → Fails error (reading (optional name s) now at)
+    → Fails error (reading (optional_named name s) now at)
     → Fails error (reading (linked name s) body start)
 links_gone name s front error body now start at to b h w l e = λ stop is.
-    let read : reading (optional name s) body at ≡ Err stop =
-    subst (λ (v : List ℕ). reading (optional name s) v at ≡ Err stop) b (e stop is) in
+    let read : reading (optional_named name s) body at ≡ Err stop =
+    subst (λ (v : List ℕ). reading (optional_named name s) v at ≡ Err stop) b (e stop is) in
     links_fail name s front body start at stop (omega (arith, ap length b)) l read

@@ -1,5 +1,5 @@
 -- For which reasons bytes are refused that a shape or a row does not read.
-use Rattle.xdr3.proofs.Common.{◌≡◌, ◌<◌, inl, inr, ℕ, Bool, List, length, subst, sym, Reason, Item, in_window, ⊤, Layout, exactly, rest, after, RefusesLayout, Shape, choose, hyper, fixed, write_verf, opaque, nothing, both, linked, counted, sized, Refusal, IsShort, Then, RefusesWord, RefusesLink, RefusesWindow, Refuses}
+use Rattle.xdr3.proofs.Common.{◌≡◌, ◌<◌, inl, inr, ℕ, Bool, List, length, subst, sym, Reason, Item, in_window, ⊤, Layout, exactly, remaining, after, RefusesLayout, Shape, choose, hyper, fixed, write_verf, opaque, nothing, both, linked, counted, sized, Refusal, IsShort, Then, RefusesWord, RefusesLink, RefusesWindow, Refuses}
 use Rattle.xdr3.specs.declared.reason.Reason.TheVariants.{BadMagic, CaptureCut, BadMark, AfterEnd, TooManyConnections, TooManyBytes, RecordCut, RecordTooLong, Short, Trailing, BadBool, BadEnum, TooLong, RpcVersion, Flavor, AuthLength, WrongSide, NoCall, XidConflict}
 use Rattle.xdr3.proofs.Lemmas.Shapes.ShapeParts.{HasParts, Part, RowHasParts, word_part}
 
@@ -100,5 +100,5 @@ refused_for (sized name s) h bytes at reason (inr (n, is, p)) =
 pub row_refused_for : (layout : Layout) → RowHasParts HasItemReason layout
     → IsForItems (RefusesLayout layout)
 row_refused_for (exactly shape) h bytes at reason p = refused_for shape h bytes at reason p
-row_refused_for (rest name) h bytes at reason p = absurd p
+row_refused_for (remaining name) h bytes at reason p = absurd p
 row_refused_for (after shape next) h bytes at reason p = absurd h

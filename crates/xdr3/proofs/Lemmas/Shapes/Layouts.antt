@@ -1,7 +1,7 @@
 -- Layouts: what reading gives is so, and what is so is read.
 use Rattle.std.proofs.Common.{◌≡◌, ℕ, ◌+◌, ◌≤◌, List, [], ◌∷◌, ◌++◌, length, drop, Result, Ok, Err, refl, sym, ap, subst, ◌∙◌, append_assoc, append-nil, arith, inl, inr}
 use Rattle.xdr3.proofs.Common.{length-append, length-drop, drop_all, GetError, View, Item, Rest, AreBytes, Spells, Shape, Reads, ◌>>=◌, reading, Gives, IsRead}
-use Rattle.xdr3.specs.Layout.{Layout, exactly, rest, after, FitsLayout, ReadsLayout, RefusesLayout, reading_layout}
+use Rattle.xdr3.specs.Layout.{Layout, exactly, remaining, after, FitsLayout, ReadsLayout, RefusesLayout, reading_layout}
 use Rattle.xdr3.specs.Laws.{Decides, IsDecided, ReadsToTheEnd, ReadsWhole}
 use Rattle.xdr3.proofs.Lemmas.Reading.Bytes.{AreBytes-drop, bind_ok, bind_err, pair_is, never, drop_front, front_ends}
 use Rattle.xdr3.proofs.Lemmas.Reading.Items.{Spells-append, Spells-split, Spells-one, Spells-single}
@@ -19,7 +19,7 @@ pub stands_first : (layout : Layout) (bytes : List ℕ) (items : List Item) (lef
     → ReadsLayout layout bytes items left → StandsFirst layout bytes items left
 stands_first (exactly shape) bytes items left r =
     record { front = r.front; fits = r.fits; spells = r.spells; whole = r.whole }
-stands_first (rest name) bytes items left r = record {
+stands_first (remaining name) bytes items left r = record {
   front = bytes;
   fits = (bytes, r.1);
   spells =
@@ -46,7 +46,7 @@ read_whole : (layout : Layout) (body : List ℕ) (items : List Item) → FitsLay
     → Spells items body → ReadsLayout layout body items []
 read_whole (exactly shape) body items f s =
     record { front = body; fits = f; spells = s; whole = sym (append-nil body) }
-read_whole (rest name) body items f s =
+read_whole (remaining name) body items f s =
     let p = Spells-single (Rest name f.0) body (subst (λ (xs : List Item). Spells xs body) f.1 s) in
     (subst AreBytes (sym p.1) p.0, f.1 ∙ ap (λ (b : List ℕ). Rest name b ∷ []) (sym p.1), refl)
 read_whole (after shape next) body items f s =
@@ -87,7 +87,7 @@ exactly_decides shape body at fits h =
       refuses = λ stop. ((λ e. (d.refuses stop).0 e), (λ r. (d.refuses stop).1 r));
     }
 
-rest_decides : (name : List ℕ) → LayoutDecides (rest name)
+rest_decides : (name : List ℕ) → LayoutDecides (remaining name)
 unfolding reading_layout
 rest_decides name body at fits h = record {
   reads = λ items to. (
@@ -256,7 +256,7 @@ after_decides shape next ih body at fits h =
 
 pub layout_decides : (layout : Layout) → LayoutDecides layout
 layout_decides (exactly shape) = exactly_decides shape
-layout_decides (rest name) = rest_decides name
+layout_decides (remaining name) = rest_decides name
 layout_decides (after shape next) = after_decides shape next (λ items. layout_decides (next items))
 
 pub layout_is_decided : (layout : Layout) (bytes : List ℕ) → AreBytes bytes

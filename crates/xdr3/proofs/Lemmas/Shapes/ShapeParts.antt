@@ -1,5 +1,5 @@
 -- What is so of each part of a shape.
-use Rattle.xdr3.proofs.Common.{ℕ, Bool, true, false, List, Reason, BadBool, TooLong, Kind, Layout, exactly, rest, after, Shape, choose, hyper, fixed, write_verf, opaque, nothing, both, linked, counted, sized}
+use Rattle.xdr3.proofs.Common.{ℕ, Bool, true, false, List, Reason, BadBool, TooLong, Kind, Layout, exactly, remaining, after, Shape, choose, hyper, fixed, write_verf, opaque, nothing, both, linked, counted, sized}
 use Rattle.std.specs.Prelude.{⊤, if◌then◌else◌}
 
 -- what stands for one item of a value, under its name
@@ -29,7 +29,7 @@ module _ (P : Part → Type 0) where
   -- a layout that is one shape or a rest, as each row of the table of procedures is
   abbrev pub RowHasParts : Layout → Type 0
   RowHasParts (exactly shape) = HasParts shape
-  RowHasParts (rest name) = P (rest_part name)
+  RowHasParts (remaining name) = P (rest_part name)
   RowHasParts (after shape next) = ⊥
 
   pub parts_if : (b : Bool) (s t : Shape) → HasParts s → HasParts t → HasParts (if b then s else t)
@@ -57,5 +57,5 @@ module _ (P Q : Part → Type 0) (weaker : (part : Part) → P part → Q part) 
 
   pub row_weaker : (layout : Layout) → RowHasParts P layout → RowHasParts Q layout
   row_weaker (exactly shape) h = parts_weaker shape h
-  row_weaker (rest name) h = weaker (rest_part name) h
+  row_weaker (remaining name) h = weaker (rest_part name) h
   row_weaker (after shape next) h = absurd h

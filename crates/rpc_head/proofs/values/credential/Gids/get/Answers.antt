@@ -15,7 +15,7 @@ loop-i-init c =
       whole = refl;
       few = c.in_ok-count.ensures.accepted;
       so_far =
-          times_start (word (called "group")) c.in_ok-count.count c.args.input.now.body
+          times_start (word "group") c.in_ok-count.count c.args.input.now.body
           c.at_most.new.self.at;
     }
 
@@ -24,7 +24,7 @@ unfolding reading
 loop-i-preserved c =
     let moves = c.word.ensures.moves in
     let kept = c.loop-i.invariant in
-    let read : reading (word (called "group")) c.loop-i.input.body c.loop-i.input.at
+    let read : reading (word "group") c.loop-i.input.body c.loop-i.input.at
     ≡ Ok (Word (called "group") c.in_ok-word.word ∷ [], c.word.new.self.at) =
     rw c.in_ok-word.ensures.read refl in
     record {
@@ -34,7 +34,7 @@ loop-i-preserved c =
       whole = length-set c.loop-i.words c.loop-i.i c.in_ok-word.word ∙ kept.whole;
       few = kept.few;
       so_far =
-          times_more group_items (word (called "group")) (take c.loop-i.i c.loop-i.words)
+          times_more group_items (word "group") (take c.loop-i.i c.loop-i.words)
           (take (c.loop-i.i + 1) (set c.loop-i.words c.loop-i.i c.in_ok-word.word))
           c.in_ok-word.word c.in_ok-count.count c.loop-i.i c.args.input.now.body
           c.loop-i.input.body c.at_most.new.self.at c.loop-i.input.at c.word.new.self.at
@@ -53,9 +53,9 @@ returns-in_err-word-clause-read c =
     let p =
     err_from_is_err_and c.from_residual-in_err-word.result c.from_residual-in_err-word.ensures.1 in
     let kept = c.loop-i.invariant in
-    let stop : reading (word (called "group")) c.loop-i.input.body c.loop-i.input.at
+    let stop : reading (word "group") c.loop-i.input.body c.loop-i.input.at
     ≡ Err c.in_err-word.field-0.0 = rw c.in_err-word.ensures.read refl in
-    rw (p.1, p.2) (times_stop (called "gids") (word (called "group"))
+    rw (p.1, p.2) (times_stop (called "gids") (word "group")
     (flat_map group_items (take c.loop-i.i c.loop-i.words)) c.in_err-word.field-0.0 16
     c.in_ok-count.count c.loop-i.i c.args.input.now.body c.loop-i.input.body
     c.args.input.now.at c.at_most.new.self.at c.loop-i.input.at kept.same_body
@@ -70,7 +70,7 @@ returns-clause-read c =
     let count : length (take c.loop-i.i c.loop-i.words) ≡ c.loop-i.i =
     omega (arith, length-take c.loop-i.i c.loop-i.words, kept.whole, kept.few, c.loop-i.auto.i-end)
     in
-    times_done (called "gids") group_items (word (called "group")) (take c.loop-i.i c.loop-i.words)
+    times_done (called "gids") group_items (word "group") (take c.loop-i.i c.loop-i.words)
     16 c.in_ok-count.count c.loop-i.i c.args.input.now.body c.args.input.now.at
     c.at_most.new.self.at c.loop-i.input.at count c.loop-i.auto.i-end c.loop-i-test.false
     c.in_ok-count.ensures.read kept.so_far

@@ -1,4 +1,4 @@
-use Rattle.rpc_head.proofs.Common.{◌≡◌, ◌≤◌, length, take, flat_map, word, group_items, called}
+use Rattle.rpc_head.proofs.Common.{◌≡◌, ◌≤◌, length, take, flat_map, word, group_items}
 use Rattle.xdr3.proofs.Lemmas.Reading.Counted.{TimesSoFar}
 use Rattle.rpc_head.proofs.values.credential.Gids.get.Given as goal
 
@@ -9,6 +9,6 @@ invariant-loop-i l = record {
   within : l.input.at ≤ length l.input.body;
   whole : length l.words ≡ 16;
   few : l.count ≤ 16;
-  so_far : TimesSoFar (word (called "group")) (flat_map group_items (take l.i l.words)) l.count l.i
+  so_far : TimesSoFar (word "group") (flat_map group_items (take l.i l.words)) l.count l.i
       l.fn.input.body l.initial.input.at l.input.at;
 }
