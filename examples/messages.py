@@ -16,14 +16,14 @@ NFS_PROCEDURES = (
     'FSSTAT', 'FSINFO', 'PATHCONF', 'COMMIT')
 MOUNT_PROCEDURES = ('NULL', 'MNT', 'DUMP', 'UMNT', 'UMNTALL', 'EXPORT')
 
-# nfsstat3 (RFC 1813, section 2.6) and mountstat3 (section 5.1.5), the numbers that messages here
+# nfsstat3 (RFC 1813) and mountstat3 (section 5.1.5), the numbers that messages here
 # use.
 NOENT, IO, ACCES, EXIST, XDEV, INVAL, NOSPC = 2, 5, 13, 17, 18, 22, 28
 ROFS, MLINK, NOTEMPTY, DQUOT, STALE = 30, 31, 66, 69, 70
 BADHANDLE, NOT_SYNC, BAD_COOKIE = 10001, 10002, 10003
 TOOSMALL, BADTYPE, JUKEBOX = 10005, 10007, 10008
 
-# ftype3 (RFC 1813, section 2.5), stable_how (section 3.3.7) and createmode3 (section 3.3.8)
+# ftype3 (RFC 1813), stable_how (section 3.3.7) and createmode3 (section 3.3.8)
 REG, DIR, BLK, CHR, LNK, SOCK, FIFO = range(1, 8)
 UNSTABLE, DATA_SYNC, FILE_SYNC = range(3)
 UNCHECKED, GUARDED, EXCLUSIVE = range(3)
@@ -88,7 +88,7 @@ def success(xid: int, results: bytes = b'') -> bytes:
     return struct.pack('>6I', xid, 1, 0, 0, 0, 0) + results
 
 
-# --- NFS version 3: basic data types (RFC 1813, section 2.5) ---
+# --- NFS version 3: basic data types (RFC 1813) ---
 
 def fh(handle: bytes) -> bytes:
     """nfs_fh3."""

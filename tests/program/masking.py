@@ -21,7 +21,7 @@ SILLY_NAME = re.compile(rb'\.nfs[0-9a-f]{24}')
 def with_changing(items: Iterable[PlacedItem], is_call: bool) -> Iterator[tuple[PlacedItem, bool]]:
     """Yields each item, and whether others may change meanwhile what it says if it is a size or a
     count of links: it is of a reply, in the attributes of a directory, or after the word that
-    begins wcc_data (RFC 1813, section 2.6)."""
+    begins wcc_data (RFC 1813)."""
     is_directory = is_wcc = False
     for item in items:
         is_wcc = is_wcc or item.name == 'before'

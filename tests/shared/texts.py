@@ -24,7 +24,7 @@ WORDS = {
     'NONE': '0000000000000000',
     # mtype 1, MSG_ACCEPTED, AUTH_NONE without a body, SUCCESS
     'SUCCESS': '0000000100000000000000000000000000000000',
-    # fattr3 (RFC 1813, section 2.5): a folder, mode 755, two links, 4,096 bytes, file system 1,
+    # fattr3 (RFC 1813): a folder, mode 755, two links, 4,096 bytes, file system 1,
     # file 2
     'ATTRIBUTES': '00000002000001ed000000020000000000000000' '00000000000010000000000000001000'
     '0000000000000000'

@@ -8,7 +8,7 @@ use Rattle.capture3.specs.Entry.{Entry, items_of}
 use Rattle.capture3.specs.Rank.{HoldsDistinct}
 use Rattle.canon3.specs.Values.{handles_in}
 
--- the two have the same bytes (RFC 1813, section 2.5)
+-- the two have the same bytes (nfs_fh3, RFC 1813)
 abbrev pub same_handle : Handle → Handle → Bool
 same_handle a b = bytes_eq (handle_bytes a) (handle_bytes b)
 

@@ -5,7 +5,7 @@ use Rattle.std.specs.List.{flat_map}
 use Rattle.xdr3.specs.Item.{Item, Opaque, Handle, WriteVerf}
 use Rattle.capture3.specs.Entry.{Entry, Begin, Call, Turn, Reply, Close, End, items_of}
 
--- the handle of an item, where it has one that is not empty (RFC 1813, section 2.5)
+-- the handle of an item, where it has one that is not empty (nfs_fh3, RFC 1813)
 abbrev pub handle_in : Item → List (List ℕ)
 handle_in (Opaque Handle name (b ∷ bs)) = (b ∷ bs) ∷ []
 handle_in _ = []

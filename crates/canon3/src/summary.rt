@@ -43,7 +43,7 @@ pub struct Summary {
     pub connections: u32,
     pub calls: u32,
     pub replies: u32,
-    /// Distinct file handles that are not empty (RFC 1813, section 2.5).
+    /// Distinct file handles that are not empty (`nfs_fh3`, RFC 1813).
     pub handles: u32,
 }
 

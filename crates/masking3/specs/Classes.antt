@@ -48,19 +48,19 @@ position class = (row class).place
 abbrev pub is_one_of : List (List ℕ) → List ℕ → Bool
 is_one_of others name = list_any (bytes_eq name) others
 
--- of times, in attributes, guards and settings (RFC 1813, sections 2.5 and 2.6)
+-- of times, in attributes, guards and settings (nfstime3, RFC 1813)
 abbrev pub names_of_times : List (List ℕ)
 names_of_times =
     (called "atime_sec") ∷ (called "atime_nsec") ∷ (called "mtime_sec") ∷ (called "mtime_nsec")
     ∷ (called "ctime_sec") ∷ (called "ctime_nsec") ∷ []
 
--- of counts of space: FSSTAT3resok's (RFC 1813, section 3.3.18), and what a file uses (section 2.5)
+-- of counts of space: FSSTAT3resok's (RFC 1813, section 3.3.18), and what a file uses (fattr3)
 abbrev pub names_of_space : List (List ℕ)
 names_of_space =
     (called "used") ∷ (called "tbytes") ∷ (called "fbytes") ∷ (called "abytes") ∷ (called "tfiles")
     ∷ (called "ffiles") ∷ (called "afiles") ∷ []
 
--- of users and groups, in attributes and settings (RFC 1813, section 2.5) and in credentials
+-- of users and groups, in attributes and settings (fattr3 and sattr3, RFC 1813) and in credentials
 -- (RFC 5531, appendix A)
 abbrev pub names_of_owners : List (List ℕ)
 names_of_owners = (called "uid") ∷ (called "gid") ∷ []
@@ -73,7 +73,7 @@ class_of_group InCall = Some Owners
 class_of_group _ = None
 
 -- A size or a count of links has a class where a reply tells it of what others may change
--- meanwhile: in wcc_data (RFC 1813, section 2.6), and of a directory.
+-- meanwhile: in wcc_data (RFC 1813), and of a directory.
 abbrev pub class_in_wcc : ItemSpot → Option Class
 class_in_wcc InDirectory = Some Wcc
 class_in_wcc InWcc = Some Wcc

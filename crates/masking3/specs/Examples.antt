@@ -10,7 +10,7 @@ use Rattle.masking3.specs.Ways.{usual}
 abbrev pub AreMaskedAs : List Entry → List Entry → Type 0
 AreMaskedAs entries form = masked usual entries ≡ form
 
--- the attributes of a file of five bytes (RFC 1813, section 2.5), with one time in place of three
+-- the attributes of a file of five bytes (fattr3, RFC 1813), with one time in place of three
 abbrev pub file_attributes : (used fsid fileid sec nsec : ℕ) → List Item
 file_attributes used fsid fileid sec nsec =
     Word (codes "type") 1 ∷ Word (codes "mode") 420 ∷ Word (codes "nlink") 1

@@ -4,8 +4,8 @@ use Rattle.xdr3.specs.Item.{Item, Word, called}
 use Rattle.masking3.specs.declared.values.spot.ItemSpot.{ItemSpot}
 use Rattle.masking3.specs.declared.values.spot.ItemSpot.TheVariants.{InCall, InReply, InDirectory, InWcc}
 
--- A word `before` begins wcc_data (RFC 1813, section 2.6). A word `type` begins a fattr3, which is
--- a directory's if it is NF3DIR (2) (section 2.5).
+-- A word `before` begins wcc_data (RFC 1813). A word `type` begins a fattr3, which is
+-- a directory's if it is NF3DIR (2).
 abbrev pub after_word : ItemSpot → List ℕ → ℕ → ItemSpot
 after_word spot name n =
     (if bytes_eq name (called "before") then InWcc else

@@ -1,10 +1,12 @@
 -- What comes of a command line, from its words on.
 use Rattle.std.specs.Prelude.{◌≡◌, ◌⊎◌, ℕ, Bool, false, List, [], map, Some, Err, string_bytes}
+use Rattle.clap.specs.Words.{fault_of}
 use Rattle.capture3.specs.declared.fault.Error.TheVariants as errors
 use Rattle.canon3.specs.Canonical.{canonical_bytes}
 use Rattle.canon3.specs.Summary.{IsSummary}
 use Rattle.canon3.specs.declared.comparison.verdict.Which.TheVariants.{First}
 use Rattle.line3.specs.Asked.{Asks, AreRefused}
+use Rattle.line3.specs.Grammar.{app}
 use Rattle.line3.specs.declared.asked.Job.{Job}
 use Rattle.line3.specs.declared.asked.Job.TheVariants as jobs
 use Rattle.line3.specs.declared.asked.LineFault.{LineFault}
@@ -58,9 +60,10 @@ module _ {W : Type 0} (run : ProgramRun W) where
   abbrev pub AnswersJob : Job → Outcome → Type 0
   AnswersJob job outcome = DoesJob job outcome ⊎ LacksKeys job outcome
 
-  -- The words ask for a job, and this is its outcome; or they are refused, and nothing is read or
-  -- written.
+  -- The words ask for a job, clap finds no fault in them, and this is its outcome; or they are
+  -- refused, and nothing is read or written.
   abbrev pub AnswersLine : (words : List (List ℕ)) → Outcome → Type 0
-  AnswersLine words outcome = ((job : Job) × Asks words job × AnswersJob job outcome)
+  AnswersLine words outcome =
+      ((job : Job) × Asks words job × (fault_of app words ≡ []) × AnswersJob job outcome)
       ⊎ ((fault : LineFault) × (outcome ≡ outcomes.Line fault) × AreRefused words fault
       × (run.files.readings ≡ []) × KeepsQuiet)

@@ -15,7 +15,7 @@ use Rattle.line3.specs.declared.asked.LineFault.TheVariants.{Usage, Memory}
 use Rattle.line3.proofs.GrammarLemmas.{ends}
 use Rattle.line3.proofs.Reading.{Reads, all_pass, read_all, read_passes, trail_all, trail_passes}
 use Rattle.line3.proofs.Words.{at, end, end_is, further_turn, further_walked, name_then, names_ended, names_in-length, names_plain, plain_turn, plain_walked, split_one, split_two}
-use Rattle.nfs3mask.specs.machinery.Grammar.{mask_app}
+use Rattle.nfs3mask.specs.Grammar.{mask_app}
 
 simple : is_simple mask_app ≡ true
 unfolding clap_on_literals

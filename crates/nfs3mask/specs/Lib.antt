@@ -1,4 +1,5 @@
 pub mod Changes
+pub mod Grammar
 pub mod MaskLine
 pub mod Masking
 pub mod machinery

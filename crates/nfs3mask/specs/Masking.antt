@@ -1,5 +1,6 @@
 -- What came of masking a capture, from the words of the command line on.
-use Rattle.std.specs.Prelude.{◌≡◌, ◌⊎◌, ℕ, Bool, false, List, Ok, Err, string_bytes}
+use Rattle.std.specs.Prelude.{◌≡◌, ◌⊎◌, ℕ, Bool, false, List, [], Ok, Err, string_bytes}
+use Rattle.clap.specs.Words.{fault_of}
 use Rattle.capture3.specs.declared.fault.Error.TheVariants as errors
 use Rattle.canon3.specs.Summary.{IsSummary}
 use Rattle.line3.specs.declared.asked.LineFault.{LineFault}
@@ -8,6 +9,7 @@ use Rattle.program3.specs.Files.{FilesRun, RewritesFile, TouchesNone}
 use Rattle.program3.specs.declared.outcome.Outcome.{Outcome}
 use Rattle.program3.specs.declared.outcome.Outcome.TheVariants as outcomes
 use Rattle.nfs3mask.specs.Changes.{mask_text}
+use Rattle.nfs3mask.specs.Grammar.{mask_app}
 use Rattle.nfs3mask.specs.MaskLine.{AreMaskWordsRefused, AsksForMask}
 use Rattle.nfs3mask.specs.declared.line.asked.MaskJob.{MaskJob}
 
@@ -31,10 +33,11 @@ module _ (run : FilesRun) where
   AnswersMaskJob has_keys job outcome = MasksFile job outcome
       ⊎ ((has_keys ≡ false) × TouchesNone run × (outcome ≡ outcomes.Counted (Err errors.Read)))
 
-  -- The words ask for a mask, and this is the outcome; or they are refused, and nothing is read or
-  -- written.
+  -- The words ask for a mask, clap finds no fault in them, and this is the outcome; or they are
+  -- refused, and nothing is read or written.
   abbrev pub AnswersMaskLine : (has_keys : Bool) → (words : List (List ℕ)) → Outcome → Type 0
   AnswersMaskLine has_keys words outcome =
-      ((job : MaskJob) × AsksForMask words job × AnswersMaskJob has_keys job outcome)
+      ((job : MaskJob) × AsksForMask words job × (fault_of mask_app words ≡ [])
+      × AnswersMaskJob has_keys job outcome)
       ⊎ ((fault : LineFault) × (outcome ≡ outcomes.Line fault) × AreMaskWordsRefused words fault
       × TouchesNone run)

@@ -19,7 +19,7 @@ use std::hash::BuildHasher;
 use std::marker::Model;
 use xdr3::{PlainField, Visit};
 
-/// A visitor that collects the distinct file handles that are not empty (RFC 1813, section 2.5).
+/// A visitor that collects the distinct file handles that are not empty (`nfs_fh3`, RFC 1813).
 #[derive(Drop)]
 pub struct HandleTable<S: BuildHasher + Drop> {
     numbers: Numbers<Handle, S>,

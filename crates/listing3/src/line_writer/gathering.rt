@@ -10,7 +10,7 @@ use capture3::Silent;
 use std::hash::BuildHasher;
 use xdr3::Visit;
 
-/// A visitor that may keep file handles (RFC 1813, section 2.5), and keeps nothing of other items. So
+/// A visitor that may keep file handles (`nfs_fh3`, RFC 1813), and keeps nothing of other items. So
 /// only the handles of a message have to be passed to it.
 pub(crate) trait Gathering: Visit {
     /// Items without handles change nothing.

@@ -46,7 +46,7 @@ abbrev pub IsKeptItem : Way → Item → Type 0
 IsKeptItem owners (Word name n) = is_kept_name owners name ≡ true
 IsKeptItem owners _ = ⊥
 
--- ---- attributes (RFC 1813, section 2.5)
+-- ---- attributes (fattr3, RFC 1813)
 
 -- the item of a field whose bytes are zeros
 abbrev pub field_item : PlainField → Item

@@ -1,4 +1,4 @@
-//! The attributes of a file (RFC 1813, section 2.5), masked at once. Their fields are told by all their names, which
+//! The attributes of a file (`fattr3`, RFC 1813), masked at once. Their fields are told by all their names, which
 //! are constants where attributes are read, so no name is compared when the program runs.
 
 ghost use Rattle.std.specs.Prelude.{◌≡◌, ◌≤◌, ◌+◌, ◌∷◌, [], IsTrue, OnOk, drop, length, map, take};

@@ -9,18 +9,18 @@ use crate::values::ways::Way;
 /// A class of what two runs of one script never share: of values, of names, or of bodies.
 #[derive(Clone, Copy, Debug, PartialEq, Eq)]
 pub enum Class {
-    /// The times of files, in attributes, guards and settings (RFC 1813, section 2.5).
+    /// The times of files, in attributes, guards and settings (`nfstime3`, RFC 1813).
     Times,
     /// The stamps of AUTH_SYS credentials (RFC 5531, appendix A).
     Stamps,
     /// The names of machines in AUTH_SYS credentials (RFC 5531, appendix A), and of hosts in DUMP's results
     /// (RFC 1813, section 5.2.2).
     Machines,
-    /// The counts of free space (RFC 1813, section 3.3.18), and the space that a file uses (section 2.5).
+    /// The counts of free space (RFC 1813, section 3.3.18), and the space that a file uses (`fattr3`).
     Space,
-    /// The ids of files (RFC 1813, section 2.5).
+    /// The ids of files (`fileid3`, RFC 1813).
     Ids,
-    /// The ids of file systems (RFC 1813, section 2.5).
+    /// The ids of file systems (`fsid` of `fattr3`, RFC 1813).
     Fsids,
     /// The cookies of directories (RFC 1813, section 3.3.16).
     Cookies,
@@ -31,7 +31,7 @@ pub enum Class {
     /// The users and groups of attributes, settings and AUTH_SYS credentials, with their lists of groups.
     Owners,
     /// What a reply says of sizes and counts of links that others may change meanwhile: in weak cache
-    /// consistency data (RFC 1813, section 2.6), and of directories.
+    /// consistency data (`wcc_data`, RFC 1813), and of directories.
     Wcc,
     /// The names of files that a Linux client removed while they were open: `.nfs` and 24 lower-case
     /// hexadecimal digits, where a file has its name (RFC 1813, sections 3.3.3 to 3.3.17).

@@ -17,7 +17,7 @@ pub enum ItemSpot {
     InReply,
     /// In a reply, in the attributes of a directory, or after them.
     InDirectory,
-    /// In a reply, in wcc_data (RFC 1813, section 2.6), or after it.
+    /// In a reply, in wcc_data (RFC 1813), or after it.
     InWcc,
 }
 

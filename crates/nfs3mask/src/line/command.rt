@@ -1,7 +1,9 @@
 //! The command line.
 
-ghost use Rattle.std.specs.Prelude.{◌≡◌, ◌∷◌, ℕ, IfErr, IfOk, List, map, string_bytes};
+ghost use Rattle.std.specs.Prelude.{◌≡◌, ◌∷◌, ℕ, [], IfErr, IfOk, List, OnOk, map, string_bytes};
+ghost use Rattle.clap.specs.Words.{fault_of};
 ghost use Rattle.line3.specs.Asked.{IsUsage, without_end};
+ghost use Rattle.nfs3mask.specs.Grammar.{mask_app};
 ghost use Rattle.nfs3mask.specs.MaskLine.{AreMaskWordsRefused, AsksForMask, IsMaskLine};
 
 use crate::line::asked::MaskJob;
@@ -21,6 +23,7 @@ use std::alloc::{AllocError, Global};
 /// - `Memory` if memory ran out.
 pub fn mask_job<'a>(alloc: Global, words: &'a mut Vec<String>) -> Result<MaskJob<'a>, LineFault>
     ensures asked { IfOk result (AsksForMask (map string_bytes words.old.items)) }
+    ensures accepted { OnOk result (fault_of mask_app (map string_bytes words.old.items) ≡ []) }
     ensures refused { IfErr result (AreMaskWordsRefused (map string_bytes words.old.items)) }
 {
     let command = match command(alloc) {

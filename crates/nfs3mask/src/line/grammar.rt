@@ -2,7 +2,7 @@
 
 ghost use Rattle.std.specs.Prelude.{◌≡◌, IfOk, false};
 ghost use Rattle.clap.specs.Words.{app_of, rule_of};
-ghost use Rattle.nfs3mask.specs.machinery.Grammar.{changes_rule, mask_app};
+ghost use Rattle.nfs3mask.specs.Grammar.{changes_rule, mask_app};
 
 use clap::{Arg, Command};
 use line3::file;
