@@ -2,7 +2,8 @@
 use Rattle.canon3.proofs.Common.{◌≡◌, ℕ, ◌<◌, ◌≤◌, ◌^◌, List, [], ◌∷◌, ◌++◌, length, refl, sym, ap, ◌∙◌, subst, arith, if◌then◌else◌, false, nat_eq, Item, Word, Opaque, Spells, zero_spelling, more, ProcId, call_head, reply_head, arguments_of, results_of, Decides-eqb}
 use Rattle.capture3.proofs.Lemmas.Connections.RankLemmas.{by_test}
 use Rattle.xdr3.specs.Item.{Var, called}
-use Rattle.xdr3.specs.Shape.{Shape, ◌then◌, both, listed, nothing, word, Fits}
+use Rattle.xdr3.specs.Named.{listed, word}
+use Rattle.xdr3.specs.Shape.{Shape, ◌then◌, both, nothing, Fits, word_named}
 use Rattle.xdr3.specs.Layout.{Layout, exactly, FitsLayout}
 use Rattle.rpc_head.specs.Messages.{has_results, procedure_in}
 use Rattle.rpc_head.specs.Shapes.{accept, credential, verifier}
@@ -11,7 +12,7 @@ use Rattle.canon3.proofs.Lemmas.WellFormed.Messages.{BeginsWithWord, FitsCall, F
 
 -- ---- the words that choose a layout
 
-first_word : (name : List ℕ) (s : Shape) (items : List Item) → Fits (both (word name) s) items
+first_word : (name : List ℕ) (s : Shape) (items : List Item) → Fits (both (word_named name) s) items
     → (n : ℕ) × (back : List Item) × Fits s back × (items ≡ Word name n ∷ back)
 first_word name s items p = (
   p.2.0,
@@ -20,7 +21,7 @@ first_word name s items p = (
   rw (p.4, p.2.4, p.2.3) refl,
 )
 
-pub mtype_is : (types : List ℕ) (items : List Item) → Fits (listed (called "mtype") types) items
+pub mtype_is : (types : List ℕ) (items : List Item) → Fits (listed "mtype" types) items
     → (n : ℕ) × (items ≡ Word (called "mtype") n ∷ [])
 mtype_is types items p = (p.0, rw (p.4, p.3) refl)
 
@@ -37,9 +38,9 @@ unfolding call_head
 call_words head p =
     let a =
     first_word (called "prog")
-    (word (called "vers") then word (called "proc") then credential then verifier) p.1 p.3 in
+    (word "vers" then word "proc" then credential then verifier) p.1 p.3 in
     let b =
-    first_word (called "vers") (word (called "proc") then credential then verifier) a.1 a.2 in
+    first_word (called "vers") (word "proc" then credential then verifier) a.1 a.2 in
     let c = first_word (called "proc") (credential then verifier) b.1 b.2 in
     (p.0, a.0, b.0, c.0, c.1, cc (p.4, a.3, b.3, c.3))
 
@@ -139,13 +140,13 @@ module _ (R : Item → Item → Type 0) where
     denial_stays name x y mtype stat back later (more a (more s r)) f =
         rw (stay.reply_stat stat _ s, f) refl
 
-    module _ (starts : (types : List ℕ) → Takes R (listed (called "mtype") types)) where
+    module _ (starts : (types : List ℕ) → Takes R (listed "mtype" types)) where
       pub call_becomes : Takes R call_head → ((id : ProcId) → RowTakes R (arguments_of id))
           → (items others : List Item) → FitsCall items → ChangesTo items others
           → FitsCall others
       call_becomes heads rows items others p c =
           headed_call_fits others (headed_becomes (called "xid")
-          (listed (called "mtype") (0 ∷ [])) call_head call_next (starts (0 ∷ [])) heads
+          (listed "mtype" (0 ∷ [])) call_head call_next (starts (0 ∷ [])) heads
           (λ l. rows (procedure_in l))
           (λ m n start head front q r k.
           let s = mtype_is (0 ∷ []) start q in
@@ -160,7 +161,7 @@ module _ (R : Item → Item → Type 0) where
       unfolding reply_head
       reply_becomes heads rows id items others p c =
           headed_reply_fits id others (headed_becomes (called "xid")
-          (listed (called "mtype") (1 ∷ [])) reply_head (reply_next id) (starts (1 ∷ [])) heads
+          (listed "mtype" (1 ∷ [])) reply_head (reply_next id) (starts (1 ∷ [])) heads
           (rows id)
           (λ m n start head front q r k.
           let s = mtype_is (1 ∷ []) start q in

@@ -1,7 +1,8 @@
 -- Messages, conversations and captures under canonical numbers.
 use Rattle.canon3.proofs.Common.{◌≡◌, ℕ, ◌<◌, ◌≤◌, ◌^◌, List, [], ◌∷◌, ◌++◌, length, map, refl, sym, ap, ◌∙◌, arith, append_assoc, append-nil, nat_eq, bytes_eq, Decides-eqb, Item, Opaque, Handle, WriteVerf, ProcId, Spells, zero_spelling, rank, numbered_item, numbered_message, numbered, canonical, handles, verifiers, Member, ReplyItems, xid_in, call_head, reply_head, arguments_of, max_bytes, Entry, Call, Turn, Close, call_xids, reply_entry, Typed}
-use Rattle.xdr3.specs.Shape.{Shape, choose, hyper, fixed, write_verf, opaque, nothing, both, linked, counted, sized, Fits, listed}
-use Rattle.xdr3.specs.Layout.{Layout, exactly, rest, after}
+use Rattle.xdr3.specs.Named.{listed}
+use Rattle.xdr3.specs.Shape.{Shape, choose, hyper, fixed, write_verf, opaque, nothing, both, linked, counted, sized, Fits}
+use Rattle.xdr3.specs.Layout.{Layout, exactly, remaining, after}
 use Rattle.xdr3.proofs.Lemmas.Shapes.ShapeParts.{HasParts, Part, RowHasParts, opaque_part, parts_weaker, row_weaker, write_verf_part}
 use Rattle.rpc_head.specs.Messages.{procedure_in}
 use Rattle.xdr3.specs.Item.{called}
@@ -62,7 +63,7 @@ module _ (hs vs : List (List ℕ)) where
     where
       of_room : (layout : Layout) → RowHasParts HasRoom layout → RowTakes IsNumbered layout
       of_room (exactly s) k = takes s k
-      of_room (rest name) k = λ bytes j e. (bytes, e)
+      of_room (remaining name) k = λ bytes j e. (bytes, e)
       of_room (after s next) k = absurd k
 
   is_spelled : IsSpelledAnew IsNumbered
@@ -93,8 +94,8 @@ module _ (hs vs : List (List ℕ)) where
     accept_stat = λ n j e. e;
   }
 
-  starts : (types : List ℕ) → Takes IsNumbered (listed (called "mtype") types)
-  starts types = takes (listed (called "mtype") types) (tt, λ n. tt)
+  starts : (types : List ℕ) → Takes IsNumbered (listed "mtype" types)
+  starts types = takes (listed "mtype" types) (tt, λ n. tt)
 
   module _ (xs : List ℕ) where
     abbrev under : List Item → List Item

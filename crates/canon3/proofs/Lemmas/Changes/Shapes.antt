@@ -3,7 +3,7 @@
 use Rattle.canon3.proofs.Common.{◌≡◌, ℕ, suc, ◌≤◌, Bool, List, [], ◌∷◌, ◌++◌, length, refl, sym, ap, subst, arith, length-append, map, AllByRecursion, flat_map, Item, Word, Hyper, Fixed, WriteVerf, Opaque, Rest, Spells, SpellsItem, zero_spelling, zero_spelling_of, Pairwise, none, more, ⊤}
 use Rattle.std.specs.Prelude.{IsTrue}
 use Rattle.xdr3.specs.Shape.{Shape, choose, hyper, fixed, write_verf, opaque, nothing, both, linked, counted, sized, Fits, links, joined}
-use Rattle.xdr3.specs.Layout.{Layout, exactly, rest, after, FitsLayout}
+use Rattle.xdr3.specs.Layout.{Layout, exactly, remaining, after, FitsLayout}
 use Rattle.xdr3.proofs.Lemmas.Shapes.ShapeParts.{HasParts}
 use Rattle.canon3.proofs.Lemmas.WellFormed.Items.{IsEach, all_fitting}
 
@@ -74,7 +74,7 @@ module _ (R : Item → Item → Type 0) where
 
   abbrev pub RowTakes : Layout → Type 0
   RowTakes (exactly s) = Takes s
-  RowTakes (rest name) =
+  RowTakes (remaining name) =
       (bytes : List ℕ) (j : Item) → R (Rest name bytes) j → (other : List ℕ) × (j ≡ Rest name other)
   RowTakes (after s next) = ⊥
 
@@ -163,7 +163,7 @@ module _ (R : Item → Item → Type 0) where
   pub row_becomes : (layout : Layout) (items others : List Item) → RowTakes layout
       → FitsLayout layout items → Become items others → FitsLayout layout others
   row_becomes (exactly s) items others t p c = fits_become s items others t p c
-  row_becomes (rest name) items others t p c =
+  row_becomes (remaining name) items others t p c =
       let f = one_becomes (Rest name p.0) items others p.1 c in
       let r = t p.0 f.0 f.1 in (r.0, cc (f.2, r.1))
   row_becomes (after s next) items others t p c = absurd t

@@ -4,7 +4,7 @@ use Rattle.canon3.proofs.Common.{⊤, AllByRecursion, flat_map, handle_in, verif
 use Rattle.std.specs.Int.{bytes_high_first, byte_at}
 use Rattle.std.proofs.lemmas.List.{length-replicate}
 use Rattle.xdr3.specs.Shape.{Shape, choose, hyper, fixed, write_verf, opaque, nothing, both, linked, counted, sized, Fits, links}
-use Rattle.xdr3.specs.Layout.{Layout, exactly, rest, after, FitsLayout}
+use Rattle.xdr3.specs.Layout.{Layout, exactly, remaining, after, FitsLayout}
 use Rattle.xdr3.proofs.Lemmas.Reading.Items.{Spells-one, Spells-single}
 use Rattle.xdr3.proofs.Lemmas.Shapes.ShapeParts.{HasParts, Part, RowHasParts, fixed_part, hyper_part, opaque_part, rest_part, size_part, word_part, write_verf_part}
 use Rattle.procs3.proofs.ProtocolParts.{HasRoom}
@@ -76,7 +76,7 @@ module _ (P : Item → Type 0) where
   all_in_row : (layout : Layout) (items : List Item) → RowHasParts IsEach layout
       → FitsLayout layout items → AllAre items
   all_in_row (exactly s) items h p = all_fitting s items h p
-  all_in_row (rest name) items h p = rw p.1 (h p.0, tt)
+  all_in_row (remaining name) items h p = rw p.1 (h p.0, tt)
   all_in_row (after s next) items h p = absurd h
 
   pub all_in_message : (s : Shape) (next : List Item → Layout) (items : List Item)

@@ -1,6 +1,7 @@
 -- Messages: how they begin, and what is so of each of their items.
 use Rattle.canon3.proofs.Common.{◌≡◌, ℕ, List, [], ◌∷◌, ◌++◌, refl, if◌then◌else◌, AllByRecursion, Item, Word, ProcId, call_head, reply_head, arguments_of, results_of}
-use Rattle.xdr3.specs.Shape.{Shape, ◌then◌, both, nothing, word, listed, Fits}
+use Rattle.xdr3.specs.Named.{listed}
+use Rattle.xdr3.specs.Shape.{Shape, ◌then◌, both, nothing, Fits, word_named}
 use Rattle.xdr3.specs.Layout.{Layout, exactly, after, FitsLayout}
 use Rattle.xdr3.proofs.Lemmas.Shapes.ShapeParts.{HasParts, Part, RowHasParts, parts_weaker, row_weaker}
 use Rattle.xdr3.specs.Item.{called}
@@ -14,7 +15,7 @@ use Rattle.canon3.proofs.Lemmas.WellFormed.Items.{all_in_message, short_part, Is
 
 module _ (name : List ℕ) (s t : Shape) (next : List Item → Layout) where
   abbrev headed : Layout
-  headed = after (both (both (word name) s) t) next
+  headed = after (both (both (word_named name) s) t) next
 
   pub record IsHeaded (items : List Item) : Type 0 where
     pub number : ℕ
@@ -64,14 +65,14 @@ call_next items = arguments_of (procedure_in items)
 
 abbrev pub IsHeadedCall : List Item → Type 0
 IsHeadedCall items =
-    IsHeaded (called "xid") (listed (called "mtype") (0 ∷ [])) call_head call_next items
+    IsHeaded (called "xid") (listed "mtype" (0 ∷ [])) call_head call_next items
 
 abbrev pub reply_next : ProcId → List Item → Layout
 reply_next id items = if has_results items then results_of id else exactly nothing
 
 abbrev pub IsHeadedReply : ProcId → List Item → Type 0
 IsHeadedReply id items =
-    IsHeaded (called "xid") (listed (called "mtype") (1 ∷ [])) reply_head (reply_next id) items
+    IsHeaded (called "xid") (listed "mtype" (1 ∷ [])) reply_head (reply_next id) items
 
 abbrev pub FitsCall : List Item → Type 0
 FitsCall items = FitsLayout (call_layout arguments_of) items
@@ -82,24 +83,24 @@ FitsReply id items = FitsLayout (reply_layout (results_of id)) items
 pub is_headed_call : (items : List Item) → FitsCall items → IsHeadedCall items
 unfolding call_layout start_of_type
 is_headed_call items p =
-    is_headed (called "xid") (listed (called "mtype") (0 ∷ [])) call_head call_next items p
+    is_headed (called "xid") (listed "mtype" (0 ∷ [])) call_head call_next items p
 
 pub headed_call_fits : (items : List Item) → IsHeadedCall items → FitsCall items
 unfolding call_layout start_of_type
 headed_call_fits items p =
-    headed_fits (called "xid") (listed (called "mtype") (0 ∷ [])) call_head call_next items p
+    headed_fits (called "xid") (listed "mtype" (0 ∷ [])) call_head call_next items p
 
 pub is_headed_reply : (id : ProcId) (items : List Item) → FitsReply id items
     → IsHeadedReply id items
 unfolding reply_layout start_of_type
 is_headed_reply id items p =
-    is_headed (called "xid") (listed (called "mtype") (1 ∷ [])) reply_head (reply_next id) items p
+    is_headed (called "xid") (listed "mtype" (1 ∷ [])) reply_head (reply_next id) items p
 
 pub headed_reply_fits : (id : ProcId) (items : List Item) → IsHeadedReply id items
     → FitsReply id items
 unfolding reply_layout start_of_type
 headed_reply_fits id items p =
-    headed_fits (called "xid") (listed (called "mtype") (1 ∷ [])) reply_head (reply_next id) items p
+    headed_fits (called "xid") (listed "mtype" (1 ∷ [])) reply_head (reply_next id) items p
 
 -- ---- what is so of each item of a message
 

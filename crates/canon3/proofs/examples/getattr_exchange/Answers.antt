@@ -6,7 +6,7 @@ use Rattle.record_mark.specs.RecordMark.{is_last, length_of}
 use Rattle.record_mark.specs.Word.{number}
 use Rattle.rpc_head.specs.Shapes.{accept, call_head, credential, deny, message_start, reply_head, verifier}
 use Rattle.xdr3.specs.Item.{called}
-use Rattle.nfs3_types.specs.Shapes.{attributes, file_kind, handle, results, status, time, times}
+use Rattle.nfs3_types.specs.Shapes.{attributes, handle, results, status, time_named}
 use Rattle.procs3.specs.Table.{nfs_procedures}
 use Rattle.capture3.specs.BodyProgram.{judge_call, judge_reply}
 use Rattle.capture3.proofs.Lemmas.Files.Verdicts.{typed_from_verdict}
@@ -16,7 +16,7 @@ use Rattle.canon3.proofs.examples.getattr_exchange.Goals as goal
 worked : IsWorked exchange exchange_entries exchange_form
 unfolding all_bytes number is_last length_of judge_call judge_reply reading reading_layout
     message_start call_layout start_of_type call_head reply_layout reply_head credential
-    verifier accept deny arguments_of results_of nfs_procedures called file_kind handle time times
+    verifier accept deny arguments_of results_of nfs_procedures called handle time_named
     attributes status results
 worked =
     record {
