@@ -5,7 +5,7 @@ use Rattle.hex.specs.Hex.{encode_lower}
 use Rattle.xdr3.specs.Item.{Item, Word, Hyper, Fixed, WriteVerf, Opaque, Rest, Kind, Var, Text, Handle}
 use Rattle.rpc_head.specs.declared.values.call.ProcId.{ProcId}
 use Rattle.rpc_head.specs.Messages.{procedure_in}
-use Rattle.procs3.specs.Names.{name_of_procedure}
+use Rattle.procs3.specs.Table.{name_of_procedure}
 use Rattle.capture3.specs.Entry.{Entry, Call, Reply}
 use Rattle.canon3.specs.Parting.{connections, records_after}
 

@@ -3,7 +3,7 @@ use Rattle.std.specs.Prelude.{◌≡◌, ℕ, List, Option, Some, codes}
 use Rattle.nfs3_types.specs.declared.values.directory.DirOp.{DirOp}
 use Rattle.capture3.specs.Bodies.{IsCall}
 use Rattle.procs3.specs.declared.values.args.Args.TheVariants.{Lookup}
-use Rattle.procs3.specs.Names.{name_of_procedure}
+use Rattle.procs3.specs.Table.{name_of_procedure}
 use Rattle.capture3.specs.declared.message.values.CallMsg.{CallMsg}
 use Rattle.capture3.specs.MessageValues.{call_items}
 

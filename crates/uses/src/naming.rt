@@ -1,7 +1,7 @@
 //! A call as a value of its procedure.
 
 ghost use Rattle.std.specs.Prelude.{◌≢◌, IfSome, IsNone};
-ghost use Rattle.procs3.specs.Names.{name_of_procedure};
+ghost use Rattle.procs3.specs.Table.{name_of_procedure};
 ghost use Rattle.uses.specs.Naming.{LooksUp, lookup};
 
 use capture3::CallRef;

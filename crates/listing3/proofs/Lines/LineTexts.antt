@@ -1,8 +1,7 @@
 -- What lines tell: where two listings are equal, so are the messages of the connections.
-use Rattle.std.specs.Prelude.{nat_eq, nat_le}
-use Rattle.listing3.proofs.Common.{◌≡◌, ◌≢◌, ◌≤◌, ◌<◌, ◌^◌, ℕ, zero, suc, ◌+◌, Bool, true, false, List, [], ◌∷◌, ◌++◌, length, map, slice_index, Option, Some, None, refl, sym, ap, ap₂, ◌∙◌, subst, append_assoc, arith, codes, decimal, if◌then◌else◌, AllByRecursion, list_all, and_parts, leb-true, decimal_injective, Item, ProcId, procedure_in, Entry, Call, Turn, Close, Conversation, ReplyItems, xid_in, client, line, lines_after, message_text, named, prefix, procedure_name, server, shown_item, shown_items}
-use Rattle.procs3.specs.Names.{mount_name, name_of_procedure, nfs_name}
-use Rattle.procs3.specs.Table.{is_mount, is_nfs}
+use Rattle.std.specs.Prelude.{◌==◌, ◌&&◌, nat_le}
+use Rattle.listing3.proofs.Common.{◌≡◌, ◌≢◌, ◌≤◌, ◌<◌, ◌^◌, ℕ, zero, suc, ◌+◌, Bool, true, false, List, [], ◌∷◌, ◌++◌, length, map, slice_index, Option, refl, sym, ap, ap₂, ◌∙◌, subst, append_assoc, arith, decimal, if◌then◌else◌, AllByRecursion, list_all, and_parts, leb-true, decimal_injective, Item, ProcId, procedure_in, Entry, Call, Turn, Close, Conversation, ReplyItems, xid_in, client, line, lines_after, message_text, named, prefix, procedure_name, server, shown_item, shown_items}
+use Rattle.procs3.specs.Table.{Procedure, mount_procedures, name_in, name_of_procedure, nfs_procedures, procedures_of}
 use Rattle.capture3.specs.Typed.{HaveOneProcedure, IsIn, reply_entry}
 use Rattle.canon3.proofs.Lemmas.WellFormed.Files.{all_of, all_regrouped}
 use Rattle.listing3.proofs.NamedItems.{AreNamed}
@@ -25,51 +24,33 @@ word_run (c ∷ l) h =
 abbrev IsWordName : Option (List ℕ) → Type 0
 IsWordName name = is_word (named name) ≡ true
 
-name_if : (b : Bool) (x y : Option (List ℕ)) → IsWordName x → IsWordName y
-    → IsWordName (if b then x else y)
-name_if true x y h k = h
-name_if false x y h k = k
+-- the names of a table's rows are words
+abbrev AreWordRows : List Procedure → Type 0
+AreWordRows rows = AllByRecursion (λ row. is_word row.0 ≡ true) rows
 
-nfs_name_word : (n : ℕ) → IsWordName (nfs_name n)
-nfs_name_word n =
-    name_if (nat_eq n 0) (Some (codes "NFSPROC3_NULL")) _ refl (
-    name_if (nat_eq n 1) (Some (codes "NFSPROC3_GETATTR")) _ refl (
-    name_if (nat_eq n 2) (Some (codes "NFSPROC3_SETATTR")) _ refl (
-    name_if (nat_eq n 3) (Some (codes "NFSPROC3_LOOKUP")) _ refl (
-    name_if (nat_eq n 4) (Some (codes "NFSPROC3_ACCESS")) _ refl (
-    name_if (nat_eq n 5) (Some (codes "NFSPROC3_READLINK")) _ refl (
-    name_if (nat_eq n 6) (Some (codes "NFSPROC3_READ")) _ refl (
-    name_if (nat_eq n 7) (Some (codes "NFSPROC3_WRITE")) _ refl (
-    name_if (nat_eq n 8) (Some (codes "NFSPROC3_CREATE")) _ refl (
-    name_if (nat_eq n 9) (Some (codes "NFSPROC3_MKDIR")) _ refl (
-    name_if (nat_eq n 10) (Some (codes "NFSPROC3_SYMLINK")) _ refl (
-    name_if (nat_eq n 11) (Some (codes "NFSPROC3_MKNOD")) _ refl (
-    name_if (nat_eq n 12) (Some (codes "NFSPROC3_REMOVE")) _ refl (
-    name_if (nat_eq n 13) (Some (codes "NFSPROC3_RMDIR")) _ refl (
-    name_if (nat_eq n 14) (Some (codes "NFSPROC3_RENAME")) _ refl (
-    name_if (nat_eq n 15) (Some (codes "NFSPROC3_LINK")) _ refl (
-    name_if (nat_eq n 16) (Some (codes "NFSPROC3_READDIR")) _ refl (
-    name_if (nat_eq n 17) (Some (codes "NFSPROC3_READDIRPLUS")) _ refl (
-    name_if (nat_eq n 18) (Some (codes "NFSPROC3_FSSTAT")) _ refl (
-    name_if (nat_eq n 19) (Some (codes "NFSPROC3_FSINFO")) _ refl (
-    name_if (nat_eq n 20) (Some (codes "NFSPROC3_PATHCONF")) _ refl (
-    name_if (nat_eq n 21) (Some (codes "NFSPROC3_COMMIT")) _ refl (
-    refl))))))))))))))))))))))
+name_of_row : (rows : List Procedure) (n : ℕ) → AreWordRows rows → IsWordName (name_in rows n)
+name_of_row [] n h = refl
+name_of_row (row ∷ rows) zero h = h.0
+name_of_row (row ∷ rows) (suc n) h = name_of_row rows n h.1
 
-mount_name_word : (n : ℕ) → IsWordName (mount_name n)
-mount_name_word n =
-    name_if (nat_eq n 0) (Some (codes "MOUNTPROC3_NULL")) _ refl (
-    name_if (nat_eq n 1) (Some (codes "MOUNTPROC3_MNT")) _ refl (
-    name_if (nat_eq n 2) (Some (codes "MOUNTPROC3_DUMP")) _ refl (
-    name_if (nat_eq n 3) (Some (codes "MOUNTPROC3_UMNT")) _ refl (
-    name_if (nat_eq n 4) (Some (codes "MOUNTPROC3_UMNTALL")) _ refl (
-    name_if (nat_eq n 5) (Some (codes "MOUNTPROC3_EXPORT")) _ refl (
-    refl))))))
+rows_if : (b : Bool) (xs ys : List Procedure) → AreWordRows xs → AreWordRows ys
+    → AreWordRows (if b then xs else ys)
+rows_if true xs ys h k = h
+rows_if false xs ys h k = k
+
+nfs_names : AreWordRows nfs_procedures
+unfolding nfs_procedures
+nfs_names = assumption
+
+mount_names : AreWordRows mount_procedures
+unfolding mount_procedures
+mount_names = assumption
 
 id_word : (id : ProcId) → IsWordName (name_of_procedure id)
 id_word id =
-    name_if (is_nfs id) (nfs_name id.proc_no) _ (nfs_name_word id.proc_no)
-    (name_if (is_mount id) (mount_name id.proc_no) None (mount_name_word id.proc_no) refl)
+    name_of_row (procedures_of id) id.proc_no
+    (rows_if (id.prog == 100003 && id.vers == 3) nfs_procedures _ nfs_names
+    (rows_if (id.prog == 100005 && id.vers == 3) mount_procedures [] mount_names tt))
 
 procedure_run : (id : ProcId) → AllByRecursion IsInWord (procedure_name id)
 procedure_run id = word_run (procedure_name id) (id_word id)

@@ -2,7 +2,7 @@
 
 ghost use Rattle.std.specs.Prelude.{◌∷◌, [], codes};
 ghost use Rattle.xdr3.specs.Item.{Hyper, Opaque, Text, Word};
-ghost use Rattle.xdr3.specs.Shape.{both, hyper, opaque, word};
+ghost use Rattle.xdr3.specs.Shape.{both, hyper, opaque, word_named};
 
 use crate::asserts::{assert_holds, assert_same, ok};
 use std::alloc::{AllocError, Global};
@@ -18,7 +18,7 @@ struct Group {
 }
 
 impl<'a> Xdr<'a> for Group {
-    ghost shape = { word (codes "group") };
+    ghost shape = { word_named (codes "group") };
 
     #[tactic(auto, unfolding(xdr3::specs::Reading::reading))]
     fn get(_alloc: Global, input: &mut Input<'a>) -> Result<Group, GetError> {

@@ -10,7 +10,7 @@ listed_is k n a = by_test (k == n)
 
 begins_at : (side : Side) (x : ℕ) (items start head back : List Item)
     → items ≡ Word (called "xid") x ∷ ((start ++ head) ++ back)
-    → Fits (listed (called "mtype") (mtype_of side ∷ [])) start → BeginsOn side items
+    → Fits (listed "mtype" (mtype_of side ∷ [])) start → BeginsOn side items
 begins_at side x items start head back is p =
     let mtype : p.0 ≡ mtype_of side = listed_is (mtype_of side) p.0 p.2 in
     let start_is : start ≡ Word (called "mtype") (mtype_of side) ∷ [] =

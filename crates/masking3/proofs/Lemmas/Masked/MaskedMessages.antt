@@ -1,5 +1,5 @@
 -- Messages with masked values and texts are messages of the same procedures, and no longer.
-use Rattle.masking3.proofs.Common.{◌≡◌, ℕ, ◌<◌, ◌≤◌, ◌^◌, Bool, List, [], ◌∷◌, length, refl, sym, ap, ◌∙◌, arith, IsTrue, nat_eq, Option, None, Some, big_bytes, length-bytes_high_first, Item, Word, Hyper, Fixed, Text, Spells, SpellsItem, zero_spelling, zero_spelling_of, Layout, exactly, rest, after, ProcId, procedure_in, called, arguments_of, Side, Client, Server, max_bytes, Decides-eqb, ⊤, none, more, Class, ItemSpot, InCall, InReply, Way, Keep, Zero, Number, Ways, class_of, class_of_word, class_value, by_way, is_zero_that_stays, masked_item, masked_items, substitute, with_value, with_text, text_by, raw_by, next_spot, way_of, Raw, Part, fixed_part, hyper_part, opaque_part, rest_part, size_part, word_part, write_verf_part, parts_weaker, call_head, reply_head, FitsCall, FitsReply, is_headed_call, is_headed_reply, reply_next, Shape, both, choose, counted, fixed, hyper, linked, listed, nothing, opaque, sized, write_verf, before, IsEach, are_bytes_of_number, zero_spelled_one, cond_either, equivalence, length-with_keys}
+use Rattle.masking3.proofs.Common.{◌≡◌, ℕ, ◌<◌, ◌≤◌, ◌^◌, Bool, List, [], ◌∷◌, length, refl, sym, ap, ◌∙◌, arith, IsTrue, nat_eq, Option, None, Some, big_bytes, length-bytes_high_first, Item, Word, Hyper, Fixed, Text, Spells, SpellsItem, zero_spelling, zero_spelling_of, Layout, exactly, remaining, after, ProcId, procedure_in, called, arguments_of, Side, Client, Server, max_bytes, Decides-eqb, ⊤, none, more, Class, ItemSpot, InCall, InReply, Way, Keep, Zero, Number, Ways, class_of, class_of_word, class_value, by_way, is_zero_that_stays, masked_item, masked_items, substitute, with_value, with_text, text_by, raw_by, next_spot, way_of, Raw, Part, fixed_part, hyper_part, opaque_part, rest_part, size_part, word_part, write_verf_part, parts_weaker, call_head, reply_head, FitsCall, FitsReply, is_headed_call, is_headed_reply, reply_next, Shape, both, choose, counted, fixed, hyper, linked, listed, nothing, opaque, sized, write_verf, before, IsEach, are_bytes_of_number, zero_spelled_one, cond_either, equivalence, length-with_keys}
 use Rattle.canon3.proofs.Lemmas.Changes.Conversations.{IsLike}
 use Rattle.canon3.proofs.Lemmas.Changes.Messages.{ChangesTo, HeadsStay, call_becomes, message_anew, procedure_becomes, reply_becomes}
 use Rattle.canon3.proofs.Lemmas.Changes.Shapes.{Become, IsSpelledAnew, ItemStaysAsLong, RowTakes, Takes, WordStays, size_stays}
@@ -117,11 +117,11 @@ module _ (ways : Ways) (seen : Class → List ℕ) where
 
       row_takes : (layout : Layout) → RowTakesOn side layout → RowTakes (IsMasked side) layout
       row_takes (exactly s) h = takes s h
-      row_takes (rest name) h = λ bytes j r. (raw_by (way_of ways Raw) bytes, r.2)
+      row_takes (remaining name) h = λ bytes j r. (raw_by (way_of ways Raw) bytes, r.2)
       row_takes (after s next) h = absurd (h start on)
 
-      starts : (types : List ℕ) → Takes (IsMasked side) (listed (called "mtype") types)
-      starts types = takes (listed (called "mtype") types) (λ t o. mtype_takes t types)
+      starts : (types : List ℕ) → Takes (IsMasked side) (listed "mtype" types)
+      starts types = takes (listed "mtype" types) (λ t o. mtype_takes t types)
 
     heads_stay : HeadsStay (IsMasked side)
     unfolding called

@@ -1,9 +1,9 @@
 -- Each shape of the protocol takes masked values: a word of a class takes any value, and chooses
 -- nothing.
-use Rattle.masking3.proofs.Common.{cond_either, ◌≡◌, ℕ, Bool, false, List, AllByRecursion, refl, ⊤, ◌||◌, IsTrue, bytes_eq, nat_eq, if◌then◌else◌, Option, None, Some, Item, Text, Layout, exactly, rest, after, HasParts, Part, fixed_part, rest_part, opaque_part, ProcId, has_results, called, Side, Client, Server, Class, ItemSpot, InCall, class_of_word, Shape, ◌then◌, choose, counted, hyper, linked, listed, nothing, both, sized, word, accept, auth_sys, call_head, credential, deny, gids, parameters, reply_head, verifier, arguments_of, results_of}
-use Rattle.xdr3.specs.Shape.{optional}
-use Rattle.nfs3_types.specs.Shapes.{attributes, dir_op, export, file_kind, flavor, group, handle, mount_ok, mounted, post_op_attr, post_op_fh, results, set_word, settable, time, time_how, times, wcc, wcc_attr}
-use Rattle.procs3.specs.Shapes.{create_how, create_ok, dirpath, entry, entry_plus, file_range, mknod_what, mount_results}
+use Rattle.masking3.proofs.Common.{cond_either, ◌≡◌, ℕ, Bool, false, List, AllByRecursion, refl, ⊤, ◌||◌, IsTrue, bytes_eq, nat_eq, if◌then◌else◌, Option, None, Some, Item, Text, Layout, exactly, remaining, after, HasParts, Part, fixed_part, rest_part, opaque_part, ProcId, has_results, called, Side, Client, Server, Class, ItemSpot, InCall, class_of_word, Shape, ◌then◌, choose, counted, hyper, linked, listed, nothing, both, sized, word, accept, auth_sys, call_head, credential, deny, gids, parameters, reply_head, verifier, arguments_of, results_of}
+use Rattle.xdr3.specs.Shape.{optional_named}
+use Rattle.nfs3_types.specs.Shapes.{attributes, dir_op, export, flavor, group, guard, handle, mount_ok, mounted, post_op_attr, post_op_fh, results, settable, time_how_named, time_named, wcc, wcc_attr}
+use Rattle.procs3.specs.Shapes.{create_how, create_ok, device, dirpath, entry, entry_plus, file_range, mknod_what, mount_results}
 use Rattle.procs3.specs.Table.{mount_procedures, nfs_procedures}
 use Rattle.procs3.proofs.TableLemmas.{layout_of_procedure}
 use Rattle.masking3.proofs.Lemmas.Classes.SpotLemmas.{IsOn}
@@ -37,12 +37,12 @@ TakesMasks spot _ = ⊤
 
 abbrev pub RowTakesMasks : ItemSpot → Layout → Type 0
 RowTakesMasks spot (exactly s) = TakesMasks spot s
-RowTakesMasks spot (rest name) = ⊤
+RowTakesMasks spot (remaining name) = ⊤
 RowTakesMasks spot (after s next) = ⊥
 
 -- a count of links has a class at some spots
 attributes_at : (spot : ItemSpot) → TakesMasks spot attributes
-unfolding attributes file_kind times time called
+unfolding attributes time_named called
 attributes_at InCall = assumption
 attributes_at _ = assumption
 
@@ -51,8 +51,8 @@ module _ (spot : ItemSpot) where
   -- ---- parts
 
   optional_takes : (name : List ℕ) (s : Shape) → class_of_word spot name ≡ None → TakesMasks spot s
-      → TakesMasks spot (optional name s)
-  unfolding optional
+      → TakesMasks spot (optional_named name s)
+  unfolding optional_named
   optional_takes name s w h = (rw w tt, λ n. cond_either (TakesMasks spot) (nat_eq n 0) tt h)
 
   post_op_attr_takes : TakesMasks spot post_op_attr
@@ -60,7 +60,7 @@ module _ (spot : ItemSpot) where
   post_op_attr_takes = optional_takes (called "attr") attributes refl (attributes_at spot)
 
   wcc_takes : TakesMasks spot wcc
-  unfolding wcc wcc_attr time called
+  unfolding wcc wcc_attr time_named called
   wcc_takes = (optional_takes (called "before") wcc_attr refl (assumption), post_op_attr_takes)
 
   post_op_fh_takes : TakesMasks spot post_op_fh
@@ -68,17 +68,18 @@ module _ (spot : ItemSpot) where
   post_op_fh_takes = optional_takes (called "handle") handle refl tt
 
   time_how_takes : (name sec nsec : List ℕ) → class_of_word spot name ≡ None
-      → TakesMasks spot (time sec nsec) → TakesMasks spot (time_how name sec nsec)
-  unfolding time_how
+      → TakesMasks spot (time_named sec nsec)
+      → TakesMasks spot (time_how_named name sec nsec)
+  unfolding time_how_named
   time_how_takes name sec nsec w h =
       (rw w tt, λ how. cond_either (TakesMasks spot) (nat_eq how 2) h tt)
 
   settable_takes : TakesMasks spot settable
-  unfolding settable set_word time called
+  unfolding settable time_named called
   settable_takes = assumption (
-    optional_takes (called "set_mode") (word (called "mode")) refl (assumption),
-    optional_takes (called "set_uid") (word (called "uid")) refl (assumption),
-    optional_takes (called "set_gid") (word (called "gid")) refl (assumption),
+    optional_takes (called "set_mode") (word "mode") refl (assumption),
+    optional_takes (called "set_uid") (word "uid") refl (assumption),
+    optional_takes (called "set_gid") (word "gid") refl (assumption),
     optional_takes (called "set_size") (hyper (called "size")) refl tt,
     time_how_takes (called "set_atime") (called "atime_sec") (called "atime_nsec") refl
         (assumption),
@@ -92,7 +93,7 @@ module _ (spot : ItemSpot) where
       (tt, λ how. cond_either (TakesMasks spot) (nat_eq how 2) tt settable_takes)
 
   mknod_what_takes : TakesMasks spot mknod_what
-  unfolding mknod_what called
+  unfolding device mknod_what called
   mknod_what_takes = (
     tt,
     λ kind.
@@ -102,31 +103,31 @@ module _ (spot : ItemSpot) where
 
   -- ---- the table of procedures
 
-  nfs_arguments_take : AllByRecursion (λ row. TakesMasks spot row.0) nfs_procedures
-  unfolding nfs_procedures dir_op file_range handle called time
+  nfs_arguments_take : AllByRecursion (λ row. TakesMasks spot row.1) nfs_procedures
+  unfolding nfs_procedures dir_op file_range handle called time_named
   nfs_arguments_take =
-      let guarded =
-      optional_takes (called "check") (time (called "ctime_sec") (called "ctime_nsec")) refl
+      let guarded : TakesMasks spot guard =
+      optional_takes (called "check") (time_named (called "ctime_sec") (called "ctime_nsec")) refl
       (assumption) in
       search (settable_takes, create_how_takes, mknod_what_takes) depth 40 fits 10000
 
-  mount_arguments_take : AllByRecursion (λ row. TakesMasks spot row.0) mount_procedures
+  mount_arguments_take : AllByRecursion (λ row. TakesMasks spot row.1) mount_procedures
   unfolding mount_procedures dirpath
   mount_arguments_take = assumption
 
   pub arguments_take : (id : ProcId) → RowTakesMasks spot (arguments_of id)
   unfolding arguments_of
   arguments_take id =
-      layout_of_procedure (λ row. TakesMasks spot row.0) (RowTakesMasks spot)
-      (λ row. exactly row.0) (λ row h. h) nfs_arguments_take mount_arguments_take tt id
+      layout_of_procedure (λ row. TakesMasks spot row.1) (RowTakesMasks spot)
+      (λ row. exactly row.1) (λ row h. h) nfs_arguments_take mount_arguments_take tt id
 
   results_take : (done failed : Shape) → TakesMasks spot done → TakesMasks spot failed
       → TakesMasks spot (results done failed)
   unfolding results called
   results_take done failed h k = (tt, λ n. cond_either (TakesMasks spot) (nat_eq n 0) h k)
 
-  nfs_results_take : AllByRecursion (λ row. TakesMasks spot row.1) nfs_procedures
-  unfolding nfs_procedures create_ok entry entry_plus handle called time
+  nfs_results_take : AllByRecursion (λ row. TakesMasks spot row.2) nfs_procedures
+  unfolding nfs_procedures create_ok entry entry_plus handle called time_named
   nfs_results_take =
       search (results_take, attributes_at, post_op_fh_takes, post_op_attr_takes, wcc_takes)
       depth 40 fits 10000
@@ -147,7 +148,7 @@ module _ (spot : ItemSpot) where
         (tt, λ m. cond_either (TakesMasks spot) (nat_eq m 0) (assumption) (assumption)),
   )
 
-  pub mtype_takes : (types : List ℕ) → TakesMasks spot (listed (called "mtype") types)
+  pub mtype_takes : (types : List ℕ) → TakesMasks spot (listed "mtype" types)
   unfolding called
   mtype_takes types = assumption
 
@@ -166,7 +167,7 @@ exports_at InCall on = absurd on
 exports_at _ on = assumption
 
 module _ (spot : ItemSpot) (on : IsOn Server spot) where
-  mount_results_take : AllByRecursion (λ row. TakesMasks spot row.1) mount_procedures
+  mount_results_take : AllByRecursion (λ row. TakesMasks spot row.2) mount_procedures
   unfolding flavor handle called mount_ok mount_procedures mount_results mounted
   mount_results_take =
       let found : TakesMasks spot mount_results =
@@ -179,8 +180,8 @@ module _ (spot : ItemSpot) (on : IsOn Server spot) where
   unfolding results_of
   reply_takes id items =
       cond_either (RowTakesMasks spot) (has_results items)
-      (layout_of_procedure (λ row. TakesMasks spot row.1) (RowTakesMasks spot)
-      (λ row. exactly row.1) (λ row h. h) (nfs_results_take spot) mount_results_take tt id) tt
+      (layout_of_procedure (λ row. TakesMasks spot row.2) (RowTakesMasks spot)
+      (λ row. exactly row.2) (λ row h. h) (nfs_results_take spot) mount_results_take tt id) tt
 
 -- ---- at each spot of a side
 

@@ -1,7 +1,7 @@
 -- Calls without the names of machines are calls of the same procedures, and no longer.
 use Rattle.std.proofs.lemmas.Bool.Decides.{nat_tests}
 use Rattle.xdr3.proofs.Lemmas.Reading.Decided.{zero_spelled_all}
-use Rattle.masking3.proofs.Common.{◌≡◌, ℕ, zero, suc, ◌+◌, ◌-◌, ◌<◌, ◌≤◌, true, List, [], ◌∷◌, ◌++◌, length, refl, ap, sym, ◌∙◌, subst, arith, length-append, ◌==◌, IsTrue, bytes_eq, if◌then◌else◌, length-replicate, bytes_eq-Decides, procedure_in, called, arguments_of, xid_in, FitsCall, headed_call_fits, is_headed_call, Keep, Way, Item, Word, Opaque, Var, Text, Spells, residue, zero_spelling, FitsLayout, word_in, Shape, ◌then◌, is_listed, listed, opaque, word, Fits, after_first, named_by, unnamed_credential, unnamed_items, body_by, unnamed_body, auth_sys, call_head, credential, gids, parameters, verifier}
+use Rattle.masking3.proofs.Common.{◌≡◌, ℕ, zero, suc, ◌+◌, ◌-◌, ◌<◌, ◌≤◌, true, List, [], ◌∷◌, ◌++◌, length, refl, ap, sym, ◌∙◌, subst, arith, length-append, ◌==◌, IsTrue, bytes_eq, if◌then◌else◌, length-replicate, bytes_eq-Decides, procedure_in, called, arguments_of, xid_in, FitsCall, headed_call_fits, is_headed_call, Keep, Way, Item, Word, Opaque, Var, Text, Spells, residue, zero_spelling, FitsLayout, word_in, Shape, ◌then◌, is_listed, listed, opaque, word, word_named, Fits, after_first, named_by, unnamed_credential, unnamed_items, body_by, unnamed_body, auth_sys, call_head, credential, gids, parameters, verifier}
 use Rattle.canon3.proofs.Lemmas.Changes.Messages.{four_words, mtype_is}
 use Rattle.masking3.proofs.Lemmas.Unnamed.UnnamedSpellings.{unnamed_spelled}
 use Rattle.masking3.proofs.Lemmas.Unnamed.UnnamedBodyLemmas.{not_spliced, spliced}
@@ -20,7 +20,7 @@ words_stay n l i low = refl
 
 -- what follows the name of the machine
 abbrev owners : Shape
-owners = word (called "uid") then word (called "gid") then gids
+owners = word "uid" then word "gid" then gids
 
 -- the parameters, from the stamp on
 abbrev stamped : (stamp : ℕ) (name : List ℕ) → List Item → List Item
@@ -34,7 +34,7 @@ auth_with inner last =
     ∷ (inner ++ last)
 
 word_fits : (name : List ℕ) (s : Shape) (n : ℕ) (rest : List Item) → Fits s rest
-    → Fits (word name then s) (Word name n ∷ rest)
+    → Fits (word_named name then s) (Word name n ∷ rest)
 word_fits name s n rest fit = (_, _, (n, [], refl, refl, refl), fit, refl)
 
 -- what is so with a credential of no parameters, and with an AUTH_SYS credential, is so of a head
@@ -104,7 +104,7 @@ unnamed_head head p =
     let few' : length (zero_spelling inner) ≤ 400 = omega (arith, less, few) in
     let d = opaque Text (called "machinename") 255 then owners in
     let c = credential then verifier in
-    let b = word (called "proc") then c in
+    let b = word "proc" then c in
     let fits : Fits parameters inner =
     word_fits (called "stamp") d stamp _ (_, more, ([], omega arith, refl), fit, refl) in
     let back_fits : Fits c (auth_with inner last) =
@@ -114,7 +114,7 @@ unnamed_head head p =
         version,
         _,
         a,
-        word_fits (called "prog") (word (called "vers") then b) prog _
+        word_fits (called "prog") (word "vers" then b) prog _
             (word_fits (called "vers") b vers _ (word_fits (called "proc") c proc _ back_fits)),
         refl,
       ),
@@ -136,7 +136,7 @@ call_unnamed m p =
       start = t ∷ [];
       head = u.0;
       back = h.back;
-      start_fits = subst (Fits (listed (called "mtype") (0 ∷ []))) s.1 h.start_fits;
+      start_fits = subst (Fits (listed "mtype" (0 ∷ []))) s.1 h.start_fits;
       head_fits = u.1;
       back_fits =
           subst (λ id. FitsLayout (arguments_of id) h.back)
