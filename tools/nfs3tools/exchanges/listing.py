@@ -7,18 +7,19 @@ import tempfile
 from collections.abc import Iterator
 from dataclasses import dataclass, field
 from functools import cached_property
-from itertools import starmap
 from typing import IO, NamedTuple
 
 from ..recordings.coverage import call_named
 from ..recordings.taken import Completion, TakenConnection
 from ..shared.layouts import RAW
 from ..shared.programs import lines_of_program
-from .stored import LongValues, Value
+from .stored import LongValues
+from .whose import Item, items_of
 
 ITEM = re.compile(r' ([^=]+)=("[^"]*"|[^ ]*)')
 CALLED_NUMBERS = re.compile(r' ?mtype=0 rpcvers=2 prog=(\d+) vers=(\d+) proc=(\d+) ')
 STATUS_AFTER_FAULT = 2  # the status of `show` after a fault
+Items = tuple[Item, ...]
 
 
 class Line(NamedTuple):
@@ -76,11 +77,6 @@ def with_connection(line: str, number: int) -> str:
     return f'{number}{line[line.index(" "):]}'
 
 
-class Item(NamedTuple):
-    name: str
-    value: Value
-
-
 @dataclass
 class Message:
     """A call or a reply, where it is in its capture, and what it says.
@@ -109,22 +105,29 @@ class Message:
     def items(self) -> tuple[Item, ...]:
         """Its items after the xid, read once they are asked for."""
         some = ITEM.findall(self.text)
-        if self.values is None:
-            return tuple(map(Item._make, some))
-        return tuple(Item(name, self.values.value(word)) for name, word in some)
+        long = self.values
+        return tuple(items_of(self.procedure, self.is_call, [
+            (name, long.value(word) if long else word) for name, word in some]))
 
-    def value_of(self, name: str, some: range | None = None) -> str | None:
-        """The text of the first item of this name, of all or of some."""
-        items = self.items if some is None else self.items[some.start:some.stop]
-        return next((str(item.value) for item in items if item.name == name), None)
+    def value_of(self, name: str) -> str | None:
+        return value_in(self.items, name)
 
-    def entries(self) -> tuple[range, list[range], range]:
+    def after(self, name: str) -> Items:
+        """Returns the items after the first of a name, or all if there is none."""
+        return self.items[next((at for at, item in enumerate(self.items, 1)
+                                if item.name == name), 0):]
+
+    def parts(self) -> tuple[Items, list[Items], Items]:
         """Returns the items before the entries of a folder, those of each, and those after them."""
         begins = [at for at, item in enumerate(self.items) if item.name == 'entry']
-        if not begins:
-            return range(len(self.items)), [], range(0)
-        return (range(begins[0]), list(starmap(range, zip(begins, begins[1:]))),
-                range(begins[-1], len(self.items)))
+        first, last = (begins[0], begins[-1]) if begins else (len(self.items), len(self.items))
+        return (self.items[:first], [self.items[at:end] for at, end in zip(begins, begins[1:])],
+                self.items[last:])
+
+
+def value_in(items: Items, name: str) -> str | None:
+    """Returns the text of the first item of a name."""
+    return next((str(item.value) for item in items if item.name == name), None)
 
 
 @dataclass
