@@ -111,14 +111,10 @@ class Answers:
                                for _, xid, _ in xids(Window(server), 0, server.size)
                                if xid in numbers)
 
-    def is_answered(self, at: int) -> bool:
-        """Whether the exchange of a call has a reply."""
-        return self.replies[self.owners[at]] > 0
-
     def unanswered(self) -> Iterator[int]:
         """Iterates over the calls of exchanges without a reply, each exchange once."""
         return (at for at, owner in enumerate(self.owners)
-                if owner == at and not self.is_answered(at))
+                if owner == at and not self.replies[at])
 
 
 def error_in(procedure: str, said: str) -> str:

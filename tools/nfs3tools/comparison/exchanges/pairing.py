@@ -158,7 +158,7 @@ class Pairing:
         """Returns the records of the second run's replies, in the order of those of a connection of
         the first run to which they belong."""
         own, home = self.here.exchanges_of(place), self.home_of(place)
-        turns = array('I', [0]) * (1 + self.here.last_record(place, is_call=False))
+        turns = array('I', [0]) * (1 + len(self.here.owners[place][False]))
         for at in own:
             if self.partners[at] in home:
                 for record, other in zip(self.here.replies_of(at),

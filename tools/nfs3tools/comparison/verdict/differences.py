@@ -1,17 +1,17 @@
-"""How two matched messages differ, item by item, and what a call of one run alone asks for."""
+"""How two matched messages differ, item by item, and what a call of one run alone asks for. Values
+that each run has its own of are bound one to one as they are met."""
 from __future__ import annotations
 
 from collections import Counter
 from collections.abc import Iterable, Iterator
-from dataclasses import dataclass
+from dataclasses import dataclass, field
 from typing import NamedTuple
 
 from ...exchanges.listing import Items, Message, value_in
 from ...exchanges.procedures import LISTINGS, READ, WRITE
 from ...exchanges.stored import Value, spelled
 from ...exchanges.whose import Item
-from ..values.bindings import RENAMED, Bindings
-from ..values.classes import CLASSES, Mask, ValueClass, Way
+from ..values.classes import CLASSES, HANDLES, RENAMED, Mask, ValueClass, Way
 from ..values.long_values import Parting, content_of, is_long, parting_between
 
 # After one of these the rest of a reply has another layout.
@@ -62,6 +62,44 @@ def offset_of(message: Message, call: Message | None) -> int | None:
         return None
     offset = asking.value_of('offset')
     return None if offset is None else int(offset)
+
+
+@dataclass
+class Bindings:
+    """By classes of renamed values, which of the second run belongs to which of the first."""
+    forth: dict[tuple[str, str], str] = field(default_factory=dict)
+    back: dict[tuple[str, str], str] = field(default_factory=dict)
+
+    def bind(self, name: str, first: str, second: str) -> str | None:
+        """Binds two values of a class. Returns None if they are bound to each other now, or why
+        they cannot be."""
+        bound, owner = self.forth.get((name, first)), self.back.get((name, second))
+        if bound is None and owner is None:
+            self.forth[name, first], self.back[name, second] = second, first
+            return None
+        if bound == second:
+            return None
+        if bound is None:
+            return f'elsewhere {second} of the second run is {owner} of the first'
+        return f'elsewhere {first} of the first run is {bound} of the second'
+
+    def renamed(self, rest: str) -> str:
+        """Returns raw bytes, in hexadecimal, with each bound handle that is in them in place of the
+        first run's. A handle is spelled as its length, a word, its bytes, and padding (RFC 1813,
+        section 2.5)."""
+        out, at = [], 0
+        while at < len(rest):
+            word = rest[at:at + 8]
+            size = int(word, 16) if len(word) == 8 else 0
+            handle = rest[at + 8:at + 8 + 2 * size] if 0 < size <= 64 else ''
+            bound = self.forth.get((HANDLES, handle)) if handle else None
+            if bound is None:
+                out.append(word)
+                at += 8
+            else:
+                out.append(f'{len(bound) // 2:08x}{bound}{"0" * (-len(bound) % 8)}')
+                at += 8 + 2 * size + -2 * size % 8
+        return ''.join(out)
 
 
 class Comparison:
