@@ -29,7 +29,7 @@ from typing import NamedTuple
 from ..comparison.exchanges.pairing import ASKING
 from ..comparison.values.classes import CLASSES, following, in_any_order, mask_text, mask_word
 from ..comparison.verdict.accepted import accepted_of, file_of, ignored_of, without_ignored
-from ..comparison.verdict.cover import Cover, Size, covers_of, lines_of_counts, losses_of
+from ..comparison.verdict.cover import Cover, covers_of, lines_of_counts, losses_of
 from ..comparison.verdict.decision import Report, compared_in_words, judged_runs, run_of
 from ..comparison.verdict.findings import RUNS, Compared, Framing, Run
 from ..comparison.verdict.orders import Choices, NothingToCompare
@@ -104,10 +104,6 @@ class Whole(NamedTuple):
     def framings(self) -> list[Framing]:
         return [run.frames for run in self.runs]
 
-    @property
-    def sizes(self) -> list[Size]:
-        return [cover.size for cover in self.covers]
-
     def is_good(self, allowed: Allowed) -> bool:
         return all(cover.is_good(allowed) for cover in self.covers)
 
@@ -155,7 +151,7 @@ def compared_runs(words: argparse.Namespace, stack: ExitStack) -> int:
                       frozenset() if words.extra == 'none' else ASKING,
                       bool(words.html), words.accept)
     is_same = compared_whole(words, whole, choices)
-    if any(cover.is_refused for cover in whole.covers):
+    if any(cover.faults() for cover in whole.covers):
         return REFUSED
     return SAME if is_same else DIFFERENT
 
@@ -186,8 +182,7 @@ def whole_of(program: str, folder: Path, names: list[str], inputs: list[str],
 def compared_whole(words: argparse.Namespace, whole: Whole, choices: Choices) -> bool:
     """Compares the runs. Returns whether they are the same."""
     with whole.trial.progress.line():
-        report = judged_runs(whole.trial, whole.runs, whole.names, whole.sizes, choices,
-                             whole.covers)
+        report = judged_runs(whole.trial, whole.runs, whole.names, choices, whole.covers)
     line = report.line(losses_of(whole.covers, RUNS))
     is_good = report.is_same and whole.is_good(allowed_of(words))
     print(screen_of(words.color).painted(line, colour_of_word(report.word(), is_good)),

@@ -21,8 +21,7 @@ from ..shared.layouts import BY_NAME, RAW
 from .answering import Answering, error_in
 from .in_words import Asked, answer_in, asked_in, short
 from .listing import is_call, line_of, listed_of, name_of_call
-from .objects import GIVING_HANDLES, TEACHING, UNKNOWN, Move, Paths, below
-from .procedures import RENAME
+from .objects import GIVING_HANDLES, TEACHING, UNKNOWN, Paths, below
 from .stored import LongValues, Texts, without_long
 from .values import handle_found
 
@@ -375,10 +374,7 @@ class Reading:
 
     def said(self) -> Sequence[int]:
         """Returns a hash of what the call of each exchange says."""
-        said = self.rule.said
-        if len(self.kept) - self.kept.starts[-1] == len(said):
-            return said  # none was sent again
-        return array('q', dict(zip(self.owners, said)).values())
+        return array('q', dict(zip(self.owners, self.rule.said)).values())
 
     def kind_of(self, listed: str, text: str) -> int:
         """Returns the number of a call's procedure."""
@@ -410,13 +406,4 @@ class Reading:
         if error:
             kept.errors.setdefault(at, []).append(error)
         elif kept.has_texts and name in TEACHING:
-            self.learn(at, name, text, frame or at + 1)
-
-    def learn(self, at: int, procedure: str, text: str, frame: int) -> None:
-        """Learns from a reply which paths handles have."""
-        asked = asked_in(procedure, self.kept.asking[at])
-        if procedure == RENAME:
-            self.paths.moves.append(Move(frame, asked.handle or '', asked.entry or '',
-                                         asked.other or '', asked.other_entry or ''))
-            return
-        self.paths.take_reply(procedure, asked.handle or '', asked.entry or '', text, frame)
+            self.paths.take(name, kept.asking[at], text, frame or at + 1)

@@ -33,16 +33,18 @@ class Line(NamedTuple):
 
     def message(self, values: LongValues | None = None) -> Message:
         """Returns its message. A long value is put among `values`, if there are some."""
-        return Message(self.connection, 'client' if self.is_call else 'server', self.record,
-                       self.xid, self.procedure, values.cut(self.text) if values else self.text,
-                       values)
+        message = Message(*self[:5], values.cut(self.text) if values else self.text)
+        message.values = values
+        return message
 
 
 def line_of(line: str) -> Line:
-    connection, side, record, xid, rest = line.split(' ', 4)
-    end = rest.find(' ')
-    return Line(int(connection), side == 'client', int(record), int(xid[4:]), rest[:end],
-                rest[end:].rstrip('\n'))
+    # (the items are copied once, since they may be long)
+    end = line.index(' ', line.index(' xid=') + 1)
+    items = line.index(' ', end + 1)
+    connection, side, record, xid = line[:end].split(' ')
+    return Line(int(connection), side == 'client', int(record), int(xid[4:]), line[end + 1:items],
+                line[items:len(line) - line.endswith('\n')])
 
 
 class LinePlace(NamedTuple):
@@ -53,7 +55,7 @@ class LinePlace(NamedTuple):
 
 
 def place_of(line: str) -> LinePlace:
-    connection, side, record, _ = line.split(' ', 3)
+    connection, side, record = line[:line.index(' xid=')].split(' ')
     return LinePlace(int(connection), side == 'client', int(record))
 
 
@@ -77,29 +79,16 @@ def with_connection(line: str, number: int) -> str:
     return f'{number}{line[line.index(" "):]}'
 
 
-@dataclass
-class Message:
-    """A call or a reply, where it is in its capture, and what it says.
-
-    text: its items as the listing has them after the procedure, with marks for long values, which
-        `values` has
-    """
-    connection: int
-    side: str
-    record: int
-    xid: int
-    procedure: str
-    text: str = ''
-    values: LongValues | None = field(default=None, repr=False, compare=False)
-
-    @property
-    def is_call(self) -> bool:
-        return self.side == 'client'
+class Message(Line):
+    """A call or a reply, where it is in its capture, and what it says. Its text may have marks for
+    long values, which `values` has."""
+    values: LongValues | None = None
 
     @property
     def place(self) -> str:
         """The message's place, in the words of `nfs3canon`."""
-        return f'connection {self.connection} {self.side} record {self.record}'
+        side = 'client' if self.is_call else 'server'
+        return f'connection {self.connection} {side} record {self.record}'
 
     @cached_property
     def items(self) -> tuple[Item, ...]:

@@ -12,7 +12,6 @@ from collections.abc import Callable, Iterator
 from functools import cached_property, partial
 from typing import NamedTuple
 
-from .listing import Exchange
 from .procedures import LOOKUP, MAKING, READDIRPLUS, RENAME
 from .values import handle_found, read_call, read_reply
 
@@ -81,7 +80,7 @@ class Move(NamedTuple):
 
 def path_by(origin_of: Callable[[str], Origin | None], handle: str,
             known: dict[str, str]) -> str | None:
-    """Returns the path of a handle by where objects are, and keeps those of the folders above it."""
+    """Returns the path of a handle by where objects are, and keeps those of folders above it."""
     # (by steps, since a folder may be thousands of folders below the first; in a circle, as no
     # file system has it, nothing is first)
     way, at = dict[str, Origin](), handle
@@ -135,22 +134,18 @@ class Paths:
             self.origins[handle] = origin
             self.known.clear()
 
-    def take(self, exchange: Exchange) -> None:
-        """Learns from what an exchange says of handles."""
-        procedure = exchange.call.procedure
-        if procedure in TEACHING:
-            call = read_call(procedure, exchange.call.text)
-            name = call.get('name', call.get('dirpath', ''))
-            for reply in exchange.replies:
-                self.take_reply(procedure, call.get('fh', ''), name, reply.text)
-
-    def take_reply(self, procedure: str, folder: str, name: str, said: str, frame: int = 0) -> None:
-        """Learns from a reply to a call with this folder and this name, or this whole path if it is
-        MNT. If its frame is known, names may be asked for by the time."""
-        own, is_made = (None if procedure == MOUNTING else folder), procedure != LOOKUP
+    def take(self, procedure: str, asked: str, said: str, frame: int = 0) -> None:
+        """Learns from what a call and a reply to it say of handles. If the reply's frame is known,
+        names may be asked for by the time."""
+        call = read_call(procedure, asked)
+        if procedure == RENAME and frame:
+            self.moves.append(Move(frame, call['from.fh'], call['from.name'], call['to.fh'],
+                                   call['to.name']))
+        folder, is_made = (None if procedure == MOUNTING else call.get('fh')), procedure != LOOKUP
+        name = call.get('name', call.get('dirpath'))
         for entry, handle in handles_given(procedure, said):
-            origin = Origin(own, name, is_made) if entry is None else Origin(own, entry, False)
-            self.learn(handle, origin, frame)
+            self.learn(handle, Origin(folder, name, is_made) if entry is None
+                       else Origin(folder, entry, False), frame)
 
 
 class Names:

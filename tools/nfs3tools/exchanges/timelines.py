@@ -149,7 +149,7 @@ class Spans(Generic[Spanned]):
 
 
 class SaidValues:
-    """SaidValues that answers say, each with at most two of these."""
+    """Values that answers say, each with at most two of these."""
 
     def __init__(self, some: Iterable[Sighting] = ()) -> None:
         self.sources = dict[Hashable, set[int]]()

@@ -113,7 +113,7 @@ def facts_of(content: ComparedContent, at: int) -> Iterator[tuple[str, str, str]
     for what, frame in zip(('first frame', 'last frame'), cover.taken.ends() or (None, None)):
         yield what, (f'{frame_time(frame)}, frame {frame.number}' if frame
                      else 'no frames'), 'no frames'
-    yield from ((what, f'{number:,}', '') for what, number in report.sizes[at]._asdict().items())
+    yield from ((what, f'{number:,}', '') for what, number in cover.size._asdict().items())
     yield 'missing', count(cover.missing, 'byte'), count(0, 'byte')
     yield from ((what, f'{number:,}', '') for what, number in counts.numbers().items())
     yield 'raw', named_calls(counts.raw) or NO_VALUE, NO_VALUE

@@ -291,16 +291,15 @@ def json_of_comparison(report: Report, compared: Compared, left_out: Counter[tup
                        framings: Sequence[Framing]) -> Iterator[bytes]:
     """The comparison, in pieces: an object, each of whose findings is a line. Without findings
     there need be no framings."""
-    found, covers = report.found, [cover_members(cover) for cover in report.covers] or [{}, {}]
-    runs = zip(report.names, report.sizes, covers, compared.lonely, compared.left_out)
+    found, runs = report.found, zip(report.names, report.covers, compared.lonely,
+                                    compared.left_out)
     head = {
         'version': REPORT_VERSION, 'verdict': report.word(),
         'position': report.place or None,
         'mask': ways_by_class(report.choices.masks[0]),
         'same_under': found.same_under and ways_by_class(found.same_under),
-        'runs': [{'name': escaped(name), **size._asdict(), **cover, 'only': only,
-                  'left_out': dict(left)}
-                 for name, size, cover, only, left in runs],
+        'runs': [{'name': escaped(name), **cover_members(cover), 'only': only,
+                  'left_out': dict(left)} for name, cover, only, left in runs],
         'order': {'together': compared.exchanges, 'calls': compared.moved, 'replies': compared.late,
                   'connections': compared.late_connections,
                   'on_another_connection': compared.elsewhere},
@@ -323,9 +322,9 @@ def json_of_comparison(report: Report, compared: Compared, left_out: Counter[tup
 
 
 def cover_members(cover: Cover) -> dict[str, Any]:
-    """How much of a run is compared: the bytes that are missing, the counts, and what is not judged
-    as a whole."""
-    return {'missing': cover.missing, 'counts': cover.counts().members(),
+    """How much of a run is compared: its size, the bytes that are missing, the counts, and what is
+    not judged as a whole."""
+    return {**cover.size._asdict(), 'missing': cover.missing, 'counts': cover.counts().members(),
             'not_judged': [{**row._asdict(), 'ends': row.ends or None} for row in cover.rows()]}
 
 
@@ -381,7 +380,7 @@ class Cases:
         self.suite = Suite('nfs3canon compare', properties_of(covers, accepted))
         self.about, self.number_of = ' | '.join(map(escaped, names)), Counter[str]()
         for run, cover in zip(RUNS, covers):
-            if cover.is_refused:
+            if cover.faults():
                 self.add(f'the {run} run is valid', 'error', '; '.join(cover.faults()))
 
     def add(self, given: str, tag: str | None = None, message: str = '', text: Iterable[str] = (),

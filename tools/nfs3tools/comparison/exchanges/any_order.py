@@ -21,7 +21,7 @@ from ...recordings.taken import Taken
 from ..values.classes import Mask
 from .explained import OrderRule, Unexplained
 from .facts import Change, Facts, Turns, is_quiet
-from .followed import Followed, partners_of, with_values
+from .followed import partners_of
 from .matching import Pair
 from .pairing import Listing, Pairing
 
@@ -112,10 +112,6 @@ class TwoRuns:
             out.counted = refused(*(Extras(rule, run, some, set(self.pairing.matched(run)))
                                     for run, some in enumerate(self.extras)))
         return out
-
-    def followed(self, classes: frozenset[str]) -> Taken:
-        """Returns the second run with the first run's values of these classes."""
-        return with_values(self.taken[1], Followed(self.pairing, self.listings(), classes).values)
 
 
 def identify(pairing: Pairing) -> None:

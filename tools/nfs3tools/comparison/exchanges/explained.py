@@ -11,6 +11,7 @@ if the history of its run allows all of its answer. compare.1 has the same in mo
 from __future__ import annotations
 
 from collections.abc import Iterator, Sequence
+from functools import cache
 from itertools import chain
 from typing import Any
 
@@ -22,7 +23,7 @@ from ...exchanges.procedures import (
     BEFORE, DONE, LISTINGS, LOOKUP, NO_ENTRY, owners_in, statements_in, statements_of_entry)
 from ...exchanges.values import Values
 from ..values.classes import CLASSES, Mask, Way
-from .facts import Change, Facts, Otherwise
+from .facts import Change, ChangesOfKey, Facts
 from .matching import Pair
 from .outlines import is_silly
 from .pairing import NOBODY, Pairing
@@ -95,9 +96,9 @@ class OrderRule:
     def __init__(self, pairing: Pairing, facts: tuple[Facts, Facts], mask: Mask) -> None:
         self.facts, self.mask, self.free = facts, mask, free_items(mask)
         self.histories = [own.history for own in facts]
-        turns = [own.turns for own in facts if own.turns]
-        self.otherwise = Otherwise(pairing, self.histories, turns)
-        self.present = dict[tuple[int, object, int], Present]()
+        self.turns = [own.turns for own in facts if own.turns]
+        self.changes_of = cache(lambda key: ChangesOfKey(pairing, self.histories, key))
+        self.present = cache(Present)
 
     # --- Two answers ---
 
@@ -127,10 +128,15 @@ class OrderRule:
             return self.of_listing(first, second)
         return self.of_values((first, second), (first.reply, second.reply))
 
+    def otherwise(self, pair: Pair, key: HistoryKey) -> Change | None:
+        """Returns a change of a key that stands otherwise to a question, if there is one."""
+        return self.changes_of(key).otherwise(
+            pair, [(own.begins[at], own.ends[at]) for own, at in zip(self.turns, pair)])
+
     def change(self, both: Sequence[Reply], key: HistoryKey | None) -> Change:
         """Returns a change of a key that stands otherwise. There has to be one."""
         first, second = both
-        change = key and self.otherwise.change((first.at, second.at), key)
+        change = key and self.otherwise((first.at, second.at), key)
         if not change:
             raise Unexplained
         return change
@@ -260,10 +266,9 @@ class OrderRule:
                     return 'it has a name that no other answer has'
         if not names or not listed.is_first:
             return ''
-        own = reply.run, reply.folder, witness_but(reply.history, reply.folder, reply.at)
-        if own not in self.present:
-            self.present[own] = Present(reply.history, *own[1:])
-        return 'it lacks a name' if self.present[own].lacking(listed) else ''
+        present = self.present(reply.history, reply.folder,
+                               witness_but(reply.history, reply.folder, reply.at))
+        return 'it lacks a name' if present.lacking(listed) else ''
 
     # --- Two answers that are equal ---
 
@@ -275,7 +280,7 @@ class OrderRule:
             lines = [history.timeline(key) for history in self.histories]
             for pair in ((one.source, pairing.partners[one.source]) for one in lines[0].sights.begun
                          if not lines[0].changes.of_source.get(one.source)):
-                is_asked = pair[1] != NOBODY and self.otherwise.change(pair, key)
+                is_asked = pair[1] != NOBODY and self.otherwise(pair, key)
                 wrong = [run for run, (line, at) in enumerate(zip(lines, pair)) if is_asked
                          for one in line.sights.of_source.get(at, ())
                          if self.allows(run, at, Claim(key, one.value)) is False]

@@ -145,21 +145,6 @@ class ChangesOfKey:
         return None
 
 
-class Otherwise:
-    """Which changes stand otherwise to questions, by what they are of."""
-
-    def __init__(self, pairing: Pairing, histories: Sequence[History],
-                 turns: Sequence[Turns]) -> None:
-        self.pairing, self.histories, self.turns = pairing, histories, turns
-        self.of_keys = dict[HistoryKey, ChangesOfKey]()
-
-    def change(self, pair: Pair, key: HistoryKey) -> Optional[Change]:
-        if key not in self.of_keys:
-            self.of_keys[key] = ChangesOfKey(self.pairing, self.histories, key)
-        return self.of_keys[key].otherwise(
-            pair, [(own.begins[at], own.ends[at]) for own, at in zip(self.turns, pair)])
-
-
 # --- What a run says ---
 
 def handles_asked(outlines: Outlines, at: int) -> Values:

@@ -16,7 +16,7 @@ from itertools import groupby
 from operator import attrgetter
 
 from ...exchanges.answering import Answering, error_in
-from ...exchanges.listing import CALLED_NUMBERS, Line, line_of
+from ...exchanges.listing import CALLED_NUMBERS, Line, line_of, place_of
 from ...exchanges.objects import NAMING, handles_given
 from ...exchanges.procedures import CHANGING, LOOKUP, handle_items
 from ...exchanges.values import read_call
@@ -119,8 +119,8 @@ class Outlines:
     def __init__(self, lines: Iterable[str], mask: Mask, when: When | None = None) -> None:
         # Their numbers, and the first exchange of each
         self.connections, self.starts = list[int](), list[int]()
-        # By connections, the exchange of each reply, and of each call, in the order of records
-        self.owners = list[tuple['array[int]', 'array[int]']]()
+        # By their numbers, the exchange of each reply, and of each call, in the order of records
+        self.owners = dict[int, tuple['array[int]', 'array[int]']]()
         # What a call asks, and what it and its replies say
         self.asked, self.said = array('q'), array('q')
         # The first handle of a call and of its reply, or 0
@@ -150,8 +150,7 @@ class Outlines:
 
     def take_connection(self, lines: Iterable[Line], pattern: re.Pattern[str]) -> None:
         rule, named = Answering(), dict[int, int]()
-        answered, owners = array('I'), array('I')
-        self.owners.append((answered, owners))
+        answered, owners = self.owners[self.connections[-1]] = array('I'), array('I')
         said_before = dict[int, set[int]]()  # hashes of replies to calls that were sent again
         for line in lines:
             said = hash(pattern.sub('', line.text))
@@ -265,23 +264,24 @@ class Outlines:
 
     def exchange_of(self, connection: int, is_call: bool, record: int) -> int:
         """Returns the exchange of a message."""
-        return self.owners[self.place_of(connection)][is_call][record - 1]
+        return self.owners[connection][is_call][record - 1]
 
     def each(self, lines: Iterable[str]) -> Iterator[tuple[int, Line]]:
         """Iterates over the lines of a listing of the run, each with its exchange."""
         return ((self.exchange_of(line.connection, line.is_call, line.record), line)
                 for line in map(line_of, lines))
 
-    def located(self, lines: Iterable[str]) -> Iterator[tuple[int, Line]]:
-        """The same, but for retransmissions, and for replies that say the same again."""
-        return ((at, line) for at, line in self.each(lines)
-                if (line.record == self.records[at] if line.is_call
-                    else line.record not in self.repeated.get(at, ())))
-
-    def lines_of(self, some: Container[int], lines: Iterable[str]) -> Iterator[tuple[int, Line]]:
-        """Iterates over the lines of some exchanges, but for retransmissions and replies that say
-        the same again, each with its exchange."""
-        return ((at, line) for at, line in self.located(lines) if at in some)
+    def located(self, lines: Iterable[str],
+                some: Container[int] | None = None) -> Iterator[tuple[int, Line]]:
+        """The same of all exchanges or of some, but for retransmissions, and for replies that say
+        the same again."""
+        for text in lines:
+            connection, is_call, record = place_of(text)
+            at = self.owners[connection][is_call][record - 1]
+            if (some is None or at in some) and (
+                    record == self.records[at] if is_call
+                    else record not in self.repeated.get(at, ())):
+                yield at, line_of(text)
 
     def objects_of(self, at: int) -> list[int]:
         """Returns the handles of a call."""
@@ -306,14 +306,14 @@ class Outlines:
         offset. The lines are those of the listing."""
         return {at: (self.procedure_of(at), *alike_in(line),
                      *map(self.identities.__getitem__, self.objects_of(at)))
-                for at, line in self.lines_of(wanted, lines) if line.is_call}
+                for at, line in self.located(lines, wanted) if line.is_call}
 
     def said_again(self, lines: Iterable[str], wanted: set[int],
                    mask: Mask) -> dict[int, tuple[int, ...]]:
         """Returns what is said in some exchanges, by the listing under another mask."""
         out, pattern = {at: [self.asked[at], self.identities[self.found[at]]]
                         for at in wanted}, renamed_values(mask)
-        for at, line in self.lines_of(wanted, lines):
+        for at, line in self.located(lines, wanted):
             out[at].append(hash(pattern.sub('', line.text)))
         return {at: tuple(said) for at, said in out.items()}
 

@@ -13,7 +13,7 @@ from ...recordings.taken import Taken
 from ...shared.places import Place
 from ...shared.printed import escaped
 from ..values.classes import Mask
-from .cover import Cover, Size
+from .cover import Cover
 from .findings import RUNS, Compared, Run, replies
 from .orders import Choices, Order, Orders, Outcome
 from .trial import Trial
@@ -26,14 +26,12 @@ IN_ANOTHER_ORDER, BUT_IDS, BUT_LEFT_OUT = (
 @dataclass(frozen=True)
 class Report:
     """What is said of two runs: where they differ, or nothing if the program calls them the same,
-    and what was found as it was asked for; of both their names and how much they have; and how much
-    of both is compared."""
+    and what was found as it was asked for; of both their names, and how much is compared."""
     place: str
     found: Outcome
     choices: Choices
     names: Sequence[str]
-    sizes: Sequence[Size]
-    covers: Sequence[Cover] = ()
+    covers: Sequence[Cover]
 
     @property
     def is_same(self) -> bool:
@@ -62,7 +60,7 @@ class Report:
             any_order = ' in any order' * (self.choices.order == 'any')
             return f'differ{any_order} at {self.place}' + (
                 f'\ncompared in part: {losses}' if losses else '')
-        compared = str(self.sizes[0])
+        compared = str(self.covers[0].size)
         if found.same_under is not None:
             explained = found.compared.explained
             verdict += f', {count(explained, "answer")} explained by order' if explained else ''
@@ -80,31 +78,25 @@ def run_of(trial: Trial, taken: Taken, capture: str, name: str) -> Run:
     return Run(escaped(name), trial.listing(capture), frames)
 
 
-def same_of(names: Sequence[str], sizes: Sequence[Size], choices: Choices,
-            covers: Sequence[Cover] = ()) -> Report:
-    """Returns what is said of two runs of these sizes that the program calls the same."""
-    first, second = (size.calls for size in sizes)
-    compared = Compared(exchanges=first, calls=(first, second))
-    split = choices.accepted.split(compared)[1] if choices.accepted else None
-    return Report('', Outcome(compared, accepted=split), choices, names, sizes, covers)
-
-
-def judged_runs(trial: Trial, runs: Sequence[Run], names: Sequence[str], sizes: Sequence[Size],
-                choices: Choices, covers: Sequence[Cover] = ()) -> Report:
+def judged_runs(trial: Trial, runs: Sequence[Run], names: Sequence[str], choices: Choices,
+                covers: Sequence[Cover]) -> Report:
     """Compares both runs of a trial. They are brought together only if they differ, or are to be
     shown side by side."""
     place = trial.placed(trial.difference(trial.captures, choices.masks[0]))
     if not place and not choices.is_shown:
-        return same_of(names, sizes, choices, covers)
+        first, second = (cover.size.calls for cover in covers)
+        compared = Compared(exchanges=first, calls=(first, second))
+        split = choices.accepted.split(compared)[1] if choices.accepted else None
+        return Report('', Outcome(compared, accepted=split), choices, names, covers)
     order: Order = choices.order if place else 'strict'
     found = Orders(trial, runs, replace(choices, order=order)).found()
     if found.is_rest_same:
         place = ''
     elif place and found.same_under is None and found.compared.findings:
         # (where the first finding is that was not accepted)
-        first = found.compared.findings[0]
-        place = f'{first.message.place}{"" if first.first else " of the second run"}'
-    return Report(place, found, choices, names, sizes, covers)
+        first_left = found.compared.findings[0]
+        place = first_left.message.place + ' of the second run' * (first_left.first is None)
+    return Report(place, found, choices, names, covers)
 
 
 # --- In words ---

@@ -8,7 +8,7 @@ from dataclasses import dataclass, field, replace
 
 from ...exchanges.in_words import short
 from ...exchanges.listing import Exchange, Message
-from ...exchanges.objects import GIVING_HANDLES, UNKNOWN, Paths, below
+from ...exchanges.objects import GIVING_HANDLES, TEACHING, UNKNOWN, Paths, below
 from ...exchanges.stored import LongValues
 from ...recordings.selection import count, plural
 from ..exchanges.any_order import Explanation
@@ -118,14 +118,15 @@ class ParsedExchanges:
     def __init__(self, run: Run, outlines: Outlines, wanted: Iterable[int]) -> None:
         self.exchanges, self.paths, values = dict[int, Exchange](), Paths(), LongValues()
         kept = outlines.with_origins(wanted)
-        for at, line in outlines.lines_of(kept, run.listing() if kept else ()):
+        for at, line in outlines.located(run.listing() if kept else (), kept):
             message = line.message(values)
             if message.is_call:
                 self.exchanges[at] = Exchange(message)
             else:
                 self.exchanges[at].replies.append(message)
-        for exchange in self.exchanges.values():
-            self.paths.take(exchange)
+        for call, reply in ((one.call, reply) for one in self.exchanges.values()
+                            if one.call.procedure in TEACHING for reply in one.replies):
+            self.paths.take(call.procedure, call.text, reply.text)
 
     def path(self, at: int) -> str | None:
         """Returns the path of what a call is about. A folder whose path is not known is `?`."""
@@ -305,7 +306,7 @@ class Explaining:
         yield from self.of_sent_again()
         for connection, number, among in pairing.late_replies:
             yield Finding(
-                'order', Message(connection, 'server', 1, 0, ''), None,
+                'order', Message(connection, False, 1, 0, '', ''), None,
                 remark=f'{number} of {among} replies of the connection come in another order')
 
     def of_sent_again(self) -> Iterator[Finding]:

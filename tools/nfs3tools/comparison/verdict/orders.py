@@ -9,6 +9,7 @@ from typing import Literal, Optional
 
 from ...exchanges.listing import has_rest, place_of, said_in, xid_of
 from ..exchanges.any_order import Explanation, TwoRuns
+from ..exchanges.followed import Followed, with_values
 from ..exchanges.outlines import Outlines, classes_of_items, renamed_values
 from ..exchanges.pairing import ASKING, Listing, Pairing
 from ..values.classes import CLASSES, Mask, Way
@@ -174,7 +175,8 @@ class Orders:
     def follow(self, classes: frozenset[str]) -> None:
         """Takes the second run with the first run's values of some classes."""
         first, second = self.runs
-        self.trial = self.trial.with_second(self.two.followed(classes))
+        values = Followed(self.two.pairing, self.two.listings(), classes).values
+        self.trial = self.trial.with_second(with_values(self.two.taken[1], values))
         self.runs = first, replace(second, listing=self.trial.listing(self.trial.captures[1]))
         self.take(self.two.pairing, self.explanation)
 
