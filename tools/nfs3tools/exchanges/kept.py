@@ -347,20 +347,17 @@ class Reading:
 
     def __init__(self, kept: Kept, paths: Paths) -> None:
         self.kept, self.paths = kept, paths
-        self.rule, self.owners = Answering(), array('I')  # the exchange of each call
+        self.rule = Answering(len(kept))
         self.number = len(kept.parts) - 1
         self.cut = kept.values.cut if kept.values else without_long
 
     def call(self, line: str, completion: Completion) -> None:
         _, _, record, xid, name, text = line_of(line)
-        kept, earlier = self.kept, self.rule.call(xid, text)
+        kept, (at, is_first) = self.kept, self.rule.call(xid, text)
         size, frame, time = completion
-        if earlier is not None:
-            at = self.owners[earlier]
+        if not is_first:
             kept.again.setdefault(at, []).append(SentRecord(record, frame, time, size))
-            self.owners.append(at)
             return
-        self.owners.append(len(kept.records))
         kept.part_of.append(self.number)
         kept.kinds.append(self.kind_of(name, text))
         kept.records.append(record)
@@ -374,7 +371,7 @@ class Reading:
 
     def said(self) -> Sequence[int]:
         """Returns a hash of what the call of each exchange says."""
-        return array('q', dict(zip(self.owners, self.rule.said)).values())
+        return array('q', dict(zip(self.rule.owners, self.rule.said)).values())
 
     def kind_of(self, listed: str, text: str) -> int:
         """Returns the number of a call's procedure."""
@@ -389,7 +386,7 @@ class Reading:
 
     def reply(self, line: str, completion: Completion) -> None:
         _, _, record, xid, name, text = line_of(line)
-        kept, at = self.kept, self.owners[self.rule.reply(xid)]
+        kept, at = self.kept, self.rule.reply(xid)
         size, frame, time = completion
         number = len(kept.reply_records)
         if kept.has_texts:

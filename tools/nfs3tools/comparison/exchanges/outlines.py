@@ -149,24 +149,23 @@ class Outlines:
         return len(self.asked)
 
     def take_connection(self, lines: Iterable[Line], pattern: re.Pattern[str]) -> None:
-        rule, named = Answering(), dict[int, int]()
-        answered, owners = self.owners[self.connections[-1]] = array('I'), array('I')
+        rule, named = Answering(len(self)), dict[int, int]()
+        answered, _ = self.owners[self.connections[-1]] = array('I'), rule.owners
         said_before = dict[int, set[int]]()  # hashes of replies to calls that were sent again
         for line in lines:
             said = hash(pattern.sub('', line.text))
             if line.is_call:
-                earlier = rule.call(line.xid, line.text)
-                owners.append(len(self) if earlier is None else owners[earlier])
-                if earlier is not None:
-                    self.again.setdefault(owners[-1], []).append(line.record)
+                at, is_first = rule.call(line.xid, line.text)
+                if not is_first:
+                    self.again.setdefault(at, []).append(line.record)
                     continue
                 call = read_call(line.procedure, line.text)
                 if line.procedure in NAMING:
-                    named[len(self)] = hash(call.get('name', call.get('dirpath')))
+                    named[at] = hash(call.get('name', call.get('dirpath')))
                 self.add_call(line, [int(call[item], 16) for item in handle_items(line.procedure)
                                      if call.get(item)], said)
                 continue
-            at = owners[rule.reply(line.xid)]
+            at = rule.reply(line.xid)
             answered.append(at)
             if at in self.again:
                 own = hash(line.text)
