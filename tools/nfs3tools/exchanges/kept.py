@@ -375,11 +375,7 @@ class Reading:
 
     def kind_of(self, listed: str, text: str) -> int:
         """Returns the number of a call's procedure."""
-        kept = self.kept
-        number = kept.numbers.get(listed)  # none is there for raw calls, which have other names
-        if number is not None:
-            return number
-        name = name_of_call(listed, text)
+        kept, name = self.kept, name_of_call(listed, text)
         number = kept.numbers.setdefault(name, len(kept.names))
         kept.names += [name] * (number == len(kept.names))
         return number
