@@ -10,7 +10,7 @@ from examples.messages import (
 from tests.shared.traffic import Names, Traffic
 
 from ..nfs3tools.exchanges.listing import Message, line_of
-from ..nfs3tools.exchanges.whose import Labels, fields_of
+from ..nfs3tools.exchanges.whose import fields_of
 from ..nfs3tools.comparison.values.classes import Mask, Way, mask_of
 from ..nfs3tools.comparison.verdict.differences import Comparison
 from .comparisons import Conversation
@@ -152,14 +152,12 @@ def of_exchange(place: Findings, program: int, procedure: int, arguments: bytes,
 
 
 def labels_of(message: Message) -> list[str]:
-    labels = Labels(message)
-    return [labels.label(at) for at in range(len(message.items))]
+    return [item.label for item in message.items]
 
 
 def all_fields(message: Message) -> dict[str, str]:
     """Returns the names of the items by their fields."""
-    labels = Labels(message)
-    return {labels.field(at): item.name for at, item in enumerate(message.items)}
+    return {item.field: item.name for item in message.items}
 
 
 def labels_of_every_procedure(place: Findings) -> None:

@@ -28,13 +28,10 @@ from typing import NamedTuple
 
 from ..comparison.exchanges.pairing import ASKING
 from ..comparison.values.classes import CLASSES, following, in_any_order, mask_text, mask_word
-from ..comparison.verdict import summary
-from ..comparison.verdict.accepted import accepted_of, file_of
-from ..comparison.verdict.cover import Cover, Size, covers_of, lines_of_counts, losses_of
-from ..comparison.verdict.decision import Report, judged_runs, run_of
-from ..comparison.verdict.excerpt import Around
+from ..comparison.verdict.accepted import accepted_of, file_of, ignored_of, without_ignored
+from ..comparison.verdict.cover import Cover, covers_of, lines_of_counts, losses_of
+from ..comparison.verdict.decision import Report, compared_in_words, judged_runs, run_of
 from ..comparison.verdict.findings import RUNS, Compared, Framing, Run
-from ..comparison.verdict.ignored import ignored_of, without_ignored
 from ..comparison.verdict.orders import Choices, NothingToCompare
 from ..comparison.verdict.trial import Trial
 from ..pages import compared as pages
@@ -47,7 +44,6 @@ from ..reporting import telling
 from ..reporting.messages import (
     REFUSED, add_gone, add_judging, advice_on, allowed_of, ended, options_of, parser_of,
     recording_lines, run)
-from ..reporting.reports import json_of_comparison, junit_of_comparison, junit_of_error
 from ..shared.outputs import check_output, held, printed_beside, try_outputs, write_file
 from ..shared.printed import escaped
 from ..shared.programs import program_path
@@ -57,7 +53,6 @@ from ..shared.screens import Colour, Screen, add_colour, screen_of
 SAME, DIFFERENT = range(2)
 FINDINGS_AT_MOST, SILENT_AT_MOST = 20, 12
 SIGN, SIGN_COLOURS = re.compile(r'  ([-+]) '), {'-': Colour.RED, '+': Colour.GREEN}  # of values
-AROUND = Around(3, pages.FINDINGS_ON_PAGE)  # on a page
 
 
 def command_line_of_compare(words: list[str]) -> argparse.Namespace:
@@ -109,10 +104,6 @@ class Whole(NamedTuple):
     def framings(self) -> list[Framing]:
         return [run.frames for run in self.runs]
 
-    @property
-    def sizes(self) -> list[Size]:
-        return [cover.size for cover in self.covers]
-
     def is_good(self, allowed: Allowed) -> bool:
         return all(cover.is_good(allowed) for cover in self.covers)
 
@@ -158,9 +149,9 @@ def compared_runs(words: argparse.Namespace, stack: ExitStack) -> int:
     print(f'masked: {mask_text(masks[0])}', flush=True)
     choices = Choices(words.order, masks, following(words.mask),
                       frozenset() if words.extra == 'none' else ASKING,
-                      AROUND if words.html else None, words.accept)
+                      bool(words.html), words.accept)
     is_same = compared_whole(words, whole, choices)
-    if any(cover.is_refused for cover in whole.covers):
+    if any(cover.faults() for cover in whole.covers):
         return REFUSED
     return SAME if is_same else DIFFERENT
 
@@ -191,8 +182,7 @@ def whole_of(program: str, folder: Path, names: list[str], inputs: list[str],
 def compared_whole(words: argparse.Namespace, whole: Whole, choices: Choices) -> bool:
     """Compares the runs. Returns whether they are the same."""
     with whole.trial.progress.line():
-        report = judged_runs(whole.trial, whole.runs, whole.names, whole.sizes, choices,
-                             whole.covers)
+        report = judged_runs(whole.trial, whole.runs, whole.names, choices, whole.covers)
     line = report.line(losses_of(whole.covers, RUNS))
     is_good = report.is_same and whole.is_good(allowed_of(words))
     print(screen_of(words.color).painted(line, colour_of_word(report.word(), is_good)),
@@ -211,28 +201,28 @@ def explain(words: argparse.Namespace, whole: Whole, line: str, report: Report,
     compared, left_out = without_ignored(report.found.compared, words.ignore)
     if words.junit:
         told_of = compared if is_told(words, report) else replace(compared, findings=[])
-        suite = junit_of_comparison(line, report, told_of, whole.framings(), is_good)
+        suite = telling.junit_of_comparison(line, report, told_of, whole.framings(), is_good)
         write_file(words.junit, [suite], whole.inputs)
     if words.html:
         content = ComparedContent(line, report, compared, words.ignore, left_out, whole.runs)
         write_file(words.html, pages.compared_page(content), whole.inputs)
     if words.json:
-        write_file(words.json, json_of_comparison(report, compared, left_out, whole.framings()),
-                   whole.inputs)
+        write_file(words.json, telling.json_of_comparison(report, compared, left_out,
+                                                          whole.framings()), whole.inputs)
     print_comparison(words, whole, report, compared, left_out)
-    for text in telling.of_accepted(report.accepted, whole.framings(), words.all):
+    for text in telling.of_accepted(report.found.accepted, whole.framings(), words.all):
         print(text)
 
 
 def is_told(words: argparse.Namespace, report: Report) -> bool:
     """Whether findings are printed. Those that do not count in another order are if all are asked
     for."""
-    return report.same_under is None or bool(words.all)
+    return report.found.same_under is None or bool(words.all)
 
 
 def print_comparison(words: argparse.Namespace, whole: Whole, report: Report, compared: Compared,
                      left_out: Counter[tuple[str, str]]) -> None:
-    if report.verdict == 'same':
+    if not report.place:
         return
     screen = screen_of(words.color)
     if is_told(words, report):
@@ -244,7 +234,7 @@ def print_comparison(words: argparse.Namespace, whole: Whole, report: Report, co
     for text in (*telling.of_silent(compared, whole.framings(), most),
                  *telling.of_notes(compared, whole.framings(), most)):
         print(text)
-    print(summary.compared_in_words(compared))
+    print(compared_in_words(compared))
 
 
 def colour_of_word(word: str, is_good: bool) -> Colour:
@@ -264,7 +254,7 @@ def write_error(words: argparse.Namespace, message: str) -> None:
     """Writes for those who read JUnit XML that the runs could not be compared."""
     if words.junit:
         names = [words.first, words.second]
-        write_file(words.junit, [junit_of_error(names, message)],
+        write_file(words.junit, [telling.junit_of_error(names, message)],
                    files_in(names))
 
 

@@ -103,15 +103,10 @@ def origins_of(program: str, taken: Taken, places: Iterable[Place], name: str) -
             raise NotTaken(f'{escaped(name)} is refused, so the origins of its handles are not '
                            f'known: {answer.error.strip()}')
         outlines = Outlines(lines_of_program(program, ['show', form]), {}, when_of(taken))
-    turns = [turn_of(outlines, place) for place in places]
+    turns = [outlines.exchange_of(place.connection, place.side == 'client', place.record)
+             for place in places]
     records = map(outlines.record_of, outlines.with_origins(turns))
     return [Place(connection, 'client', record) for connection, record in records]
-
-
-def turn_of(outlines: Outlines, place: Place) -> int:
-    """Returns the exchange at a place, by its number in the listing."""
-    return outlines.by_record(outlines.place_of(place.connection),
-                              place.side == 'client')[place.record]
 
 
 def cuts_at(program: str, taken: Taken, place: Place | FramePlace, has_origins: bool,

@@ -24,10 +24,12 @@ SUCCESS = ' mtype=1 reply_stat=0 verf_flavor=0 verf_body= accept_stat=0 status=0
 
 
 class Answering:
-    """The calls of a connection, numbered from 0, and then its replies, each by its xid."""
+    """The exchanges of a connection, numbered from a first one: its calls, and then its replies,
+    each by its xid."""
 
-    def __init__(self) -> None:
+    def __init__(self, first: int = 0) -> None:
         self.said = array('q')  # a hash of what each call says
+        self.owners, self.number = array('I'), first  # the exchange of each call, and the next one
         # Most clients count up: xids of the first calls, and how many there are. Of other xids, the
         # first call with each.
         self.begin, self.counted = 0, 0
@@ -37,11 +39,18 @@ class Answering:
         self.several: dict[int, deque[int]] = {}
         self.different = defaultdict[int, dict[int, int]](dict)
 
-    def call(self, xid: int, said: Hashable) -> int | None:
-        """Takes a call with what it says after its xid. If it is a retransmission, returns the call
-        that was sent first."""
-        at = len(self.said)
+    def call(self, xid: int, said: Hashable) -> tuple[int, bool]:
+        """Takes a call with what it says after its xid. Returns its exchange, and whether it is the
+        first call of it."""
         self.said.append(hash(said))
+        earlier = self.earlier(xid)
+        self.owners.append(self.number if earlier is None else self.owners[earlier])
+        self.number += earlier is None
+        return self.owners[-1], earlier is None
+
+    def earlier(self, xid: int) -> int | None:
+        """Returns the call that was sent first if the last one is a retransmission."""
+        at = len(self.said) - 1
         if at == self.counted and (not at or xid == self.begin + at):
             self.begin, self.counted = xid - at, at + 1
             return None
@@ -62,13 +71,13 @@ class Answering:
         return at if 0 <= at < self.counted else self.firsts.get(xid)
 
     def reply(self, xid: int) -> int:
-        """Takes a reply, and returns the call that it answers."""
-        owners = self.several.get(xid)
-        if owners is None:
-            first = self.first(xid)
-            assert first is not None, xid
-            return first
-        return owners.popleft() if len(owners) > 1 else owners[0]
+        """Takes a reply, and returns its exchange."""
+        waiting = self.several.get(xid)
+        if waiting is not None:
+            return self.owners[waiting.popleft() if len(waiting) > 1 else waiting[0]]
+        first = self.first(xid)
+        assert first is not None, xid
+        return self.owners[first]
 
 
 class UnreadCall(NamedTuple):
@@ -91,34 +100,16 @@ def calls_in(stream: TakenStream) -> Iterator[UnreadCall]:
             for extent, xid, _ in xids(Window(stream), 0, stream.size))
 
 
-class Answers:
-    """How often each call of a connection was answered, by the xids of its records. What calls say
-    is read only if several have one xid.
-
-    calls: its calls, numbered from 0
-    owners: the call that was sent first, for each call
-    replies: how many replies each call that was sent first has
-    """
-
-    def __init__(self, calls: Iterable[UnreadCall], server: TakenStream) -> None:
-        self.calls, rule = list(calls), Answering()
-        numbers = Counter(call.xid for call in self.calls)
-        self.owners = array('Q')
-        for at, call in enumerate(self.calls):
-            earlier = rule.call(call.xid, call.said() if numbers[call.xid] > 1 else 0)
-            self.owners.append(at if earlier is None else earlier)
-        self.replies = Counter(rule.reply(xid)
-                               for _, xid, _ in xids(Window(server), 0, server.size)
-                               if xid in numbers)
-
-    def is_answered(self, at: int) -> bool:
-        """Whether the exchange of a call has a reply."""
-        return self.replies[self.owners[at]] > 0
-
-    def unanswered(self) -> Iterator[int]:
-        """Iterates over the calls of exchanges without a reply, each exchange once."""
-        return (at for at, owner in enumerate(self.owners)
-                if owner == at and not self.is_answered(at))
+def unanswered(calls: Iterable[UnreadCall], server: TakenStream) -> Iterator[UnreadCall]:
+    """Iterates over the first calls of exchanges without a reply, by the xids of records. What
+    calls say is read only if several have one xid."""
+    sent, rule = list(calls), Answering()
+    numbers = Counter(call.xid for call in sent)
+    first = [call for call in sent
+             if rule.call(call.xid, call.said() if numbers[call.xid] > 1 else 0)[1]]
+    answered = {rule.reply(xid) for _, xid, _ in xids(Window(server), 0, server.size)
+                if xid in numbers}
+    return (call for at, call in enumerate(first) if at not in answered)
 
 
 def error_in(procedure: str, said: str) -> str:

@@ -15,9 +15,8 @@ from typing import NamedTuple
 from ..shared.layouts import RAW, VALUES, meaning_of
 from .answering import error_in
 from .procedures import (
-    ACCESS, COMMIT, CREATE, GETATTR, LISTINGS, MKDIR, MKNOD, READ, READDIR, READDIRPLUS, READLINK,
-    SETATTR, SYMLINK, WRITE)
-from .statements import handle_items
+    ACCESS, COMMIT, CREATE, GETATTR, LISTINGS, MKDIR, MKNOD, READ, READDIR, READDIRPLUS,
+    READLINK, SETATTR, SYMLINK, WRITE, handle_items)
 from .values import Values, head_of, read_call, read_reply, seconds
 
 LONGEST_TEXT = 1_000  # characters of a name or a text

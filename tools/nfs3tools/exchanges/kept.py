@@ -17,11 +17,11 @@ from typing import NamedTuple
 from ..recordings.selection import BEGUN_BEFORE
 from ..recordings.spool import Spool
 from ..recordings.taken import Completion, TakenConnection
+from ..shared.layouts import BY_NAME, RAW
 from .answering import Answering, error_in
 from .in_words import Asked, answer_in, asked_in, short
-from .listing import is_call, listed_of, name_of_call
-from .objects import GIVING_HANDLES, TEACHING, UNKNOWN, Move, Paths, below
-from .procedures import RENAME
+from .listing import is_call, line_of, listed_of, name_of_call
+from .objects import GIVING_HANDLES, TEACHING, UNKNOWN, Paths, below
 from .stored import LongValues, Texts, without_long
 from .values import handle_found
 
@@ -70,25 +70,30 @@ class KeptExchange:
     again: its retransmissions
     answered: its replies
     latency: nanoseconds to the first reply
+    errors: the names of the errors of its replies
+    is_error: whether a reply is no success, or the call got none
+    is_unanswered: as `Kept.is_unanswered` has it
+    earlier, later: the positions of the same call on an earlier connection, of which it is a
+        retransmission, as `7:3182`, and on a later one
     procedure: its name in the listing, or of a raw call that of its program and its procedure
+    listed: its name in the listing
     """
 
     def __init__(self, kept: 'Kept', at: int) -> None:
         self.kept, self.at, self.part = kept, at, kept.parts[kept.part_of[at]]
         self.record, self.frame, self.time = kept.records[at], kept.frames[at], kept.times[at]
-        self.procedure = kept.names[kept.kinds[at]]
+        self.procedure, self.listed = kept.names[kept.kinds[at]], kept.listed_name(at)
+        self.again: Sequence[SentRecord] = kept.again.get(at, ())
+        self.errors: Sequence[str] = kept.errors.get(at, ())
+        self.is_error = bool(self.errors) if kept.firsts[at] else self.part.has_all_replies
+        self.is_unanswered = kept.is_unanswered(at)
+        self.earlier = kept.position(kept.earlier.get(at))
+        self.later = kept.position(kept.later.get(at))
+        latency = kept.latency(at)
+        self.latency = None if latency == UNTIMED else latency
         # What was asked for; `cached_property` takes more time
         self.known_asked: Asked | None = None
         self.known_answers: list[str] | None = None
-
-    @property
-    def latency(self) -> int | None:
-        latency = self.kept.latency(self.at)
-        return None if latency == UNTIMED else latency
-
-    @property
-    def again(self) -> Sequence[SentRecord]:
-        return self.kept.again.get(self.at, ())
 
     @property
     def answered(self) -> Sequence[SentRecord]:
@@ -98,7 +103,7 @@ class KeptExchange:
     def asked(self) -> Asked:
         """What is asked, in words."""
         if self.known_asked is None:
-            self.known_asked = asked_in(self.kept.listed_name(self.at), self.kept.asking[self.at])
+            self.known_asked = asked_in(self.listed, self.kept.asking[self.at])
         return self.known_asked
 
     @property
@@ -118,10 +123,10 @@ class KeptExchange:
     @property
     def made(self) -> str | None:
         """The handle that a reply gave of a name in a folder."""
-        replies, name = self.kept.replies_of(self.at), self.kept.listed_name(self.at)
-        if not replies or self.errors or name not in GIVING_HANDLES:
+        replies = self.kept.replies_of(self.at)
+        if not replies or self.errors or self.listed not in GIVING_HANDLES:
             return None
-        return handle_found(name, self.kept.answering[replies[0]]) or None
+        return handle_found(self.listed, self.kept.answering[replies[0]]) or None
 
     @property
     def other_path(self) -> str | None:
@@ -133,8 +138,7 @@ class KeptExchange:
     def answers(self) -> list[str]:
         """What each reply says, in words."""
         if self.known_answers is None:
-            name, texts = self.kept.listed_name(self.at), self.kept.answering
-            self.known_answers = [answer_in(name, texts[number])
+            self.known_answers = [answer_in(self.listed, self.kept.answering[number])
                                   for number in self.kept.replies_of(self.at)]
         return self.known_answers
 
@@ -153,10 +157,6 @@ class KeptExchange:
         return 'not judged' if self.part.is_refused else 'no reply recorded'
 
     @property
-    def is_unanswered(self) -> bool:
-        return self.kept.is_unanswered(self.at)
-
-    @property
     def waited(self) -> int | None:
         """Nanoseconds without a reply: to one on a later connection, or the recording's end."""
         kept = self.kept
@@ -165,29 +165,6 @@ class KeptExchange:
         later = kept.answered_later(self.at)
         end = kept.ended if later is None else kept.reply_times[kept.firsts[later] - 1]
         return end - self.time if end and self.time else None
-
-    @property
-    def earlier(self) -> str | None:
-        """The position of the same call on an earlier connection, of which it is a
-        retransmission, as `7:3182`."""
-        return self.kept.position(self.kept.earlier.get(self.at))
-
-    @property
-    def later(self) -> str | None:
-        """The same of a later connection."""
-        return self.kept.position(self.kept.later.get(self.at))
-
-    @property
-    def errors(self) -> Sequence[str]:
-        """The names of the errors of its replies."""
-        return self.kept.errors.get(self.at, ())
-
-    @property
-    def is_error(self) -> bool:
-        """Whether a reply is no success, or the call got none."""
-        if not self.kept.firsts[self.at]:
-            return self.part.has_all_replies
-        return bool(self.errors)
 
 
 def call_text(one: KeptExchange) -> str:
@@ -201,7 +178,7 @@ def call_text(one: KeptExchange) -> str:
         words.append(asked.words)
     if one.again:
         words.append(f'(sent {len(one.again) + 1} times)')
-    if one.at in one.kept.earlier:
+    if one.earlier:
         words.append(f'(again, as {one.earlier})')
     return ' '.join(words)
 
@@ -226,7 +203,6 @@ class Kept:
         # By the address of the server, since other servers may have equal handles.
         self.paths: dict[str, Paths] = {}
         self.names, self.numbers, self.kinds = list[str](), dict[str, int](), array('H')
-        self.listed_names = list[str]()  # those of the listing
         self.part_of, self.records, self.xids = array('I'), array('I'), array('I')
         self.sizes = array('I')
         self.frames, self.times = array('Q'), array('q')
@@ -333,7 +309,8 @@ class Kept:
 
     def listed_name(self, at: int) -> str:
         """Returns the procedure of an exchange as the listing names it."""
-        return self.listed_names[self.kinds[at]]
+        name = self.names[self.kinds[at]]
+        return name if name in BY_NAME else RAW.name
 
     def replies_of(self, at: int) -> Sequence[int]:
         """Returns the numbers of the replies of an exchange."""
@@ -370,27 +347,21 @@ class Reading:
 
     def __init__(self, kept: Kept, paths: Paths) -> None:
         self.kept, self.paths = kept, paths
-        self.rule, self.owners = Answering(), array('I')  # the exchange of each call
+        self.rule = Answering(len(kept))
         self.number = len(kept.parts) - 1
         self.cut = kept.values.cut if kept.values else without_long
 
     def call(self, line: str, completion: Completion) -> None:
-        _, _, record, xid, rest = line.split(' ', 4)
-        end = rest.find(' ')
-        text = rest[end:-1]
-        number = int(xid[4:])
-        kept, earlier = self.kept, self.rule.call(number, text)
+        _, _, record, xid, name, text = line_of(line)
+        kept, (at, is_first) = self.kept, self.rule.call(xid, text)
         size, frame, time = completion
-        if earlier is not None:
-            at = self.owners[earlier]
-            kept.again.setdefault(at, []).append(SentRecord(int(record), frame, time, size))
-            self.owners.append(at)
+        if not is_first:
+            kept.again.setdefault(at, []).append(SentRecord(record, frame, time, size))
             return
-        self.owners.append(len(kept.records))
         kept.part_of.append(self.number)
-        kept.kinds.append(self.kind_of(rest[:end], text))
-        kept.records.append(int(record))
-        kept.xids.append(number)
+        kept.kinds.append(self.kind_of(name, text))
+        kept.records.append(record)
+        kept.xids.append(xid)
         kept.sizes.append(size)
         kept.frames.append(frame)
         kept.times.append(time)
@@ -400,34 +371,23 @@ class Reading:
 
     def said(self) -> Sequence[int]:
         """Returns a hash of what the call of each exchange says."""
-        said = self.rule.said
-        if len(self.kept) - self.kept.starts[-1] == len(said):
-            return said  # none was sent again
-        return array('q', dict(zip(self.owners, said)).values())
+        return array('q', dict(zip(self.rule.owners, self.rule.said)).values())
 
     def kind_of(self, listed: str, text: str) -> int:
         """Returns the number of a call's procedure."""
-        kept = self.kept
-        number = kept.numbers.get(listed)  # none is there for raw calls, which have other names
-        if number is not None:
-            return number
-        name = name_of_call(listed, text)
+        kept, name = self.kept, name_of_call(listed, text)
         number = kept.numbers.setdefault(name, len(kept.names))
-        if number == len(kept.names):
-            kept.names.append(name)
-            kept.listed_names.append(listed)
+        kept.names += [name] * (number == len(kept.names))
         return number
 
     def reply(self, line: str, completion: Completion) -> None:
-        _, _, record, xid, rest = line.split(' ', 4)
-        end = rest.find(' ')
-        name, text = rest[:end], rest[end:-1]
-        kept, at = self.kept, self.owners[self.rule.reply(int(xid[4:]))]
+        _, _, record, xid, name, text = line_of(line)
+        kept, at = self.kept, self.rule.reply(xid)
         size, frame, time = completion
         number = len(kept.reply_records)
         if kept.has_texts:
             kept.answering.append(self.cut(text))
-        kept.reply_records.append(int(record))
+        kept.reply_records.append(record)
         kept.reply_sizes.append(size)
         kept.reply_frames.append(frame)
         kept.reply_times.append(time)
@@ -439,13 +399,4 @@ class Reading:
         if error:
             kept.errors.setdefault(at, []).append(error)
         elif kept.has_texts and name in TEACHING:
-            self.learn(at, name, text, frame or at + 1)
-
-    def learn(self, at: int, procedure: str, text: str, frame: int) -> None:
-        """Learns from a reply which paths handles have."""
-        asked = asked_in(procedure, self.kept.asking[at])
-        if procedure == RENAME:
-            self.paths.moves.append(Move(frame, asked.handle or '', asked.entry or '',
-                                         asked.other or '', asked.other_entry or ''))
-            return
-        self.paths.take_reply(procedure, asked.handle or '', asked.entry or '', text, frame)
+            self.paths.take(name, kept.asking[at], text, frame or at + 1)

@@ -7,18 +7,19 @@ import tempfile
 from collections.abc import Iterator
 from dataclasses import dataclass, field
 from functools import cached_property
-from itertools import starmap
 from typing import IO, NamedTuple
 
 from ..recordings.coverage import call_named
 from ..recordings.taken import Completion, TakenConnection
 from ..shared.layouts import RAW
 from ..shared.programs import lines_of_program
-from .stored import LongValues, Value
+from .stored import LongValues
+from .whose import Item, items_of
 
 ITEM = re.compile(r' ([^=]+)=("[^"]*"|[^ ]*)')
 CALLED_NUMBERS = re.compile(r' ?mtype=0 rpcvers=2 prog=(\d+) vers=(\d+) proc=(\d+) ')
 STATUS_AFTER_FAULT = 2  # the status of `show` after a fault
+Items = tuple[Item, ...]
 
 
 class Line(NamedTuple):
@@ -32,16 +33,18 @@ class Line(NamedTuple):
 
     def message(self, values: LongValues | None = None) -> Message:
         """Returns its message. A long value is put among `values`, if there are some."""
-        return Message(self.connection, 'client' if self.is_call else 'server', self.record,
-                       self.xid, self.procedure, values.cut(self.text) if values else self.text,
-                       values)
+        message = Message(*self[:5], values.cut(self.text) if values else self.text)
+        message.values = values
+        return message
 
 
 def line_of(line: str) -> Line:
-    connection, side, record, xid, rest = line.split(' ', 4)
-    end = rest.find(' ')
-    return Line(int(connection), side == 'client', int(record), int(xid[4:]), rest[:end],
-                rest[end:].rstrip('\n'))
+    # (the items are copied once, since they may be long)
+    end = line.index(' ', line.index(' xid=') + 1)
+    items = line.index(' ', end + 1)
+    connection, side, record, xid = line[:end].split(' ')
+    return Line(int(connection), side == 'client', int(record), int(xid[4:]), line[end + 1:items],
+                line[items:len(line) - line.endswith('\n')])
 
 
 class LinePlace(NamedTuple):
@@ -52,7 +55,7 @@ class LinePlace(NamedTuple):
 
 
 def place_of(line: str) -> LinePlace:
-    connection, side, record, _ = line.split(' ', 3)
+    connection, side, record = line[:line.index(' xid=')].split(' ')
     return LinePlace(int(connection), side == 'client', int(record))
 
 
@@ -76,55 +79,44 @@ def with_connection(line: str, number: int) -> str:
     return f'{number}{line[line.index(" "):]}'
 
 
-class Item(NamedTuple):
-    name: str
-    value: Value
-
-
-@dataclass
-class Message:
-    """A call or a reply, where it is in its capture, and what it says.
-
-    text: its items as the listing has them after the procedure, with marks for long values, which
-        `values` has
-    """
-    connection: int
-    side: str
-    record: int
-    xid: int
-    procedure: str
-    text: str = ''
-    values: LongValues | None = field(default=None, repr=False, compare=False)
-
-    @property
-    def is_call(self) -> bool:
-        return self.side == 'client'
+class Message(Line):
+    """A call or a reply, where it is in its capture, and what it says. Its text may have marks for
+    long values, which `values` has."""
+    values: LongValues | None = None
 
     @property
     def place(self) -> str:
         """The message's place, in the words of `nfs3canon`."""
-        return f'connection {self.connection} {self.side} record {self.record}'
+        side = 'client' if self.is_call else 'server'
+        return f'connection {self.connection} {side} record {self.record}'
 
     @cached_property
     def items(self) -> tuple[Item, ...]:
         """Its items after the xid, read once they are asked for."""
         some = ITEM.findall(self.text)
-        if self.values is None:
-            return tuple(map(Item._make, some))
-        return tuple(Item(name, self.values.value(word)) for name, word in some)
+        long = self.values
+        return tuple(items_of(self.procedure, self.is_call, [
+            (name, long.value(word) if long else word) for name, word in some]))
 
-    def value_of(self, name: str, some: range | None = None) -> str | None:
-        """The text of the first item of this name, of all or of some."""
-        items = self.items if some is None else self.items[some.start:some.stop]
-        return next((str(item.value) for item in items if item.name == name), None)
+    def value_of(self, name: str) -> str | None:
+        return value_in(self.items, name)
 
-    def entries(self) -> tuple[range, list[range], range]:
+    def after(self, name: str) -> Items:
+        """Returns the items after the first of a name, or all if there is none."""
+        return self.items[next((at for at, item in enumerate(self.items, 1)
+                                if item.name == name), 0):]
+
+    def parts(self) -> tuple[Items, list[Items], Items]:
         """Returns the items before the entries of a folder, those of each, and those after them."""
         begins = [at for at, item in enumerate(self.items) if item.name == 'entry']
-        if not begins:
-            return range(len(self.items)), [], range(0)
-        return (range(begins[0]), list(starmap(range, zip(begins, begins[1:]))),
-                range(begins[-1], len(self.items)))
+        first, last = (begins[0], begins[-1]) if begins else (len(self.items), len(self.items))
+        return (self.items[:first], [self.items[at:end] for at, end in zip(begins, begins[1:])],
+                self.items[last:])
+
+
+def value_in(items: Items, name: str) -> str | None:
+    """Returns the text of the first item of a name."""
+    return next((str(item.value) for item in items if item.name == name), None)
 
 
 @dataclass

@@ -6,12 +6,12 @@ together by paths.
 """
 from __future__ import annotations
 
+from bisect import bisect_right
 from collections import defaultdict
-from collections.abc import Iterator
-from functools import cached_property
+from collections.abc import Callable, Iterator
+from functools import cached_property, partial
 from typing import NamedTuple
 
-from .listing import Exchange
 from .procedures import LOOKUP, MAKING, READDIRPLUS, RENAME
 from .values import handle_found, read_call, read_reply
 
@@ -78,6 +78,25 @@ class Move(NamedTuple):
     to_name: str
 
 
+def path_by(origin_of: Callable[[str], Origin | None], handle: str,
+            known: dict[str, str]) -> str | None:
+    """Returns the path of a handle by where objects are, and keeps those of folders above it."""
+    # (by steps, since a folder may be thousands of folders below the first; in a circle, as no
+    # file system has it, nothing is first)
+    way, at = dict[str, Origin](), handle
+    while at not in known and at not in way and (origin := origin_of(at)) is not None:
+        if origin.folder is None:
+            known[at] = origin.name.rstrip('/') or '/'
+        else:
+            way[at], at = origin, origin.folder
+    if not way:
+        return known.get(handle)
+    path = known.get(at, UNKNOWN)
+    for one, origin in reversed(way.items()):
+        path = known[one] = below(path, origin.name)
+    return path
+
+
 class Paths:
     """The paths of the handles of one run."""
 
@@ -97,26 +116,7 @@ class Paths:
 
     def of(self, handle: str) -> str | None:
         """Returns the path of a handle, if one is known. A folder that is not known is `?`."""
-        if handle not in self.origins:
-            return None
-        # (by steps, since a folder may be thousands of folders below the first; in a circle, as no
-        # file system has it, nothing is first)
-        way, at = dict[str, Origin](), handle
-        while (at not in self.known and at not in way and (origin := self.origins.get(at))
-               and origin.folder is not None):
-            way[at] = origin
-            at = origin.folder
-        path = self.top(at)
-        for one, origin in reversed(way.items()):
-            path = self.known[one] = below(path, origin.name)
-        return path
-
-    def top(self, handle: str) -> str:
-        """Returns the path with which a way begins."""
-        origin = self.origins.get(handle)
-        if handle in self.known or origin is None or origin.folder is not None:
-            return self.known.get(handle, UNKNOWN)
-        return origin.name.rstrip('/') or '/'
+        return path_by(self.origins.get, handle, self.known)
 
     def at(self, handle: str, turn: int) -> str | None:
         """Returns the path of a handle at the time of a frame, after all was learned."""
@@ -134,22 +134,18 @@ class Paths:
             self.origins[handle] = origin
             self.known.clear()
 
-    def take(self, exchange: Exchange) -> None:
-        """Learns from what an exchange says of handles."""
-        procedure = exchange.call.procedure
-        if procedure in TEACHING:
-            call = read_call(procedure, exchange.call.text)
-            name = call.get('name', call.get('dirpath', ''))
-            for reply in exchange.replies:
-                self.take_reply(procedure, call.get('fh', ''), name, reply.text)
-
-    def take_reply(self, procedure: str, folder: str, name: str, said: str, frame: int = 0) -> None:
-        """Learns from a reply to a call with this folder and this name, or this whole path if it is
-        MNT. If its frame is known, names may be asked for by the time."""
-        own, is_made = (None if procedure == MOUNTING else folder), procedure != LOOKUP
+    def take(self, procedure: str, asked: str, said: str, frame: int = 0) -> None:
+        """Learns from what a call and a reply to it say of handles. If the reply's frame is known,
+        names may be asked for by the time."""
+        call = read_call(procedure, asked)
+        if procedure == RENAME and frame:
+            self.moves.append(Move(frame, call['from.fh'], call['from.name'], call['to.fh'],
+                                   call['to.name']))
+        folder, is_made = (None if procedure == MOUNTING else call.get('fh')), procedure != LOOKUP
+        name = call.get('name', call.get('dirpath'))
         for entry, handle in handles_given(procedure, said):
-            origin = Origin(own, name, is_made) if entry is None else Origin(own, entry, False)
-            self.learn(handle, origin, frame)
+            self.learn(handle, Origin(folder, name, is_made) if entry is None
+                       else Origin(folder, entry, False), frame)
 
 
 class Names:
@@ -161,7 +157,9 @@ class Names:
     def __init__(self, paths: Paths) -> None:
         self.paths = paths
         self.history = defaultdict[str, list[tuple[int, Origin]]](list)
-        self.still: dict[str, bool] = {}
+        # The paths between two moves, most often those that are asked for next
+        self.turns, self.turn = sorted(one.frame for one in paths.moves), 0
+        self.known = dict[str, str]()
         there = dict[tuple[str, str], str]()
         events: list[FoundHandle | Move] = [*paths.found, *paths.moves]
         for event in sorted(events, key=lambda one: one.frame):
@@ -176,20 +174,10 @@ class Names:
 
     def path(self, handle: str, frame: int) -> str | None:
         """Returns the path of a handle at the time of a frame."""
-        if self.still.get(handle) or self.is_still(handle):
-            return self.paths.of(handle)
-        names, at, seen = list[str](), handle, set[str]()
-        while (origin := self.origin(at, frame)) is not None and at not in seen:
-            seen.add(at)
-            if origin.folder is None:
-                break
-            names.append(origin.name)
-            at = origin.folder
-        is_known = origin is not None and origin.folder is None
-        path = (origin.name.rstrip('/') or '/') if is_known and origin else UNKNOWN
-        for name in reversed(names):
-            path = below(path, name)
-        return path
+        turn = bisect_right(self.turns, frame)
+        if turn != self.turn:
+            self.turn, self.known = turn, {}
+        return path_by(partial(self.origin, frame=frame), handle, self.known)
 
     def origin(self, handle: str, frame: int) -> Origin | None:
         """Returns where an object is at the time of a frame."""
@@ -197,24 +185,8 @@ class Names:
         moved = next((origin for since, origin in reversed(later) if since <= frame), None)
         return moved or self.paths.origins.get(handle)
 
-    def is_still(self, handle: str) -> bool:
-        """Whether neither an object nor a folder above it was moved."""
-        way, at, found = list[str](), handle, True
-        while at not in self.still and at not in way:
-            way.append(at)
-            origin = self.paths.origins.get(at)
-            if at in self.history or origin is None or origin.folder is None:
-                found = at not in self.history
-                break
-            at = origin.folder
-        found = self.still.get(at, found)
-        self.still.update(dict.fromkeys(way, found))
-        return found
-
     def all_of(self, handle: str) -> list[str]:
         """Returns all paths that an object had, in their order."""
-        if self.is_still(handle):
-            return [path for path in (self.paths.of(handle),) if path is not None]
         frames, waiting, seen = {1}, [handle], set[str]()
         while waiting:
             at = waiting.pop()

@@ -149,7 +149,7 @@ class Spans(Generic[Spanned]):
 
 
 class SaidValues:
-    """SaidValues that answers say, each with at most two of these."""
+    """Values that answers say, each with at most two of these."""
 
     def __init__(self, some: Iterable[Sighting] = ()) -> None:
         self.sources = dict[Hashable, set[int]]()
@@ -192,7 +192,7 @@ class Timeline:
         values = set[Hashable]().union(*left)
         if all(left):
             return values, True
-        same = {one.value for one in self.around(asked) if not any(self.passed(one, asked))}
+        same = self.unchanged(self.around(asked), asked)
         return values | same, not near and not over and bool(same)
 
     def met(self, asked: Sighting) -> tuple[list[ValueChange], list[ValueChange]]:
@@ -247,6 +247,10 @@ class Timeline:
                                      self.sights.between(asked.begin, asked.end),
                                      self.sights.after(asked.end, NEAREST))
                 if one.source != asked.source]
+
+    def unchanged(self, some: Iterable[Sighting], asked: Sighting) -> set[Hashable]:
+        """Returns what those answers say between which and a question is no change."""
+        return {one.value for one in some if not any(self.passed(one, asked))}
 
     def passed(self, one: Sighting,
                asked: Sighting) -> tuple[list[ValueChange], list[ValueChange]]:
@@ -316,7 +320,11 @@ class FileSize(Timeline):
             if value == grown or value > grown and any(
                     first < value <= last for first, last in self.overlapping(at_base, asked)):
                 return True
-        return False if bases and is_all else self.later(asked)
+        if bases and is_all:
+            return False
+        # (answers may have the same size without a change between)
+        same = self.unchanged(self.around(asked), asked)
+        return asked.value in same if same else None
 
     def grown(self, end: int, at_base: Sequence[ValueChange], begin: int) -> int:
         """Returns the largest end of the WRITEs that were carried out between two frames. Those
@@ -345,11 +353,6 @@ class FileSize(Timeline):
             for one in self.sights.latest(begin):
                 if one.source != asked.source:
                     yield one.begin, one.end, one.value
-
-    def later(self, asked: Sighting) -> Optional[bool]:
-        """Returns whether answers have the same size if no change is between."""
-        same = {one.value for one in self.around(asked) if not any(self.passed(one, asked))}
-        return asked.value in same if same else None
 
 
 def end_of_write(change: ValueChange) -> int:
@@ -389,7 +392,7 @@ class FolderSize(Timeline):
         near = [one for one in (*self.sights.latest(asked.begin), *self.first_after(asked.end),
                                 *self.sights.between(asked.begin, asked.end))
                 if one.source != asked.source]
-        same = {one.value for one in near if not any(self.passed(one, asked))}
+        same = self.unchanged(near, asked)
         if same:
             return asked.value in same
         sizes, value = [int(str(one.value)) for one in near], int(str(asked.value))

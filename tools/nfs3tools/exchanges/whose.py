@@ -10,61 +10,70 @@ from __future__ import annotations
 
 import contextlib
 from collections.abc import Iterator, Mapping, Sequence
-from functools import cached_property
-from typing import NamedTuple
+from typing import NamedTuple, Optional
 
-from ..shared.layouts import BY_NAME, Procedure, Spell, Stop, Walk, cases_of, meaning_of
-from .listing import Item, Message
+from ..shared.layouts import BY_NAME, Procedure, Spell, Walk, cases_of, meaning_of
+from .stored import Value
 
 DIRECTORY_TYPE = '2'  # NF3DIR
 SHAPES_AT_MOST = 1 << 10  # that are kept
 ANY = '*'
+ItemNames = Sequence[tuple[str, Value]]  # the items of a message by name
 
 
-class Owner(NamedTuple):
-    """A part of a message: a name of the layouts, or of a list with the number of its part and the
-    index of the item that names this."""
-    word: str
-    number: int = 0
-    named_at: int | None = None
+class Item(NamedTuple):
+    """An item of a listed message.
 
-    def told(self, items: Sequence[Item]) -> str:
-        if self.named_at is not None:
-            return f'{self.word} {items[self.named_at].value}'
-        return f'{self.word} {self.number}' if self.number else self.word
+    values: the values that it may have by their names
+    may_change: whether it is an attribute of wcc_data, before or after, or of a directory
+    """
+    name: str
+    value: Value
+    label: str
+    field: str
+    values: Optional[Mapping[int, str]]
+    may_change: bool
+
+    @property
+    def meaning(self) -> str:
+        """The name of the item's number, if it has one."""
+        return meaning_of(self.name, str(self.value), self.values)
 
 
 class Slot(NamedTuple):
-    """What the layouts say of an item: its name, the parts that it is in, the outermost first, the
-    values that it may have by their names, and the index of the type of file if it is one of the
-    attributes of a file."""
-    name: str
-    owners: tuple[Owner, ...] = ()
-    values: Mapping[int, str] | None = None
-    type_at: int | None = None
+    """What the layouts say of an item: its field, its label, and the values that it may have by
+    their names.
+
+    named_at: the index of the item whose value is in the label, in the place of `%s`
+    is_of_change: whether it is one of wcc_data's attributes, before or after
+    type_at: the index of the type of file, if it is one of the attributes of a file
+    """
+    field: str
+    label: str
+    values: Optional[Mapping[int, str]]
+    named_at: Optional[int]
+    is_of_change: bool
+    type_at: Optional[int]
 
 
 def labelled(words: Sequence[str], name: str) -> str:
     return f'{" ".join(words)}.{name}' if words else name
 
 
-class Owned(Walk):
+class OwnedWalk(Walk):
     """A walk that knows in which parts it is."""
 
     def __init__(self, procedure: Procedure | None) -> None:
         super().__init__(procedure)
-        self.owners: list[Owner] = []
+        self.owners = list[str]()
 
     def met(self, name: str, values: Mapping[int, str] | None = None) -> None:
         """An item of any kind."""
         raise NotImplementedError
 
-    def owner(self, name: str, number: int) -> Owner:
-        return Owner(name, number)
-
     @contextlib.contextmanager
     def whose(self, name: str, number: int = 0) -> Iterator[None]:
-        self.owners.append(self.owner(name, number))
+        self.owners.append(name)
         yield
         self.owners.pop()
 
@@ -78,92 +87,64 @@ class Owned(Walk):
         self.met(name)
 
 
-class Slots(Owned):
-    """A walk through the items of a listed message. Those after one that the layouts do not have
-    there are nobody's."""
+class Slots(OwnedWalk):
+    """A walk through the items of a listed message."""
 
-    def __init__(self, message: Message) -> None:
-        super().__init__(BY_NAME.get(message.procedure))
-        self.items, self.slots = message.items, list[Slot]()
+    def __init__(self, procedure: str, is_call: bool, items: ItemNames) -> None:
+        super().__init__(BY_NAME.get(procedure))
+        self.items, self.slots = items, list[Slot]()
+        self.told = list[str]()  # the parts with their numbers
+        self.named_at: int | None = None
         self.type_at: int | None = None
-        with contextlib.suppress(Stop):
-            self.message(message.is_call)
-        self.slots += [Slot(item.name) for item in self.items[len(self.slots):]]
+        self.message(is_call)
 
     def met(self, name: str, values: Mapping[int, str] | None = None) -> None:
         at = len(self.slots)
-        if at == len(self.items) or self.items[at].name != name:
-            raise Stop
+        assert self.items[at][0] == name, self.items
         if name == 'type':
             self.type_at = at
-        self.slots.append(Slot(name, tuple(self.owners), values, self.type_at))
+        self.slots.append(Slot(labelled(self.owners, name), labelled(self.told, name), values,
+                               self.named_at, self.owners[-1:] in (['before'], ['after']),
+                               self.type_at))
 
     def word(self, name: str, values: Mapping[int, str] | None = None,
              most: int = 0xffffffff) -> int:
         self.met(name, values)
-        return int(str(self.items[len(self.slots) - 1].value))
-
-    def owner(self, name: str, number: int) -> Owner:
-        """The name of a directory's entry comes after its file id."""
-        at = len(self.slots)
-        is_named = [item.name for item in self.items[at:at + 2]] == ['fileid', 'name']
-        return Owner(name, number, at + 1 if number and is_named else None)
+        return int(str(self.items[len(self.slots) - 1][1]))
 
     @contextlib.contextmanager
     def whose(self, name: str, number: int = 0) -> Iterator[None]:
-        before, self.type_at = self.type_at, None
+        """The name of a directory's entry comes after its file id."""
+        at, before, named_at = len(self.slots), self.type_at, self.named_at
+        is_named = number and [item for item, _ in self.items[at:at + 2]] == ['fileid', 'name']
+        self.type_at, self.named_at = None, at + 1 if is_named else named_at
+        self.told.append(f'{name} {"%s" if is_named else number}' if number else name)
         with super().whose(name, number):
             yield
-        self.type_at = before
+        self.told.pop()
+        self.type_at, self.named_at = before, named_at
 
 
-class Labels:
-    """The labels of a message's items, by their indexes. They are made once they are asked for."""
-    shapes: dict[tuple[str, bool, tuple[str, ...]], list[Slot]] = {}
-
-    def __init__(self, message: Message) -> None:
-        self.message = message
-
-    @cached_property
-    def slots(self) -> list[Slot]:
-        """The names of the items say where each of them is, so messages that have the same names
-        share their slots."""
-        shape = (self.message.procedure, self.message.is_call,
-                 tuple(item.name for item in self.message.items))
-        if shape not in self.shapes:
-            if len(self.shapes) == SHAPES_AT_MOST:
-                self.shapes.clear()
-            self.shapes[shape] = Slots(self.message).slots
-        return self.shapes[shape]
-
-    def fields_from(self, at: int) -> frozenset[str]:
-        """Returns the fields of an item and of those after it."""
-        return frozenset(map(self.field, range(at, len(self.slots))))
-
-    def label(self, at: int) -> str:
-        return labelled([owner.told(self.message.items) for owner in self.slots[at].owners],
-                        self.slots[at].name)
-
-    def field(self, at: int) -> str:
-        return labelled([owner.word for owner in self.slots[at].owners], self.slots[at].name)
-
-    def is_of_a_change(self, at: int) -> bool:
-        """Returns whether the item is one of wcc_data's attributes, before or after."""
-        owners = self.slots[at].owners
-        return bool(owners) and owners[-1].word in ('before', 'after')
-
-    def is_of_a_directory(self, at: int) -> bool:
-        """Returns whether the item is one of the attributes of a directory."""
-        type_at = self.slots[at].type_at
-        return type_at is not None and self.message.items[type_at].value == DIRECTORY_TYPE
-
-    def meaning(self, at: int) -> str:
-        """The name of the item's number, if it has one."""
-        return meaning_of(self.slots[at].name, str(self.message.items[at].value),
-                          self.slots[at].values)
+# The names of the items say where each of them is, so messages that have the same names share their
+# slots.
+SHAPES: dict[tuple[str, bool, tuple[str, ...]], list[Slot]] = {}
 
 
-class Fields(Owned):
+def items_of(procedure: str, is_call: bool, items: ItemNames) -> Iterator[Item]:
+    """Iterates over the items of a listed message with all that is known of them."""
+    shape = procedure, is_call, tuple(name for name, _ in items)
+    if shape not in SHAPES:
+        if len(SHAPES) == SHAPES_AT_MOST:
+            SHAPES.clear()
+        SHAPES[shape] = Slots(procedure, is_call, items).slots
+    for (name, value), (field, label, values, named_at, is_of_change, type_at) in zip(
+            items, SHAPES[shape]):
+        yield Item(name, value, label if named_at is None else label % items[named_at][1], field,
+                   values, is_of_change or (
+                       type_at is not None and items[type_at][1] == DIRECTORY_TYPE))
+
+
+class Fields(OwnedWalk):
     """A walk through all items that a message may have."""
 
     def __init__(self, procedure: Procedure) -> None:
@@ -171,7 +152,7 @@ class Fields(Owned):
         self.found: dict[str, str] = {}  # by field: the name
 
     def met(self, name: str, values: Mapping[int, str] | None = None) -> None:
-        self.found[labelled([owner.word for owner in self.owners], name)] = name
+        self.found[labelled(self.owners, name)] = name
 
     def word(self, name: str, values: Mapping[int, str] | None = None,
              most: int = 0xffffffff) -> int:

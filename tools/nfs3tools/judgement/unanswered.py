@@ -10,7 +10,7 @@ from bisect import bisect_left
 from collections import defaultdict
 from collections.abc import Iterator
 
-from ..exchanges.answering import Answers, calls_in
+from ..exchanges.answering import calls_in, unanswered
 from ..exchanges.kept import host_of
 from ..recordings.records import Window, xids
 from ..recordings.taken import TakenStream
@@ -44,8 +44,7 @@ def open_calls(client: TakenStream, server: TakenStream) -> set[CallDigest]:
     several calls have one xid."""
     calls, replies = sorted_xids(client), sorted_xids(server)
     if any(map(int.__eq__, calls, calls[1:])):
-        answers = Answers(calls_in(client), server)
-        return {(answers.calls[at].xid, answers.calls[at].said()) for at in answers.unanswered()}
+        return {(call.xid, call.said()) for call in unanswered(calls_in(client), server)}
     wanted = set(missing_from(replies, calls))
     return {(call.xid, call.said()) for call in calls_in(client)
             if call.xid in wanted} if wanted else set()

@@ -13,8 +13,7 @@ from ..exchanges.in_words import short
 from ..exchanges.kept import Kept
 from ..exchanges.procedures import (
     CHANGING, COMMIT, CREATE, DONE, LOOKUP, NO_ENTRY, NULL, PATHCONF, REMOVING, RENAME, WRITE,
-    is_of_files)
-from ..exchanges.statements import names_in_call, owners_in
+    is_of_files, names_in_call, owners_in)
 from ..exchanges.stored import LongValues
 from ..exchanges.values import Attributes, Values, attributes, read_call, read_reply
 from .rules import Evidence

@@ -16,12 +16,12 @@ from itertools import chain, starmap, zip_longest
 from typing import Optional
 
 from ..comparison.values.classes import mask_text
-from ..comparison.verdict import summary
+from ..comparison.verdict.accepted import Ignored
 from ..comparison.verdict.cover import NotJudged, losses_of
-from ..comparison.verdict.decision import Report
-from ..comparison.verdict.excerpt import ExcerptConnection, ExcerptRow, HiddenCalls
+from ..comparison.verdict.decision import Report, compared_in_words
+from ..comparison.verdict.excerpt import (
+    SHOWN_AT_MOST, ExcerptConnection, ExcerptRow, HiddenCalls)
 from ..comparison.verdict.findings import RUNS, Compared, Finding, Run
-from ..comparison.verdict.ignored import Ignored
 from ..exchanges.in_words import short
 from ..exchanges.listing import Message
 from ..recordings.coverage import named_calls
@@ -34,7 +34,6 @@ from .fields import SIGNS, SIGN_CLASSES
 from .glance import phrases
 from .markup import code
 
-FINDINGS_ON_PAGE = 2_000  # findings
 # Places of findings that say the same as one: of one, and about so many of all
 OTHERS_AT_MOST, OTHERS_OF_ALL = 300, 20_000
 NOT_JUDGED_AT_MOST = 20  # connections of a run that are named
@@ -91,7 +90,7 @@ def head(content: ComparedContent, is_same: bool) -> Iterator[str]:
 def facts(content: ComparedContent) -> Iterator[str]:
     """Both runs, how their calls are matched, what is masked, and what else does not count."""
     yield ''.join(f'<p>{code(line)}</p>' for line in content.line.splitlines())
-    yield f'<p>{escape(summary.compared_in_words(content.compared))}.</p>'
+    yield f'<p>{escape(compared_in_words(content.compared))}.</p>'
     # (what neither of them has is not there)
     rows = ((first[0], first[1], second[1])
             for first, second in zip(*(facts_of(content, at) for at in BOTH))
@@ -114,7 +113,7 @@ def facts_of(content: ComparedContent, at: int) -> Iterator[tuple[str, str, str]
     for what, frame in zip(('first frame', 'last frame'), cover.taken.ends() or (None, None)):
         yield what, (f'{frame_time(frame)}, frame {frame.number}' if frame
                      else 'no frames'), 'no frames'
-    yield from ((what, f'{number:,}', '') for what, number in report.sizes[at]._asdict().items())
+    yield from ((what, f'{number:,}', '') for what, number in cover.size._asdict().items())
     yield 'missing', count(cover.missing, 'byte'), count(0, 'byte')
     yield from ((what, f'{number:,}', '') for what, number in counts.numbers().items())
     yield 'raw', named_calls(counts.raw) or NO_VALUE, NO_VALUE
@@ -135,7 +134,7 @@ def not_judged_text(row: NotJudged) -> str:
 
 def words_of_masks(content: ComparedContent) -> Iterator[tuple[str, str]]:
     """What does not count, as HTML."""
-    yield 'masked', (f'{code(mask_text(content.report.mask).replace(",", ", "))}. '
+    yield 'masked', (f'{code(mask_text(content.report.choices.masks[0]).replace(",", ", "))}. '
                      'Xids, file handles and write verifiers are renamed one to one.')
     if content.compared.silent:
         yield 'left out', ('Calls that only ask, which one run alone has, answers that an order '
@@ -176,10 +175,11 @@ class ComparedContent:
     runs: Sequence[Run]
 
     def __post_init__(self) -> None:
+        assert self.compared.beside
         self.covers, self.beside = self.report.covers, self.compared.beside
         self.framings = [run.frames for run in self.runs]
         self.groups = telling.groups_alike(self.compared.findings)
-        self.shown = self.groups[:FINDINGS_ON_PAGE]
+        self.shown = self.groups[:SHOWN_AT_MOST]
         self.others_at_most = min(OTHERS_AT_MOST, OTHERS_OF_ALL // max(1, len(self.shown)))
 
     @cached_property
@@ -239,7 +239,7 @@ class ComparedContent:
     def findings(self) -> Iterator[str]:
         """How many differences there are, and each; those that say the same as one."""
         articles = chain.from_iterable(starmap(self.article, enumerate(self.shown, 1)))
-        more, total = sum(map(len, self.groups[FINDINGS_ON_PAGE:])), len(self.compared.findings)
+        more, total = sum(map(len, self.groups[SHOWN_AT_MOST:])), len(self.compared.findings)
         last = (f'<p id=more>.. and {count(more, "message")} more. <code>--json FILE</code> '
                 'writes all.</p>')
         if not total:
@@ -251,8 +251,8 @@ class ComparedContent:
     def remark(self) -> str:
         """Returns what is to be known of there being no differences."""
         report = self.report
-        if report.verdict == 'same' or report.same_under is not None:
-            return f'Nothing differs but {NOTHING_BUT[report.verdict == "same"]}.'
+        if not report.is_different:
+            return f'Nothing differs but {NOTHING_BUT[not report.place]}.'
         return ('All fields that differ are ignored.' if self.left_out else
                 'No field of matched messages differs. '
                 'Only which messages share a value, or empty connections, can.')
@@ -321,7 +321,7 @@ class ComparedContent:
 
     def accepted_ones(self) -> Iterator[str]:
         """How many findings were accepted, and these folded."""
-        lines = list(telling.of_accepted(self.report.accepted, self.framings, True))
+        lines = list(telling.of_accepted(self.report.found.accepted, self.framings, True))
         shown = [line for line in lines if line.startswith('accepted: ')]
         yield from markup.paragraphs(lines[len(shown):], 'accepted')
         if shown:

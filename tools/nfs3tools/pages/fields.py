@@ -13,7 +13,6 @@ from ..comparison.verdict.differences import LAST_OF_HEAD, Difference
 from ..comparison.verdict.findings import Finding
 from ..exchanges.listing import Message
 from ..exchanges.stored import Value
-from ..exchanges.whose import Labels
 from ..reporting import telling
 from . import markup
 
@@ -152,11 +151,9 @@ def field_lines(first: Message | None,
 def labelled_values(message: Message) -> Iterator[tuple[bool, str, str]]:
     """Returns of a message's items whether they are of the head of RPC, their labels, and their
     values as they are printed, with their names if they have some."""
-    labels, last = Labels(message), LAST_OF_HEAD if message.is_call else LAST_OF_REPLY
-    end = next((at for at, item in enumerate(message.items) if item.name == last), -1)
-    for at, item in enumerate(message.items):
-        value = telling.value_with_meaning(item.name, item.value, labels.meaning(at))
-        yield at <= end, labels.label(at), value
+    own = len(message.after(LAST_OF_HEAD if message.is_call else LAST_OF_REPLY))
+    for at, item in enumerate(message.items, own - len(message.items)):
+        yield at < 0, item.label, telling.value_with_meaning(item.name, item.value, item.meaning)
 
 
 def parting_of(first: Value, second: Value) -> str:

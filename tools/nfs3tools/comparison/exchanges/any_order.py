@@ -1,21 +1,33 @@
 """What an order explains of two runs: the answers that may differ, and the calls of one run alone
-that may be left out."""
+that may be left out.
+
+A client's caches decide how often it asks. So such a call is no difference if it has one answer
+that the history of its run allows (`explained`), if what it asks about is known in the other run,
+if that has no such call alone, too, and if they are few.
+"""
 from __future__ import annotations
 
-from collections.abc import Callable, Sequence
+from collections import Counter
+from collections.abc import Callable, Container, Iterable, Sequence
 from dataclasses import dataclass, field
 from functools import cached_property
+from typing import Any
 
-from ...exchanges.procedures import LISTINGS
+from ...exchanges.history import results_in
+from ...exchanges.in_words import short
+from ...exchanges.procedures import ACCESS, DONE, LISTINGS, LOOKUP, NO_ENTRY, STEADY
+from ...exchanges.timelines import SaidValues
 from ...recordings.taken import Taken
 from ..values.classes import Mask
-from .changes import Change, Turns, is_quiet
 from .explained import OrderRule, Unexplained
-from .extras import Extras, ReasonsOfCalls, refused
-from .facts import Facts
-from .followed import Followed, partners_of, with_values
+from .facts import Change, Facts, Turns, is_quiet
+from .followed import partners_of
 from .matching import Pair
 from .pairing import Listing, Pairing
+
+FEW, SHARE = 10, 10  # so many calls of a procedure, or one of so many
+Question = tuple[str, int, tuple[str, ...]]  # the procedure, the object, and the name
+ReasonsOfCalls = tuple[dict[int, str], dict[int, str]]  # calls of both runs, each with a reason
 
 
 @dataclass
@@ -101,12 +113,6 @@ class TwoRuns:
                                     for run, some in enumerate(self.extras)))
         return out
 
-    def followed(self, classes: frozenset[str]) -> Taken:
-        """Returns the second run with the first run's values of these classes."""
-        listings = self.listings()
-        values = Followed(self.pairing, listings, classes).values
-        return with_values(self.taken[1], values, listings[1]())
-
 
 def identify(pairing: Pairing) -> None:
     """Gives objects without a path one identity in both runs, if they are most often in exchanges
@@ -116,3 +122,87 @@ def identify(pairing: Pairing) -> None:
         if not pairing.there.identities[other] and not pairing.here.identities[handle]:
             identity = hash(('without a path', handle))
             pairing.here.identities[handle] = pairing.there.identities[other] = identity
+
+
+# --- Calls of one run alone ---
+
+class Extras:
+    """The calls of a run that the other run does not have, and only ask."""
+
+    def __init__(self, rule: OrderRule, run: int, some: Iterable[int],
+                 paired: Container[int]) -> None:
+        """`paired` are the exchanges that the other run has, too."""
+        self.rule, self.run, self.some, self.facts = rule, run, sorted(some), rule.facts[run]
+        self.outlines, self.history = self.facts.outlines, self.facts.history
+        self.objects = set(self.outlines.identities) - {0}
+        own = set(self.some)
+        # Handles of calls that the other run has, too: it knows what they are.
+        self.shared = {handle for at in range(len(self.outlines)) if at in paired
+                       for handle in (*self.outlines.objects_of(at), self.outlines.found[at])}
+        self.names = {(self.outlines.object_of(at), name) for at, names in self.facts.names.items()
+                      if at not in own for name in names}
+
+    def asked(self, at: int) -> Question:
+        """Returns what a call asks, whoever asks."""
+        return (self.outlines.procedure_of(at), self.outlines.object_of(at),
+                self.facts.names.get(at, ()))
+
+    def more_than(self, other: 'Extras') -> dict[str, str]:
+        """Returns the procedures of which this run has too many more calls, each in words."""
+        own, its = (Counter(map(one.outlines.procedure_of, one.some)) for one in (self, other))
+        totals = Counter(map(self.outlines.procedure_of, range(len(self.outlines))))
+        return {procedure: f'{short(procedure)}: {more:,} more than {most:,}'
+                for procedure, number in own.items()
+                if (more := number - its[procedure]) > (
+                    most := max(FEW, totals[procedure] // SHARE))}
+
+    def wrong(self, at: int, other: 'Extras') -> str:
+        """Returns why a call is no matter of caches, or nothing."""
+        replies = self.facts.messages[at]
+        if len(replies) != 1:
+            return 'it has no reply' if not replies else 'it has several replies'
+        one = replies[0][1]
+        if one.status is None:
+            return 'it is not accepted'
+        if one.status != DONE and (one.status, one.procedure) != (NO_ENTRY, LOOKUP):
+            return 'it has failed'
+        folder = self.outlines.object_of(at)
+        if self.outlines.folders[at] not in self.shared and folder not in other.objects:
+            return 'the other run does not know the object'
+        names = [(folder, name) for name in self.facts.names.get(at, ())]
+        if not other.names.issuperset(names):
+            return 'the other run does not know the name'
+        return self.rule.wrong_answer(self.run, at) or self.wrong_results(at, other)
+
+    def wrong_results(self, at: int, other: 'Extras') -> str:
+        """Returns why its results are not those of the same question, or nothing. Of ACCESS each
+        bit has to be that of another answer."""
+        one = self.facts.messages[at][0][1]
+        key = one.procedure, self.facts.known_as(one.handle)
+        own, others = (run.history.results.get(key, SaidValues()).but(source)
+                       for run, source in ((self, at), (other, -1)))
+        if one.procedure == ACCESS:
+            return '' if grants_as(results_in(one), own | others) else 'it grants something else'
+        is_told = one.procedure not in STEADY or results_in(one) in (own or others)
+        return '' if is_told else 'no other answer has its results'
+
+
+def grants_as(own: Sequence[Any], others: Iterable[Any]) -> bool:
+    """Whether each bit for which an ACCESS asks is as another one has it."""
+    (asked, granted), told = own, list(others)
+    return all(any(mask & bit and bits & bit == granted & bit for mask, bits in told)
+               for place in range(asked.bit_length()) if asked & (bit := 1 << place))
+
+
+def refused(first: Extras, second: Extras) -> ReasonsOfCalls:
+    """Returns the calls of both runs that are differences all the same, each with the reason."""
+    common = set(map(first.asked, first.some)) & set(map(second.asked, second.some))
+    out: ReasonsOfCalls = {}, {}
+    for run, other, found in ((first, second, out[0]), (second, first, out[1])):
+        more = run.more_than(other)
+        for at in run.some:
+            again = 'the other run has such a call alone, too' * (run.asked(at) in common)
+            why = run.wrong(at, other) or more.get(run.outlines.procedure_of(at), again)
+            if why:
+                found[at] = why
+    return out

@@ -2,7 +2,7 @@
 
 A difference between two answers to one question is explained if
 
-- a change of this very value stands otherwise to the question in both runs (`changes`), and
+- a change of this very value stands otherwise to the question in both runs (`facts`), and
 - each of both answers is one that the history of its own run allows at that time (`history`).
 
 What a history does not know must be equal. A call of one run alone is left out if it only asks, and
@@ -10,21 +10,20 @@ if the history of its run allows all of its answer. compare.1 has the same in mo
 """
 from __future__ import annotations
 
-from collections.abc import Iterator, Mapping, Sequence
+from collections.abc import Iterator, Sequence
+from functools import cache
 from itertools import chain
-from typing import Any, NamedTuple, Optional
+from typing import Any
 
 from ...exchanges.history import (
-    ANY_OBJECT, GONE, KEPT_ITEMS, LASTING_ITEMS, TIMES_ITEM, Claim, HistoryKey,
-    listed_in, name_key)
+    ANY_OBJECT, GONE, KEPT_ITEMS, LASTING_ITEMS, TIMES_ITEM, Claim, HistoryKey, Present, listed_in,
+    name_key, witness_but)
 from ...exchanges.objects import DOTS
-from ...exchanges.presence import Present, witness_but
-from ...exchanges.procedures import DONE, LISTINGS, LOOKUP, NO_ENTRY
-from ...exchanges.statements import BEFORE, owners_in, statements_in, statements_of_entry
+from ...exchanges.procedures import (
+    BEFORE, DONE, LISTINGS, LOOKUP, NO_ENTRY, owners_in, statements_in, statements_of_entry)
 from ...exchanges.values import Values
 from ..values.classes import CLASSES, Mask, Way
-from .changes import Change, Otherwise
-from .facts import Facts
+from .facts import Change, ChangesOfKey, Facts
 from .matching import Pair
 from .outlines import is_silly
 from .pairing import NOBODY, Pairing
@@ -43,17 +42,6 @@ EntryKey = object  # the name of an entry, or the object of one whose name is ma
 class Unexplained(Exception):
     """A difference that no order explains. The text says why, if it is not that no change stands
     otherwise."""
-
-
-class Field(NamedTuple):
-    """An item of a reply: its value, and what of a history it is, if it is of one."""
-    item: str
-    value: Any
-    key: Optional[HistoryKey] = None
-    is_before: bool = False
-
-
-FieldsOfReply = Mapping[str, Field]  # by labels
 
 
 def free_items(mask: Mask) -> frozenset[str]:
@@ -84,21 +72,14 @@ class Reply:
         """The folder of a listing or of a name."""
         return self.facts.known_as(self.one.call['fh'])
 
-    def fields(self, values: Values | None = None, own: object = None) -> dict[str, Field]:
-        """Returns the items of the reply, or those of an entry of an object."""
-        return {name: self.field(name, value, own)
-                for name, value in (self.reply if values is None else values).items()
-                if name != 'entries'}
-
-    def field(self, name: str, value: Any, own: object) -> Field:
-        owner, _, item = name.rpartition('.')
+    def claim(self, label: str, value: Any, own: object) -> Claim | None:
+        """Returns what an item of the reply, or of an entry of an object, says of a history."""
+        owner, _, item = label.rpartition('.')
         own = self.owners.get(owner.partition('.')[0], own)
-        if item == 'fh':
-            return Field(item, self.shared(value))
         kept = (TIMES_ITEM if item in TIMES_OF_FILES else
                 item if item in KEPT_ITEMS or item in LASTING_ITEMS else '')
-        return Field(item, value, (own, kept) if kept and own is not None else None,
-                     f'{owner}.'.endswith(BEFORE))
+        return Claim((own, kept), value, f'{owner}.'.endswith(BEFORE)) if (
+            kept and own is not None) else None
 
     def object_in(self, entry: Values) -> object:
         return self.shared(entry['fh']) if 'fh' in entry else None
@@ -115,9 +96,9 @@ class OrderRule:
     def __init__(self, pairing: Pairing, facts: tuple[Facts, Facts], mask: Mask) -> None:
         self.facts, self.mask, self.free = facts, mask, free_items(mask)
         self.histories = [own.history for own in facts]
-        turns = [own.turns for own in facts if own.turns]
-        self.otherwise = Otherwise(pairing, self.histories, turns)
-        self.present = dict[tuple[int, object, int], Present]()
+        self.turns = [own.turns for own in facts if own.turns]
+        self.changes_of = cache(lambda key: ChangesOfKey(pairing, self.histories, key))
+        self.present = cache(Present)
 
     # --- Two answers ---
 
@@ -145,12 +126,17 @@ class OrderRule:
             raise Unexplained
         if first.one.procedure in LISTINGS and first.one.status == DONE:
             return self.of_listing(first, second)
-        return self.of_fields((first, second), (first.fields(), second.fields()))
+        return self.of_values((first, second), (first.reply, second.reply))
+
+    def otherwise(self, pair: Pair, key: HistoryKey) -> Change | None:
+        """Returns a change of a key that stands otherwise to a question, if there is one."""
+        return self.changes_of(key).otherwise(
+            pair, [(own.begins[at], own.ends[at]) for own, at in zip(self.turns, pair)])
 
     def change(self, both: Sequence[Reply], key: HistoryKey | None) -> Change:
         """Returns a change of a key that stands otherwise. There has to be one."""
         first, second = both
-        change = key and self.otherwise.change((first.at, second.at), key)
+        change = key and self.otherwise((first.at, second.at), key)
         if not change:
             raise Unexplained
         return change
@@ -174,23 +160,26 @@ class OrderRule:
                 initial) else None
         return is_allowed
 
-    def of_fields(self, both: Sequence[Reply], fields: Sequence[FieldsOfReply]) -> Iterator[Change]:
+    def of_values(self, both: Sequence[Reply], values: Sequence[Values],
+                  own: object = None) -> Iterator[Change]:
         """Iterates over changes that explain how items of one layout differ."""
-        first, second = fields
+        first, second = values
         if first.keys() != second.keys():
             raise Unexplained
-        for label, field in first.items():
-            if field.value != second[label].value and field.item not in self.free:
-                yield self.of_field(both, label, (field, second[label]))
+        for label in (label for label in first if label != 'entries'):
+            one, other = (reply.shared(its[label]) if label == 'fh' else its[label]
+                          for reply, its in zip(both, values))
+            if one != other and label.rpartition('.')[2] not in self.free:
+                yield self.of_claims(both, label, [reply.claim(label, its[label], own)
+                                                   for reply, its in zip(both, values)])
 
-    def of_field(self, both: Sequence[Reply], label: str, fields: Sequence[Field]) -> Change:
-        first, second = fields
-        if first.key != second.key:
-            raise Unexplained
-        change = self.change(both, first.key)
-        for reply, field in zip(both, fields):
-            if field.key and field.key[1] != TIMES_ITEM:
-                self.check(reply, Claim(field.key, field.value, field.is_before), label)
+    def of_claims(self, both: Sequence[Reply], label: str,
+                  claims: Sequence[Claim | None]) -> Change:
+        keys = {claim and claim.key for claim in claims}
+        change = self.change(both, keys.pop() if len(keys) == 1 else None)
+        for reply, claim in zip(both, claims):
+            if claim and claim.key[1] != TIMES_ITEM:
+                self.check(reply, claim, label)
         return change
 
     def of_lookup(self, first: Reply, second: Reply) -> Iterator[Change]:
@@ -204,8 +193,8 @@ class OrderRule:
             for claim in reply.history.claims_of(reply.one):
                 if claim.key[0] == found_in(reply):
                     self.check(reply, claim, f'obj.{claim.key[1]}')
-        yield from self.of_fields(both, [
-            {label: field for label, field in reply.fields().items() if label.startswith('dir.')}
+        yield from self.of_values(both, [
+            {label: value for label, value in reply.reply.items() if label.startswith('dir.')}
             for reply in both])
 
     # --- Folders ---
@@ -213,7 +202,7 @@ class OrderRule:
     def of_listing(self, first: Reply, second: Reply) -> Iterator[Change]:
         """Entries may differ whose names were changed otherwise. All others are in one order."""
         both = first, second
-        yield from self.of_fields(both, (first.fields(), second.fields()))
+        yield from self.of_values(both, (first.reply, second.reply))
         entries = [reply.entries(self.mask) for reply in both]
         for reply, own, others in zip(both, entries, reversed(entries)):
             for key in (key for key in own if key not in others):
@@ -241,12 +230,11 @@ class OrderRule:
     def of_entry(self, both: Sequence[Reply], key: EntryKey,
                  entries: Sequence[Values]) -> Iterator[Change]:
         objects = [reply.object_in(entry) for reply, entry in zip(both, entries)]
-        fields = [{label: field for label, field in reply.fields(entry, objects[0]).items()
-                   if isinstance(key, str) or label != 'name'}
-                  for reply, entry in zip(both, entries)]
+        values = [{label: value for label, value in entry.items()
+                   if isinstance(key, str) or label != 'name'} for entry in entries]
         # (a name that was made meanwhile may have no attributes yet)
-        if objects[0] == objects[1] and fields[0].keys() == fields[1].keys():
-            yield from self.of_fields(both, fields)
+        if objects[0] == objects[1] and values[0].keys() == values[1].keys():
+            yield from self.of_values(both, values, objects[0])
             return
         for reply, entry in zip(both, entries):
             self.check_entry(reply, entry)
@@ -278,10 +266,9 @@ class OrderRule:
                     return 'it has a name that no other answer has'
         if not names or not listed.is_first:
             return ''
-        own = reply.run, reply.folder, witness_but(reply.history, reply.folder, reply.at)
-        if own not in self.present:
-            self.present[own] = Present(reply.history, *own[1:])
-        return 'it lacks a name' if self.present[own].lacking(listed) else ''
+        present = self.present(reply.history, reply.folder,
+                               witness_but(reply.history, reply.folder, reply.at))
+        return 'it lacks a name' if present.lacking(listed) else ''
 
     # --- Two answers that are equal ---
 
@@ -293,7 +280,7 @@ class OrderRule:
             lines = [history.timeline(key) for history in self.histories]
             for pair in ((one.source, pairing.partners[one.source]) for one in lines[0].sights.begun
                          if not lines[0].changes.of_source.get(one.source)):
-                is_asked = pair[1] != NOBODY and self.otherwise.change(pair, key)
+                is_asked = pair[1] != NOBODY and self.otherwise(pair, key)
                 wrong = [run for run, (line, at) in enumerate(zip(lines, pair)) if is_asked
                          for one in line.sights.of_source.get(at, ())
                          if self.allows(run, at, Claim(key, one.value)) is False]

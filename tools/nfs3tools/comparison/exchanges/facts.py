@@ -1,25 +1,200 @@
-"""What any order asks of a run: its history, the ids of its objects, and some of its exchanges.
+"""What any order asks of two runs: when calls were sent and answered, which changes stand otherwise
+to a question, and of each run its history, the ids of its objects, and some of its exchanges.
 
-It is read once, from the listing of the canonical form of a run that is not masked.
+A change stands otherwise to a question if it was answered before the question was sent in one run
+and not in the other, or if it overlaps the question in either. Which came first is known by frames;
+whose a change is does not matter. Most often none does: that is known without reading what the
+runs say. What they say is read once, from the listing of the canonical form that is not masked.
 """
 from __future__ import annotations
 
-from collections.abc import Container, Hashable, Iterable
-from functools import cache
+import operator
+from array import array
+from bisect import bisect_left
+from collections import Counter, defaultdict
+from collections.abc import Callable, Container, Hashable, Iterable, Sequence
+from functools import cache, cached_property, partial
+from itertools import accumulate
+from typing import NamedTuple, Optional
 
 from ...exchanges.answering import REPLY_STATUS
-from ...exchanges.history import CarriedOut, History
+from ...exchanges.history import STILL, CarriedOut, History, HistoryKey
 from ...exchanges.listing import Line
-from ...exchanges.procedures import ACCESS, CHANGING, LISTINGS, LOOKUP, is_of_files
-from ...exchanges.statements import names_in_call, statements_in
+from ...exchanges.procedures import (
+    ACCESS, CHANGING, LISTINGS, LOOKUP, Statement, handle_items, is_of_files, names_in_call,
+    statements_in)
 from ...exchanges.stored import LongValues
+from ...exchanges.timelines import Spans
 from ...exchanges.values import Values, read_call, read_reply
+from ...recordings.taken import Taken
 from ...shared.layouts import RAW
-from .changes import Turns
-from .ids import IdsOfRun, handles_asked
+from .matching import Pair
 from .outlines import Outlines
+from .pairing import Pairing
 
+# The changes that were answered before a call was sent: how many, and a hash of them that is the
+# same in both runs
+ChangesBefore = tuple[int, int]
+KnownObject = tuple[int, str]  # an object by its handle, or by its folder's and its name
+Id = tuple[str, str]  # of the file system, empty if it is not known, and of the file
 READ_CALLS = CHANGING | LISTINGS | {LOOKUP, ACCESS}  # of which more than handles are asked
+
+
+class Turns:
+    """When the calls of a run, 0 or 1, were sent and answered, and its changes.
+
+    begins, ends: by exchanges, the frame with which the call begins, and that of its first reply
+    done: the frame of the last reply, or STILL if it was sent more often than answered: it may be
+        carried out again
+    """
+
+    def __init__(self, taken: Taken, pairing: Pairing, run: int) -> None:
+        self.outlines, self.named = pairing.runs[run], partial(pairing.name_of, run)
+        self.begins, self.ends = array('Q'), array('Q')
+        connections = {one.number: one for one in taken.connections}
+        replies = list['array[int]']()
+        for place, number in enumerate(self.outlines.connections):
+            own = self.outlines.exchanges_of(place)
+            calls = array('Q', connections[number].client.first_frames())
+            self.begins.extend(calls[record - 1]
+                               for record in self.outlines.records[own.start:own.stop])
+            replies.append(array('Q', connections[number].server.first_frames()))
+            self.ends.extend(replies[place][record - 1] if record else STILL
+                             for record in self.outlines.replies[own.start:own.stop])
+        self.done = self.ends[:]
+        for at in self.outlines.again:
+            again, repeated = self.outlines.sent_again(at)
+            answered = [*self.outlines.replies_of(at), *repeated]
+            frames = replies[self.outlines.connection_of(at)]
+            self.done[at] = STILL if len(answered) <= len(again) else max(
+                frames[record - 1] for record in answered)
+
+    def is_change(self, at: int) -> bool:
+        return self.outlines.procedure_of(at) in CHANGING and at not in self.outlines.unmade
+
+    @cached_property
+    def changes(self) -> 'array[int]':
+        """The changes in the order in which they ended."""
+        some = filter(self.is_change, range(len(self.outlines)))
+        return array('I', sorted(some, key=self.done.__getitem__))
+
+    @cached_property
+    def sent(self) -> 'array[int]':
+        """When the changes were sent, sorted."""
+        return array('Q', sorted(map(self.begins.__getitem__, self.changes)))
+
+    @cached_property
+    def ended(self) -> 'array[int]':
+        """When the changes ended, sorted."""
+        return array('Q', map(self.done.__getitem__, self.changes))
+
+    @cached_property
+    def digests(self) -> 'array[int]':
+        """Hashes of the first changes that ended: of none, of one, of two, .."""
+        hashes = (hash((self.named(at),)) for at in self.changes)
+        return array('q', accumulate(hashes, operator.xor, initial=0))
+
+    def before(self, at: int) -> Optional[ChangesBefore]:
+        """Returns the changes before a call, or None if some overlap it."""
+        begin, end = self.begins[at], self.ends[at]
+        number = bisect_left(self.ended, begin)
+        others = bisect_left(self.sent, end) - (self.is_change(at) and begin < end)
+        return (number, self.digests[number]) if number == others else None
+
+
+def is_quiet(turns: tuple[Turns, Turns], pair: Pair) -> bool:
+    """Whether no change stands otherwise to a question."""
+    first, second = (own.before(at) for own, at in zip(turns, pair))
+    return first is not None and first == second
+
+
+class Change(NamedTuple):
+    """A change in one of the runs, 0 or 1: its exchange."""
+    run: int
+    at: int
+
+
+class ChangesOfKey:
+    """The changes of one key in both runs.
+
+    farthest: by runs, of the first changes that ended, the one that ended last in the other run,
+        with its turn there
+    """
+
+    def __init__(self, pairing: Pairing, histories: Sequence[History], key: HistoryKey) -> None:
+        self.runs = [Spans(history.changes.get(key, ())) for history in histories]
+        turns = [{change.source: turn for turn, change in enumerate(spans.ended)}
+                 for spans in self.runs]
+        self.farthest = list[list[tuple[int, int]]]()
+        for spans, partners, other in zip(self.runs, (pairing.partners, pairing.owners),
+                                          reversed(turns)):
+            far = ((other.get(partners[change.source], STILL), change.source)
+                   for change in spans.ended)
+            self.farthest.append(list(accumulate(far, max)))
+
+    def otherwise(self, pair: Pair, frames: Sequence[tuple[int, int]]) -> Optional[Change]:
+        """Returns a change that stands otherwise to a question, if there is one."""
+        before = [bisect_left(spans.ends, begin) for spans, (begin, _) in zip(self.runs, frames)]
+        for run, far in enumerate(self.farthest):
+            if before[run] and far[before[run] - 1][0] >= before[1 - run]:
+                return Change(run, far[before[run] - 1][1])
+        for run, (spans, span) in enumerate(zip(self.runs, frames)):
+            over = next((one for one in spans.between(*span) if one.source != pair[run]), None)
+            if over:
+                return Change(run, over.source)
+        return None
+
+
+# --- What a run says ---
+
+def handles_asked(outlines: Outlines, at: int) -> Values:
+    """Returns the handles of a call as its values."""
+    return {item: f'{handle:x}' for item, handle in zip(
+        handle_items(outlines.procedure_of(at)), outlines.objects_of(at))}
+
+
+def known_object(statement: Statement) -> KnownObject:
+    return int(statement.handle or '0', 16), statement.name
+
+
+def id_in(statement: Statement) -> Id:
+    return (str(statement.value('fsid')) if statement.has('fsid') else '',
+            str(statement.value('fileid')))
+
+
+class IdsOfRun:
+    """What answers say of ids."""
+
+    def __init__(self, outlines: Outlines) -> None:
+        self.outlines = outlines
+        self.votes = defaultdict[KnownObject, Counter[Id]](Counter)
+        self.tellers = defaultdict[tuple[KnownObject, Id], list[int]](list)
+
+    def statements(self, at: int, line: Line) -> list[Statement]:
+        """Returns what a reply says of objects that have ids."""
+        _, reply = read_reply(line.procedure, line.text)
+        return list(statements_in(line.procedure, handles_asked(self.outlines, at), reply))
+
+    def take(self, at: int, statements: Iterable[Statement]) -> None:
+        for statement in statements:
+            if statement.has('fileid') and statement.handle:
+                own, its = known_object(statement), id_in(statement)
+                self.votes[own][its] += 1
+                self.tellers[own, its].append(at)
+
+    @cached_property
+    def of_objects(self) -> dict[KnownObject, Id]:
+        """The id of each object: that which most of its answers say, of those with a file system
+        if there are some."""
+        return {own: max(some, key=lambda one: (some[one] * bool(one[0]), some[one]))
+                for own, some in self.votes.items()}
+
+    @cached_property
+    def odd(self) -> set[int]:
+        """The exchanges that say another id of an object than its run does elsewhere."""
+        return {at for (own, one), ats in self.tellers.items()
+                if one[1] != self.of_objects[own][1] or one[0] and one[0] != self.of_objects[own][0]
+                for at in ats}
 
 
 class Facts:
@@ -34,7 +209,9 @@ class Facts:
         """`wanted` are the exchanges that are kept. If `objects` are given, answers about other
         handles are not read."""
         self.outlines, self.turns, self.wanted, self.objects = outlines, turns, wanted, objects
-        self.known_as = cache(self.name_of_object)
+        # (what an object is called in both runs, or else in its own)
+        self.known_as: Callable[[str], Hashable] = cache(
+            lambda handle: self.identity(handle) or ~int(handle or '0', 16))
         self.history, self.ids = History(self.known_as, turns is not None), IdsOfRun(outlines)
         self.values, self.calls = LongValues(), dict[int, Values]()
         self.messages = dict[int, list[tuple[str, CarriedOut]]]()
@@ -52,10 +229,6 @@ class Facts:
         in entries of folders alone."""
         number, identities = int(handle or '0', 16), self.outlines.identities
         return identities[number] if number < len(identities) else 0
-
-    def name_of_object(self, handle: str) -> Hashable:
-        """Returns what an object is called in both runs, or else in its own."""
-        return self.identity(handle) or ~int(handle or '0', 16)
 
     def take_call(self, at: int, line: Line) -> None:
         if at in self.wanted:

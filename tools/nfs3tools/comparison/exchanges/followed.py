@@ -9,9 +9,9 @@ other id stays, and differs.
 from __future__ import annotations
 
 from collections import Counter, defaultdict
-from collections.abc import Iterable, Iterator, Mapping
+from collections.abc import Iterable, Iterator
 
-from ...exchanges.listing import Line, LinePlace, line_of
+from ...exchanges.listing import Line, LinePlace
 from ...exchanges.procedures import CREATE, LISTINGS, is_of_files
 from ...exchanges.values import Values, read_call, read_reply
 from ...recordings.records import LAST_FRAGMENT
@@ -19,12 +19,14 @@ from ...recordings.spool import Stored
 from ...recordings.taken import Taken, TakenConnection, TakenStream, whole
 from ...shared.layouts import BY_NAME, BodyReader
 from ...shared.places import SIDES, Side
-from .ids import IdsOfRun, id_in, known_object
+from .facts import IdsOfRun, id_in, known_object
 from .outlines import Outlines
 from .pairing import Listing, Pairing
 
 # The values that items of a message get, by their names and by how many of a name are before.
 Replacements = dict[tuple[str, int], str]
+# Messages that get some, each with its procedure.
+ReplacedValues = dict[LinePlace, tuple[str, Replacements]]
 
 
 def partners_of(pairing: Pairing) -> dict[int, int]:
@@ -39,14 +41,28 @@ def partners_of(pairing: Pairing) -> dict[int, int]:
     return {other: some.most_common(1)[0][0] for other, some in votes.items()}
 
 
-def call_in(line: Line) -> Values:
-    return read_call(line.procedure, line.text)
+class SaidValuesOfRun:
+    """What a run says: the ids of its objects, the cookies of entries by folders and names, and the
+    verifiers of exclusive creates by exchanges."""
+
+    def __init__(self, outlines: Outlines, lines: Iterable[str]) -> None:
+        self.ids, self.cookies = IdsOfRun(outlines), dict[tuple[int, str], int]()
+        self.verifiers = dict[int, str]()
+        for at, line in outlines.located(lines):
+            if line.is_call and line.procedure == CREATE:
+                verifier = read_call(CREATE, line.text).get('createverf')
+                self.verifiers.update({at: verifier} if verifier is not None else {})
+            elif not line.is_call and is_of_files(line.procedure):
+                self.ids.take(at, self.ids.statements(at, line))
+                self.cookies.update(((outlines.folders[at], entry['name']), entry['cookie'])
+                                    for entry in entries_listed(line))
 
 
 def entries_listed(line: Line) -> list[Values]:
     """Returns the entries of a listing, none of one that failed."""
-    _, reply = read_reply(line.procedure, line.text)
-    return list(reply.get('entries', ()))
+    if line.procedure not in LISTINGS:
+        return []
+    return list(read_reply(line.procedure, line.text)[1].get('entries', ()))
 
 
 class Followed:
@@ -55,64 +71,51 @@ class Followed:
     def __init__(self, pairing: Pairing, listings: tuple[Listing, Listing],
                  classes: frozenset[str]) -> None:
         """The listings are those of the canonical forms without a mask."""
-        self.pairing, self.partners = pairing, partners_of(pairing)
-        self.verifiers = self.verifiers_of(listings) if 'createverfs' in classes else {}
-        self.cookies = self.cookies_of(listings) if 'cookies' in classes else {}
-        has_ids = not classes.isdisjoint(('ids', 'fsids'))
-        self.ids = [IdsOfRun(own).take_all(listing()) if has_ids else IdsOfRun(own)
-                    for own, listing in zip(pairing.runs, listings)]
-        self.values = dict[LinePlace, Replacements]()
-        for at, line in pairing.there.each(listings[1]()):
-            changed = self.of_call(at, line) if line.is_call else dict(self.of_reply(at, line))
+        self.there, self.partners = pairing.there, partners_of(pairing)
+        first, second = self.said = [SaidValuesOfRun(own, listing())
+                                     for own, listing in zip(pairing.runs, listings)]
+        self.has_ids = not classes.isdisjoint(('ids', 'fsids'))
+        # The verifiers of the first run, by what is created and the second run's
+        self.verifiers = dict[tuple[int, str], str]()
+        for at, to in pairing.pairs() if 'createverfs' in classes else ():
+            if at in first.verifiers and to in second.verifiers:
+                self.verifiers.setdefault((self.there.asked[to], second.verifiers[to]),
+                                          first.verifiers[at])
+        # The cookies of the first run, by the second run's folders and cookies
+        self.cookies = {(folder, cookie): first.cookies[self.partners.get(folder, 0), name]
+                        for (folder, name), cookie in second.cookies.items()
+                        if 'cookies' in classes
+                        and (self.partners.get(folder, 0), name) in first.cookies}
+        self.values: ReplacedValues = {}
+        for at, line in self.there.each(listings[1]()):
+            changed = dict(self.of_message(at, line))
             if changed:
-                self.values[LinePlace(line.connection, line.is_call, line.record)] = changed
+                place = LinePlace(line.connection, line.is_call, line.record)
+                self.values[place] = line.procedure, changed
 
-    def verifiers_of(self, listings: tuple[Listing, Listing]) -> dict[tuple[int, str], str]:
-        """Returns verifiers of exclusive creates, by what is created and the second run's."""
-        def of_run(outlines: Outlines, listing: Listing) -> dict[int, str]:
-            return {at: call['createverf'] for at, line in outlines.located(listing())
-                    if line.is_call and line.procedure == CREATE
-                    and 'createverf' in (call := call_in(line))}
-        firsts, seconds = map(of_run, self.pairing.runs, listings)
-        out = dict[tuple[int, str], str]()
-        for at, to in self.pairing.pairs():
-            if at in firsts and to in seconds:
-                out.setdefault((self.pairing.there.asked[to], seconds[to]), firsts[at])
-        return out
-
-    def cookies_of(self, listings: tuple[Listing, Listing]) -> dict[tuple[int, int], int]:
-        """Returns the cookies of the first run, by the second run's folders and cookies."""
-        def of_run(outlines: Outlines, listing: Listing) -> dict[tuple[int, str], int]:
-            return {(outlines.folders[at], entry['name']): entry['cookie']
-                    for at, line in outlines.located(listing())
-                    if not line.is_call and line.procedure in LISTINGS
-                    for entry in entries_listed(line)}
-        first, second = map(of_run, self.pairing.runs, listings)
-        return {(folder, cookie): first[self.partners.get(folder, 0), name]
-                for (folder, name), cookie in second.items()
-                if (self.partners.get(folder, 0), name) in first}
-
-    def of_call(self, at: int, line: Line) -> Replacements:
+    def of_message(self, at: int, line: Line) -> Iterator[tuple[tuple[str, int], str]]:
+        """Iterates over the items of a message that get other values."""
         if line.procedure in LISTINGS and self.cookies:
-            return dict(self.of_cookies(at, [call_in(line)]))
-        own = call_in(line).get('createverf') if line.procedure == CREATE else None
-        new = self.verifiers.get((self.pairing.there.asked[at], own)) if own else None
-        return {('createverf', 0): new} if new and new != own else {}
+            yield from self.of_cookies(at, [read_call(line.procedure, line.text)] if line.is_call
+                                       else entries_listed(line))
+        if line.is_call and line.procedure == CREATE and self.verifiers:
+            own = read_call(CREATE, line.text).get('createverf', '')
+            new = self.verifiers.get((self.there.asked[at], own), own)
+            yield from [(('createverf', 0), new)] if new != own else ()
+        elif not line.is_call and self.has_ids and is_of_files(line.procedure):
+            yield from self.of_ids(at, line)
 
     def of_cookies(self, at: int, some: Iterable[Values]) -> Iterator[tuple[tuple[str, int], str]]:
-        folder = self.pairing.there.folders[at]
+        folder = self.there.folders[at]
         for turn, values in enumerate(some):
             new = self.cookies.get((folder, values['cookie']), values['cookie'])
             if new != values['cookie']:
                 yield ('cookie', turn), str(new)
 
-    def of_reply(self, at: int, line: Line) -> Iterator[tuple[tuple[str, int], str]]:
-        """Iterates over the items of a reply that get other values."""
-        if line.procedure in LISTINGS and self.cookies:
-            yield from self.of_cookies(at, entries_listed(line))
-        (ids, own_ids), turns = (own.of_objects for own in self.ids), Counter[str]()
-        has_ids = own_ids and is_of_files(line.procedure)
-        for statement in self.ids[1].statements(at, line) if has_ids else ():
+    def of_ids(self, at: int, line: Line) -> Iterator[tuple[tuple[str, int], str]]:
+        first, second = self.said
+        ids, own_ids, turns = first.ids.of_objects, second.ids.of_objects, Counter[str]()
+        for statement in second.ids.statements(at, line):
             if not statement.has('fileid'):
                 continue
             handle, name = own = known_object(statement)
@@ -136,11 +139,8 @@ def swapped(said: str, own: str, other: str) -> str:
 
 # --- The second run, written anew ---
 
-def with_values(taken: Taken, values: Mapping[LinePlace, Replacements],
-                lines: Iterable[str]) -> Taken:
+def with_values(taken: Taken, values: ReplacedValues) -> Taken:
     """Returns a run with other values in some messages, each record as one fragment."""
-    procedures = {place: line.procedure for line in map(line_of, lines)
-                  if (place := LinePlace(line.connection, line.is_call, line.record)) in values}
     out = Taken(taken.spool, taken.is_recording, False, taken.ports)
 
     def written(connection: TakenConnection, side: Side) -> TakenStream:
@@ -148,7 +148,7 @@ def with_values(taken: Taken, values: Mapping[LinePlace, Replacements],
         for number, body in connection.stream(side).records():
             place = LinePlace(connection.number, side == 'client', number)
             if place in values:
-                body = with_some(body, place.is_call, procedures[place], values[place])
+                body = with_some(body, place.is_call, *values[place])
             stored.append((LAST_FRAGMENT | len(body)).to_bytes(4, 'big') + body)
         return TakenStream(stored, None, whole(stored))
     for one in taken.connections:

@@ -106,14 +106,6 @@ def common(first: 'array[int]', second: 'array[int]', at: int, to: int) -> int:
     return size
 
 
-def common_end(first: 'array[int]', second: 'array[int]', at: int, to: int) -> int:
-    """Returns how many elements are equal at the ends, back to these places."""
-    size, done = min(len(first) - at, len(second) - to), 0
-    while done < size and first[-1 - done] == second[-1 - done]:
-        done += 1
-    return done
-
-
 def meeting(first: 'array[int]', second: 'array[int]', at: int, to: int) -> Pair:
     """Returns where two sequences meet again after these places: near, or at their equal ends."""
     for distance in range(1, NEAR):
@@ -123,8 +115,10 @@ def meeting(first: 'array[int]', second: 'array[int]', at: int, to: int) -> Pair
             if part == other and (len(part) == ENOUGH or end + len(part) == len(first)
                                   and other_end + len(other) == len(second)):
                 return end, other_end
-    size = common_end(first, second, at, to)
-    return len(first) - size, len(second) - size
+    end, other_end = len(first), len(second)
+    while end > at and other_end > to and first[end - 1] == second[other_end - 1]:
+        end, other_end = end - 1, other_end - 1
+    return end, other_end
 
 
 def blocks_of(first: 'array[int]', second: 'array[int]') -> list[Block]:

@@ -10,19 +10,17 @@ import re
 from array import array
 from bisect import bisect_left, bisect_right
 from collections import defaultdict
-from collections.abc import Callable, Iterable, Iterator
-from functools import cache, cached_property
+from collections.abc import Callable, Container, Iterable, Iterator
+from functools import cached_property
 from itertools import groupby
 from operator import attrgetter
 
 from ...exchanges.answering import Answering, error_in
-from ...exchanges.listing import CALLED_NUMBERS, Line, LinePlace, Message, line_of, place_of
+from ...exchanges.listing import CALLED_NUMBERS, Line, line_of, place_of
 from ...exchanges.objects import NAMING, handles_given
-from ...exchanges.procedures import CHANGING, LOOKUP
-from ...exchanges.statements import handle_items
+from ...exchanges.procedures import CHANGING, LOOKUP, handle_items
 from ...exchanges.values import read_call
-from ..values.bindings import RENAMED
-from ..values.classes import CLASSES, Mask, Way
+from ..values.classes import CLASSES, RENAMED, Mask, Way
 
 SILLY = next(one for one in CLASSES if one.name == 'sillynames')
 # Of alike calls the same, if they have them
@@ -121,6 +119,8 @@ class Outlines:
     def __init__(self, lines: Iterable[str], mask: Mask, when: When | None = None) -> None:
         # Their numbers, and the first exchange of each
         self.connections, self.starts = list[int](), list[int]()
+        # By their numbers, the exchange of each reply, and of each call, in the order of records
+        self.owners = dict[int, tuple['array[int]', 'array[int]']]()
         # What a call asks, and what it and its replies say
         self.asked, self.said = array('q'), array('q')
         # The first handle of a call and of its reply, or 0
@@ -149,23 +149,24 @@ class Outlines:
         return len(self.asked)
 
     def take_connection(self, lines: Iterable[Line], pattern: re.Pattern[str]) -> None:
-        rule, owners, named = Answering(), array('I'), dict[int, int]()
+        rule, named = Answering(len(self)), dict[int, int]()
+        answered, _ = self.owners[self.connections[-1]] = array('I'), rule.owners
         said_before = dict[int, set[int]]()  # hashes of replies to calls that were sent again
         for line in lines:
             said = hash(pattern.sub('', line.text))
             if line.is_call:
-                earlier = rule.call(line.xid, line.text)
-                owners.append(len(self) if earlier is None else owners[earlier])
-                if earlier is not None:
-                    self.again.setdefault(owners[-1], []).append(line.record)
+                at, is_first = rule.call(line.xid, line.text)
+                if not is_first:
+                    self.again.setdefault(at, []).append(line.record)
                     continue
                 call = read_call(line.procedure, line.text)
                 if line.procedure in NAMING:
-                    named[len(self)] = hash(call.get('name', call.get('dirpath')))
+                    named[at] = hash(call.get('name', call.get('dirpath')))
                 self.add_call(line, [int(call[item], 16) for item in handle_items(line.procedure)
                                      if call.get(item)], said)
                 continue
-            at = owners[rule.reply(line.xid)]
+            at = rule.reply(line.xid)
+            answered.append(at)
             if at in self.again:
                 own = hash(line.text)
                 if own in said_before.setdefault(at, set()):
@@ -174,8 +175,11 @@ class Outlines:
                 said_before[at].add(own)
             self.add_reply(at, line.record, said)
             if line.procedure in CHANGING:
-                self.take_status(at, not error_in(line.procedure, line.text),
-                                 line.record == self.replies[at])
+                # (one of its replies says whether it has changed something)
+                if not error_in(line.procedure, line.text):
+                    self.unmade.discard(at)
+                elif line.record == self.replies[at]:
+                    self.unmade.add(at)
             self.learn(at, line.procedure, line.text, named.get(at, 0))
 
     def add_call(self, line: Line, handles: list[int], said: int) -> None:
@@ -195,13 +199,6 @@ class Outlines:
             self.further.setdefault(at, []).append(record)
         else:
             self.replies[at] = record
-
-    def take_status(self, at: int, is_ok: bool, is_first: bool) -> None:
-        """Notes whether a call has changed something: one of its replies says so."""
-        if is_ok:
-            self.unmade.discard(at)
-        elif is_first:
-            self.unmade.add(at)
 
     def learn(self, at: int, procedure: str, rest: str, name: int) -> None:
         """Learns from a reply which objects its call has reached."""
@@ -264,55 +261,26 @@ class Outlines:
     def replies_of(self, at: int) -> list[int]:
         return [self.replies[at], *self.further.get(at, ())] if self.replies[at] else []
 
-    def all_records_of(self, at: int, is_call: bool) -> list[int]:
-        """Returns the records of a call, or of its replies, each time that it was sent."""
-        if is_call:
-            return [self.records[at], *self.again.get(at, ())]
-        return [*self.replies_of(at), *self.repeated.get(at, ())]
-
-    def last_record(self, place: int, is_call: bool) -> int:
-        """Returns the largest record of a call of a connection, or of a reply, or 0."""
-        return max((max(self.all_records_of(at, is_call), default=0)
-                    for at in self.exchanges_of(place)), default=0)
-
-    def by_record(self, place: int, is_call: bool) -> 'array[int]':
-        """Returns the exchange of each call of a connection, or of each reply, by its record."""
-        out = array('I', [0]) * (1 + self.last_record(place, is_call))
-        for at in self.exchanges_of(place):
-            for record in self.all_records_of(at, is_call):
-                out[record] = at
-        return out
+    def exchange_of(self, connection: int, is_call: bool, record: int) -> int:
+        """Returns the exchange of a message."""
+        return self.owners[connection][is_call][record - 1]
 
     def each(self, lines: Iterable[str]) -> Iterator[tuple[int, Line]]:
         """Iterates over the lines of a listing of the run, each with its exchange."""
-        for connection, some in groupby(map(line_of, lines), attrgetter('connection')):
-            place = self.place_of(connection)
-            replies, calls = self.by_record(place, False), self.by_record(place, True)
-            for line in some:
-                yield (calls if line.is_call else replies)[line.record], line
+        return ((self.exchange_of(line.connection, line.is_call, line.record), line)
+                for line in map(line_of, lines))
 
-    def located(self, lines: Iterable[str]) -> Iterator[tuple[int, Line]]:
-        """The same, but for retransmissions, and for replies that say the same again."""
-        return ((at, line) for at, line in self.each(lines)
-                if (line.record == self.records[at] if line.is_call
-                    else line.record not in self.repeated.get(at, ())))
-
-    def exchanges_of_messages(self, messages: Iterable[Message]) -> list[int]:
-        by_record = cache(self.by_record)
-        return [by_record(self.place_of(one.connection), one.is_call)[one.record]
-                for one in messages]
-
-    def lines_of(self, some: Iterable[int], lines: Iterable[str]) -> Iterator[tuple[int, Line]]:
-        """Iterates over the lines of some exchanges, but for retransmissions and replies that say
-        the same again, each with its exchange."""
-        places = dict[LinePlace, int]()
-        for at in some:
-            connection, record = self.record_of(at)
-            places[LinePlace(connection, True, record)] = at
-            places.update((LinePlace(connection, False, record), at)
-                          for record in self.replies_of(at))
-        return ((places[place], line_of(line)) for line in lines
-                if (place := place_of(line)) in places)
+    def located(self, lines: Iterable[str],
+                some: Container[int] | None = None) -> Iterator[tuple[int, Line]]:
+        """The same of all exchanges or of some, but for retransmissions, and for replies that say
+        the same again."""
+        for text in lines:
+            connection, is_call, record = place_of(text)
+            at = self.owners[connection][is_call][record - 1]
+            if (some is None or at in some) and (
+                    record == self.records[at] if is_call
+                    else record not in self.repeated.get(at, ())):
+                yield at, line_of(text)
 
     def objects_of(self, at: int) -> list[int]:
         """Returns the handles of a call."""
@@ -337,14 +305,14 @@ class Outlines:
         offset. The lines are those of the listing."""
         return {at: (self.procedure_of(at), *alike_in(line),
                      *map(self.identities.__getitem__, self.objects_of(at)))
-                for at, line in self.lines_of(wanted, lines) if line.is_call}
+                for at, line in self.located(lines, wanted) if line.is_call}
 
     def said_again(self, lines: Iterable[str], wanted: set[int],
                    mask: Mask) -> dict[int, tuple[int, ...]]:
         """Returns what is said in some exchanges, by the listing under another mask."""
         out, pattern = {at: [self.asked[at], self.identities[self.found[at]]]
                         for at in wanted}, renamed_values(mask)
-        for at, line in self.lines_of(wanted, lines):
+        for at, line in self.located(lines, wanted):
             out[at].append(hash(pattern.sub('', line.text)))
         return {at: tuple(said) for at, said in out.items()}
 

@@ -100,6 +100,13 @@ class Pairing:
         return (self.there.exchanges_of(self.homes[place]) if self.homes[place] != NOBODY
                 else range(0))
 
+    def at_home(self, place: int) -> Iterator[Pair]:
+        """Iterates over the pairs of a connection of the first run and of the one that belongs to
+        it."""
+        own, home = self.here.exchanges_of(place), self.home_of(place)
+        return ((at, to) for at, to in zip(own, islice(self.partners, own.start, own.stop))
+                if to in home)
+
     @cached_property
     def sent_again(self) -> list[Pair]:
         """The pairs whose call was sent more often in one run, or answered in the same words."""
@@ -125,14 +132,9 @@ class Pairing:
         """The pairs in matched connections whose calls are reordered."""
         if self.is_in_place:
             return []
-        out = list[Pair]()
-        for place, own in enumerate(map(self.here.exchanges_of, range(len(self.homes)))):
-            home = self.home_of(place)
-            if not is_in_order(to for to in islice(self.partners, own.start, own.stop)
-                               if to in home):
-                out += out_of_order([(at, self.partners[at]) for at in own
-                                     if self.partners[at] in home])
-        return out
+        return [pair for place in range(len(self.homes))
+                if not is_in_order(to for _, to in self.at_home(place))
+                for pair in out_of_order(list(self.at_home(place)))]
 
     @cached_property
     def late_replies(self) -> list[tuple[int, int, int]]:
@@ -157,13 +159,10 @@ class Pairing:
     def turns_of_replies(self, place: int) -> 'array[int]':
         """Returns the records of the second run's replies, in the order of those of a connection of
         the first run to which they belong."""
-        own, home = self.here.exchanges_of(place), self.home_of(place)
-        turns = array('I', [0]) * (1 + self.here.last_record(place, is_call=False))
-        for at in own:
-            if self.partners[at] in home:
-                for record, other in zip(self.here.replies_of(at),
-                                         self.there.replies_of(self.partners[at])):
-                    turns[record] = other
+        turns = array('I', [0]) * (1 + len(self.here.owners[self.here.connections[place]][False]))
+        for at, to in self.at_home(place):
+            for record, other in zip(self.here.replies_of(at), self.there.replies_of(to)):
+                turns[record] = other
         return array('I', filter(None, turns))
 
     # --- Matching ---

@@ -84,6 +84,8 @@ CLASSES = (
                'bodies of messages of other programs and versions, whose lengths stay',
                is_raw=True),
 )
+HANDLES, VERIFIERS = 'handles', 'write verifiers'
+RENAMED = {'fh': HANDLES, 'verf': VERIFIERS}  # by the names of items
 CLASSES_BY_NAME = {one.name: one for one in CLASSES}
 
 Mask = dict[str, Way]

@@ -1,4 +1,6 @@
-"""Findings that somebody accepted, by a file: they are counted apart, and what is left decides."""
+"""Findings that somebody accepted, by a file: they are counted apart, and what is left decides. And
+fields that a user knows to differ, and has left out of what is said of a comparison. They count for
+its verdict all the same."""
 from __future__ import annotations
 
 import argparse
@@ -12,11 +14,10 @@ from fnmatch import fnmatchcase
 from itertools import compress
 from typing import Any, NamedTuple
 
-from ...exchanges.whose import ANY
+from ...exchanges.whose import ANY, fields_of
 from ...shared.layouts import BY_NAME
 from ...shared.printed import escaped, printable
-from ..values.bindings import RENAMED
-from ..values.classes import CLASSES, Mask, Way
+from ..values.classes import CLASSES, RENAMED, Mask, Way
 from .differences import Difference
 from .findings import RUNS, Compared, Finding
 
@@ -29,6 +30,8 @@ MEMBERS = {'procedure', 'path', 'is_call', 'field', 'first', 'second', 'only', '
 # What an entry needs besides, by what it is about.
 NEEDED_MEMBERS = {'only': {'asks', 'status', 'says'}, 'replies': {'first', 'second', 'says'}}
 WILD, BRACKETED = frozenset('*?['), re.compile(r'\[([*?[])\]')
+# Commas, and the names and numbers of entries, of which a field has none.
+WORD, ENTRY = re.compile(r'(?:[^,"]|"[^"]*")+'), re.compile(r' (?:"[^"]*"|\d+)(?=[ .])')
 AcceptedEntry = Mapping[str, Any]  # an object of the file
 
 
@@ -245,3 +248,52 @@ def entry_text(entry: AcceptedEntry) -> str:
     about = ' '.join([entry.get('field') or kind_of_entry(entry) + side, *entry.get('asks', ())])
     where = [path] if (path := entry.get('path', ANY)) is not None else []
     return printable(' '.join([entry['procedure'], *where, about]) + ''.join(values))
+
+
+# --- Fields that a user left out ---
+
+class Ignored(NamedTuple):
+    """A field of a procedure, or of any if that is `*`: a label, one without the names of entries,
+    or the name of items, whose ever they are."""
+    procedure: str
+    field: str
+
+    def __str__(self) -> str:
+        return f'{self.procedure}.{self.field}'
+
+    def has(self, procedure: str, difference: Difference) -> bool:
+        return self.procedure in (ANY, procedure) and (
+            self.field in (difference.label, difference.field, difference.name))
+
+
+def ignored_of(text: str) -> list[Ignored]:
+    """Reads the word of `--ignore`. Raises `ArgumentTypeError` if a name is of none."""
+    return [one_of(word) for word in WORD.findall(text)]
+
+
+def one_of(word: str) -> Ignored:
+    procedure, _, field = word.partition('.')
+    if procedure != ANY and procedure not in BY_NAME:
+        raise argparse.ArgumentTypeError(
+            printable(
+                f'no procedure: {procedure} (as in NFSPROC3_GETATTR.obj.nlink, or in *.nlink)'))
+    known = fields_of(procedure)
+    if ENTRY.sub('', field) not in known and field not in known.values():
+        raise argparse.ArgumentTypeError(
+            printable(f'no field of {procedure if procedure != ANY else "any procedure"}: {field}'))
+    return Ignored(procedure, field)
+
+
+def without_ignored(compared: Compared,
+                    ignored: Sequence[Ignored]) -> tuple[Compared, Counter[tuple[str, str]]]:
+    """Returns a comparison without these fields, and how often each was left out."""
+    left_out, findings = Counter[tuple[str, str]](), list[Finding]()
+    for finding in compared.findings:
+        procedure = finding.message.procedure
+        out = [one for one in finding.differences
+               if any(word.has(procedure, one) for word in ignored)]
+        left_out.update((procedure, one.field) for one in out)
+        kept = tuple(one for one in finding.differences if one not in out)
+        if kept or not out or finding.remark:
+            findings.append(replace(finding, differences=kept))
+    return replace(compared, findings=findings), left_out

@@ -55,17 +55,12 @@ class Cover:
     refused: dict[int, str]
 
     @property
-    def is_refused(self) -> bool:
-        """Whether a part of it is not valid, or cannot be read."""
-        return bool(self.faults())
-
-    @property
     def missing(self) -> int:
         """The bytes that the recording lacks."""
         return sum(one.missing for one in self.covered)
 
     def is_good(self, allowed: Allowed) -> bool:
-        return not self.is_refused and all(one.is_good(allowed) for one in self.covered)
+        return not self.faults() and all(one.is_good(allowed) for one in self.covered)
 
     def word_of(self, covered: Covered) -> CountedWord:
         return 'refused' if covered.number in self.refused else covered.word

@@ -1,17 +1,17 @@
-"""How two matched messages differ, item by item, and what a call of one run alone asks for."""
+"""How two matched messages differ, item by item, and what a call of one run alone asks for. Values
+that each run has its own of are bound one to one as they are met."""
 from __future__ import annotations
 
 from collections import Counter
-from collections.abc import Iterable, Iterator, Sequence
-from dataclasses import dataclass
+from collections.abc import Iterable, Iterator
+from dataclasses import dataclass, field
 from typing import NamedTuple
 
-from ...exchanges.listing import Message
+from ...exchanges.listing import Items, Message, value_in
 from ...exchanges.procedures import LISTINGS, READ, WRITE
 from ...exchanges.stored import Value, spelled
-from ...exchanges.whose import Labels
-from ..values.bindings import RENAMED, Bindings
-from ..values.classes import CLASSES, Mask, ValueClass, Way
+from ...exchanges.whose import Item
+from ..values.classes import CLASSES, HANDLES, RENAMED, Mask, ValueClass, Way
 from ..values.long_values import Parting, content_of, is_long, parting_between
 
 # After one of these the rest of a reply has another layout.
@@ -54,69 +54,81 @@ class Difference:
         return self.first == self.second and self.apart is None
 
 
-class RunMessage:
-    """A message of one run, with the call to which it belongs if it is a reply."""
+def offset_of(message: Message, call: Message | None) -> int | None:
+    """Returns where in the file the data of a message is, if that is known. Of a reply its call
+    says it."""
+    asking = message if message.is_call else call
+    if asking is None or asking.procedure != (WRITE if message.is_call else READ):
+        return None
+    offset = asking.value_of('offset')
+    return None if offset is None else int(offset)
 
-    def __init__(self, message: Message, call: Message | None) -> None:
-        self.message, self.labels = message, Labels(message)
-        self.asking = message if message.is_call else call
 
-    def offset(self) -> int | None:
-        """Returns where in the file the data of the message is, if that is known."""
-        if self.asking is None or self.asking.procedure != (
-                WRITE if self.message.is_call else READ):
+@dataclass
+class Bindings:
+    """By classes of renamed values, which of the second run belongs to which of the first."""
+    forth: dict[tuple[str, str], str] = field(default_factory=dict)
+    back: dict[tuple[str, str], str] = field(default_factory=dict)
+
+    def bind(self, name: str, first: str, second: str) -> str | None:
+        """Binds two values of a class. Returns None if they are bound to each other now, or why
+        they cannot be."""
+        bound, owner = self.forth.get((name, first)), self.back.get((name, second))
+        if bound is None and owner is None:
+            self.forth[name, first], self.back[name, second] = second, first
             return None
-        offset = self.asking.value_of('offset')
-        return None if offset is None else int(offset)
+        if bound == second:
+            return None
+        if bound is None:
+            return f'elsewhere {second} of the second run is {owner} of the first'
+        return f'elsewhere {first} of the first run is {bound} of the second'
 
-    def items(self, some: range) -> list[ComparedItem]:
-        return [ComparedItem(self, at) for at in some]
-
-
-class ComparedItem(NamedTuple):
-    """An item of a message, by its index."""
-    side: RunMessage
-    at: int
-
-    @property
-    def name(self) -> str:
-        return self.side.message.items[self.at].name
-
-    @property
-    def value(self) -> Value:
-        return self.side.message.items[self.at].value
-
-    @property
-    def field(self) -> str:
-        return self.side.labels.field(self.at)
-
-    def is_of(self, owner: ValueClass) -> bool:
-        """Returns whether an item with a name of a class is of the class. The parts that it is in
-        may decide, or its value."""
-        labels = self.side.labels
-        if owner.is_of_changes:
-            return labels.is_of_a_change(self.at) or labels.is_of_a_directory(self.at)
-        return owner.has_value(str(self.value))
+    def renamed(self, rest: str) -> str:
+        """Returns raw bytes, in hexadecimal, with each bound handle that is in them in place of the
+        first run's. A handle is spelled as its length, a word, its bytes, and padding (RFC 1813,
+        section 2.5)."""
+        out, at = [], 0
+        while at < len(rest):
+            word = rest[at:at + 8]
+            size = int(word, 16) if len(word) == 8 else 0
+            handle = rest[at + 8:at + 8 + 2 * size] if 0 < size <= 64 else ''
+            bound = self.forth.get((HANDLES, handle)) if handle else None
+            if bound is None:
+                out.append(word)
+                at += 8
+            else:
+                out.append(f'{len(bound) // 2:08x}{bound}{"0" * (-len(bound) % 8)}')
+                at += 8 + 2 * size + -2 * size % 8
+        return ''.join(out)
 
 
 class Comparison:
     """Compares messages under a mask. What is bound by one pair of messages holds for all that are
-    compared after it."""
+    compared after it.
+
+    is_call, offset: of the messages that are compared, whether they are calls, and where in the
+        file their data is, if that is the same
+    """
+    is_call: bool
+    offset: int | None
 
     def __init__(self, mask: Mask) -> None:
         self.mask, self.bindings = mask, Bindings()
         self.owners: dict[tuple[str, bool], ValueClass | None] = {}
 
-    def class_of(self, *items: ComparedItem) -> ValueClass | None:
-        """Returns the masked class to which all these items of one name belong."""
-        key = name, is_call = items[0].name, items[0].side.message.is_call
+    def class_of(self, *items: Item) -> ValueClass | None:
+        """Returns the masked class to which all these items of one name belong. The parts that they
+        are in may decide, or their values."""
+        key = name, is_call = items[0].name, self.is_call
         if key not in self.owners:
             self.owners[key] = next((one for one in CLASSES if one.name in self.mask
                                      and one.has(name, is_call)), None)
         owner = self.owners[key]
-        return owner if owner and all(item.is_of(owner) for item in items) else None
+        return owner if owner and all(
+            item.may_change if owner.is_of_changes else owner.has_value(str(item.value))
+            for item in items) else None
 
-    def of_values(self, one: ComparedItem, other: ComparedItem) -> Difference | None:
+    def of_values(self, one: Item, other: Item) -> Difference | None:
         """Returns how two items of one name differ, and binds renamed values."""
         name, owner = one.name, self.class_of(one, other)
         if one.value == other.value == '':
@@ -125,7 +137,7 @@ class Comparison:
             # (raw bytes that are masked differ only in their number)
             if not owner.is_raw or len(content_of(one.value)) == len(content_of(other.value)):
                 return None
-            return difference_of(one, other, 'only the lengths count')
+            return self.difference(one, other, 'only the lengths count')
         renaming = owner.name if owner is not None else RENAMED.get(name)
         if renaming is not None:
             return self.of_renamed(renaming, owner, one, other)
@@ -133,9 +145,9 @@ class Comparison:
             return self.of_raw(one, other)
         # (a machine's name has a length, which is left out with it)
         is_masked = name == 'cred_length' and 'machines' in self.mask
-        return None if is_masked or one.value == other.value else difference_of(one, other)
+        return None if is_masked or one.value == other.value else self.difference(one, other)
 
-    def of_raw(self, one: ComparedItem, other: ComparedItem) -> Difference | None:
+    def of_raw(self, one: Item, other: Item) -> Difference | None:
         """Handles in raw bytes are those of the other run where they are known."""
         first, second = spelled(one.value), spelled(other.value)
         renamed = self.bindings.renamed(first)
@@ -143,22 +155,21 @@ class Comparison:
             return None
         remark = ('' if renamed == first
                   else 'the file handles of the first are written as those of the second')
-        return difference_of(one, other, remark, first=renamed)
+        return self.difference(one, other, remark, first=renamed)
 
-    def of_renamed(self, name: str, owner: ValueClass | None, one: ComparedItem,
-                   other: ComparedItem) -> Difference | None:
+    def of_renamed(self, name: str, owner: ValueClass | None, one: Item,
+                   other: Item) -> Difference | None:
         first, second = str(one.value), str(other.value)
         zeros = [not value.strip('0') for value in (first, second)]
         if any(zeros) and (owner is not None and owner.keeps_zero or '' in (first, second)):
             # A zero cookie, a verifier of zeros and the empty handle mean themselves alone.
-            return None if first == second else difference_of(one, other, is_renamed=True)
+            return None if first == second else self.difference(one, other, is_renamed=True)
         is_first = (name, first) in self.bindings.forth
         why = self.bindings.bind(name, first, second)
-        return difference_of(one, other, why, alike=f'{name}, {is_first}',
+        return self.difference(one, other, why, alike=f'{name}, {is_first}',
                              is_renamed=True) if why else None
 
-    def of_items(self, ours: Sequence[ComparedItem],
-                 theirs: Sequence[ComparedItem]) -> list[Difference]:
+    def of_items(self, ours: Items, theirs: Items) -> list[Difference]:
         """Returns how two runs of items differ. An optional part that one of them alone has is one
         difference: the item before it, which says whether it follows."""
         found: list[Difference] = []
@@ -175,66 +186,73 @@ class Comparison:
         """Returns how two messages differ. The calls of two replies say where in a file their data
         is. Entries of a directory are brought together by their names, and those of one name by
         turn."""
-        here, there = RunMessage(first, call), RunMessage(second, other)
+        self.is_call, own = first.is_call, offset_of(first, call)
+        self.offset = own if own == offset_of(second, other) else None
         if first.is_call or first.procedure not in LISTINGS:
-            return self.of_items(here.items(range(len(first.items))),
-                                 there.items(range(len(second.items))))
-        head, entries, tail = first.entries()
-        other_head, other_entries, other_tail = second.entries()
-        found = self.of_items(here.items(head), there.items(other_head))
+            return self.of_items(first.items, second.items)
+        (head, entries, tail), (other_head, other_entries, other_tail) = (
+            first.parts(), second.parts())
+        found = self.of_items(head, other_head)
         if any(difference.name in DECIDING for difference in found):
             return found
-        return [*found, *self.of_entries(here, entries, there, other_entries),
-                *self.of_items(here.items(tail), there.items(other_tail))]
+        return [*found, *self.of_entries(entries, other_entries), *self.of_items(tail, other_tail)]
 
-    def of_entries(self, here: RunMessage, first: list[range], there: RunMessage,
-                   second: list[range]) -> Iterator[Difference]:
+    def of_entries(self, first: list[Items], second: list[Items]) -> Iterator[Difference]:
         """Yields how the entries of two directories differ, also in their order."""
-        ours = by_name((self.key_of_entry(here, entry), entry) for entry in first)
-        theirs = by_name((self.key_of_entry(there, entry), entry) for entry in second)
-        yield from (of_entry(entry_name(here, entry), None) for key, entry in ours.items()
+        ours, theirs = (by_name((self.key_of_entry(entry), entry) for entry in some)
+                        for some in (first, second))
+        yield from (of_entry(entry_name(entry), None) for key, entry in ours.items()
                     if key not in theirs)
-        yield from (of_entry(None, entry_name(there, entry)) for key, entry in theirs.items()
+        yield from (of_entry(None, entry_name(entry)) for key, entry in theirs.items()
                     if key not in ours)
         for key, entry in ours.items():
             if key in theirs:
-                yield from self.of_items(here.items(entry), there.items(theirs[key]))
+                yield from self.of_items(entry, theirs[key])
         common = [key for key in ours if key in theirs]
         others = [key for key in theirs if key in ours]
         turns = next(((ours[key], theirs[other]) for key, other in zip(common, others)
                       if key[0] != other[0]), None)
         if turns:
-            yield of_entry(entry_name(here, turns[0]), entry_name(there, turns[1]),
+            yield of_entry(entry_name(turns[0]), entry_name(turns[1]),
                            'the entries come in another order')
 
-    def key_of_entry(self, side: RunMessage, entry: range) -> str:
+    def key_of_entry(self, entry: Items) -> str:
         """Returns the name of an entry, in quotes, or the class of its name if that is masked."""
-        item = next((one for one in side.items(entry) if one.name == 'name'), None)
+        item = next((one for one in entry if one.name == 'name'), None)
         owner = item and self.class_of(item)
-        return owner.name if owner else entry_name(side, entry)
+        return owner.name if owner else entry_name(entry)
+
+    def difference(self, one: Item, other: Item, remark: str = '', *, first: str | None = None,
+                   alike: str = '', is_renamed: bool = False) -> Difference:
+        """Two items that differ. `first` is what is compared with the second, if it is another."""
+        parting = None
+        if not is_renamed and (is_long(one.value) or is_long(other.value)
+                               or first not in (None, one.value)):
+            parting = parting_between(one.value if first is None else first, other.value,
+                                      self.offset if one.name == 'data' else None)
+        return Difference(one.name, one.value, other.value, remark, one.label, one.field,
+                          (one.meaning, other.meaning), parting, alike)
 
 
-def in_both(ours: Sequence[ComparedItem], theirs: Sequence[ComparedItem]
-            ) -> Iterator[tuple[ComparedItem, ComparedItem]]:
+def in_both(ours: Items, theirs: Items) -> Iterator[tuple[Item, Item]]:
     """Iterates over the items that are at the same place of the layouts in both messages."""
-    own, its = iter(ours), iter(theirs)
-    one, other = next(own, None), next(its, None)
-    while one is not None and other is not None:
-        if one.field == other.field:
-            yield one, other
-            one, other = next(own, None), next(its, None)
-        elif one.field in other.side.labels.fields_from(other.at):
-            other = next(its, None)
+    at = to = 0
+    while at < len(ours) and to < len(theirs):
+        if ours[at].field == theirs[to].field:
+            yield ours[at], theirs[to]
+            at, to = at + 1, to + 1
+        elif any(item.field == ours[at].field for item in theirs[to:]):
+            to += 1
         else:
-            one = next(own, None)
+            at += 1
 
 
 # Entries by their keys, and by how many of a key are before. A broken directory may have several of
 # a name.
-Entries = dict[tuple[str, int], range]
+Entries = dict[tuple[str, int], Items]
 
 
-def by_name(entries: Iterable[tuple[str, range]]) -> Entries:
+def by_name(entries: Iterable[tuple[str, Items]]) -> Entries:
     counts = Counter[str]()
     out: Entries = {}
     for key, entry in entries:
@@ -243,24 +261,8 @@ def by_name(entries: Iterable[tuple[str, range]]) -> Entries:
     return out
 
 
-def entry_name(side: RunMessage, entry: range) -> str:
-    return side.message.value_of('name', entry) or ''
-
-
-# --- What is said of a difference ---
-
-def difference_of(one: ComparedItem, other: ComparedItem, remark: str = '', *,
-                  first: str | None = None, alike: str = '',
-                  is_renamed: bool = False) -> Difference:
-    """Two items that differ. `first` is what is compared with the second, if it is another."""
-    here, there, parting = one.side, other.side, None
-    if not is_renamed and (is_long(one.value) or is_long(other.value)
-                           or first not in (None, one.value)):
-        offset = here.offset() if one.name == 'data' and here.offset() == there.offset() else None
-        parting = parting_between(one.value if first is None else first, other.value, offset)
-    return Difference(one.name, one.value, other.value, remark, here.labels.label(one.at),
-                      one.field, (here.labels.meaning(one.at), there.labels.meaning(other.at)),
-                      parting, alike)
+def entry_name(entry: Items) -> str:
+    return value_in(entry, 'name') or ''
 
 
 def of_entry(first: str | None, second: str | None, remark: str = '') -> Difference:
@@ -285,22 +287,20 @@ class Argument(NamedTuple):
 def arguments_of(call: Message, mask: Mask) -> Iterator[Argument]:
     """Returns the arguments of a call. Values that are masked as zero are left out, and words that
     only say what follows."""
-    labels, about = Labels(call), set(ABOUT)
-    begin = next((at for at, item in enumerate(call.items) if item.name == LAST_OF_HEAD), -1) + 1
-    for at, (name, value) in enumerate(call.items[begin:], begin):
+    about = set(ABOUT)
+    for item in call.after(LAST_OF_HEAD):
+        name, value = item[:2]
         if name in CHOICES or name in TIMES and value != SERVER_TIME or is_zero(name, value, mask):
             continue
-        yield Argument(name, labels.label(at), value, labels.meaning(at), name in about)
+        yield Argument(name, item.label, value, item.meaning, name in about)
         about.discard(name)
 
 
 def results_of(reply: Message, mask: Mask) -> Iterator[Argument]:
     """Returns what a reply says after its head, as the arguments of a call."""
-    labels = Labels(reply)
-    begin = next((at for at, item in enumerate(reply.items) if item.name == 'status'), -1) + 1
-    for at, (name, value) in enumerate(reply.items[begin:], begin):
-        if name not in MARKS_OF_PARTS and not is_zero(name, value, mask, False):
-            yield Argument(name, labels.label(at), value, labels.meaning(at), False)
+    return (Argument(item.name, item.label, item.value, item.meaning, False)
+            for item in reply.after('status')
+            if item.name not in MARKS_OF_PARTS and not is_zero(*item[:2], mask, False))
 
 
 def is_zero(name: str, value: Value, mask: Mask, is_call: bool = True) -> bool:

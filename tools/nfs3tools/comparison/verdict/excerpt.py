@@ -5,7 +5,6 @@ from __future__ import annotations
 from array import array
 from bisect import bisect_left
 from collections.abc import Callable, Iterable, Iterator, Sequence
-from dataclasses import dataclass, field
 from itertools import accumulate, groupby
 from typing import NamedTuple
 
@@ -14,10 +13,8 @@ from ..exchanges.matching import Pair
 from ..exchanges.pairing import NOBODY, Pairing
 
 
-class Around(NamedTuple):
-    """How many pairs are shown before and after what differs, and how many that differ."""
-    pairs: int
-    most: int
+PAIRS_AROUND = 3  # that are shown before and after what differs
+SHOWN_AT_MOST = 2_000  # pairs that differ
 
 
 class ExcerptRow(NamedTuple):
@@ -37,8 +34,7 @@ class HiddenCalls(NamedTuple):
     left_out: int = 0
 
 
-@dataclass
-class ExcerptConnection:
+class ExcerptConnection(NamedTuple):
     """The numbers that a connection has in both runs, None if one does not have it, and its rows
     and gaps in order."""
     first: int | None
@@ -46,25 +42,19 @@ class ExcerptConnection:
     rows: list[ExcerptRow | HiddenCalls]
 
 
-@dataclass
-class Beside:
-    """The connections of which something is shown, in the order of the first run.
+class Shown:
+    """What is shown of two runs. A pair has NOBODY in place of an exchange that one of them does
+    not have.
 
+    connections: those of which something is shown, in the order of the first run
     others, rest: how many connections the first run has besides, and what is in them
     cut: how many exchanges that the second run alone has are not shown, although they are reported
     """
-    connections: list[ExcerptConnection] = field(default_factory=list)
-    others: int = 0
-    rest: HiddenCalls = HiddenCalls()
-    cut: int = 0
+    connections: list[ExcerptConnection]
+    others: int
+    rest: HiddenCalls
 
-
-class Shown:
-    """What is shown of two runs. A pair has NOBODY in place of an exchange that one of them does
-    not have."""
-
-    def __init__(self, pairing: Pairing, told: Iterable[Pair], besides: Iterable[int],
-                 around: Around) -> None:
+    def __init__(self, pairing: Pairing, told: Iterable[Pair], besides: Iterable[int]) -> None:
         """Chooses among the pairs that are reported, and what is near them. `besides` are more
         exchanges of the first run that are reported."""
         self.pairing, self.here, self.there = pairing, pairing.here, pairing.there
@@ -73,8 +63,9 @@ class Shown:
         # exchanges comes
         self.followed = dict[int, 'array[int]']()
         self.told_of_first = sorted({*(at for at, _ in self.told if at != NOBODY), *besides})
-        chosen = sorted(self.told, key=self.key_of)[:around.most]
-        self.pairs = {*chosen, *(pair for one in chosen for pair in self.near(one, around.pairs))}
+        chosen = sorted(self.told, key=self.key_of)[:SHOWN_AT_MOST]
+        self.pairs = {*chosen, *(pair for one in chosen for pair in self.near(one))}
+        self.cut = sum(at == NOBODY for at, _ in self.told - self.pairs)
 
     def comes_after(self, to: int) -> int:
         """Returns which exchange of the first run is before one of the second, in connections that
@@ -108,29 +99,32 @@ class Shown:
             return place, at, NOBODY
         return place, self.comes_after(to) if place < len(self.pairing.homes) else NOBODY, to
 
-    def near(self, pair: Pair, number: int) -> Iterator[Pair]:
-        """Returns the pairs of the same connection that are at most so many before or after one."""
+    def near(self, pair: Pair) -> Iterator[Pair]:
+        """Returns the pairs of the same connection that are a few before or after one."""
         at, to = pair
         outlines, middle, partners = (
             (self.here, at, self.pairing.partners) if at != NOBODY
             else (self.there, to, self.pairing.owners))
         own = outlines.exchanges_of(outlines.connection_of(middle))
-        some = range(max(own.start, middle - number), min(own.stop, middle + number + 1))
+        some = range(max(own.start, middle - PAIRS_AROUND),
+                     min(own.stop, middle + PAIRS_AROUND + 1))
         return ((one, partners[one]) if at != NOBODY else (partners[one], one) for one in some
                 if partners[one] != NOBODY)
 
-    def beside(self, row: Callable[[Pair, bool], ExcerptRow]) -> Beside:
-        """Returns what is shown. `row` takes a pair apart, given whether it is reported."""
+    def fill(self, row: Callable[[Pair, bool], ExcerptRow]) -> 'Shown':
+        """Finds what is shown. `row` takes a pair apart, given whether it is reported."""
         groups = groupby(sorted(self.pairs, key=self.key_of), self.connections_of)
-        connections = {both: list(self.rows(both[0], list(pairs), row)) for both, pairs in groups}
-        others = [place for place in range(len(self.pairing.homes))
-                  if (place, self.pairing.homes[place]) not in connections]
+        rows = {both: list(self.rows(both[0], list(pairs), row)) for both, pairs in groups}
+        self.connections = [ExcerptConnection(
+            None if place == NOBODY else self.here.connections[place],
+            None if other == NOBODY else self.there.connections[other], own)
+            for (place, other), own in rows.items()]
+        others = [place for place, home in enumerate(self.pairing.homes)
+                  if (place, home) not in rows]
         gaps = [self.gap(own.start, own.stop) for own in map(self.here.exchanges_of, others)]
-        shown = [ExcerptConnection(number_of(self.here.connections, place),
-                                   number_of(self.there.connections, other), rows)
-                 for (place, other), rows in connections.items()]
-        return Beside(shown, len(others), HiddenCalls(*map(sum, zip(HiddenCalls(), *gaps))),
-                      sum(at == NOBODY for at, _ in self.told - self.pairs))
+        self.others = len(others)
+        self.rest = HiddenCalls(*map(sum, zip(HiddenCalls(), *gaps)))
+        return self
 
     def connections_of(self, pair: Pair) -> Pair:
         """Returns the places of the connections of both runs where a pair is shown."""
@@ -161,7 +155,3 @@ class Shown:
         told_alone = sum(self.pairing.partners[at] == NOBODY for at in told)
         return HiddenCalls(end - begin - alone - (len(told) - told_alone), len(told),
                            alone - told_alone)
-
-
-def number_of(connections: Sequence[int], place: int) -> int | None:
-    return connections[place] if place != NOBODY else None

@@ -1,7 +1,6 @@
 """Two runs compared: which exchanges are matched, and what differs."""
 from __future__ import annotations
 
-import functools
 import itertools
 from collections import Counter
 from collections.abc import Callable, Iterable, Iterator, Sequence
@@ -9,17 +8,17 @@ from dataclasses import dataclass, field, replace
 
 from ...exchanges.in_words import short
 from ...exchanges.listing import Exchange, Message
-from ...exchanges.objects import GIVING_HANDLES, UNKNOWN, Paths, below
+from ...exchanges.objects import GIVING_HANDLES, TEACHING, UNKNOWN, Paths, below
 from ...exchanges.stored import LongValues
 from ...recordings.selection import count, plural
 from ..exchanges.any_order import Explanation
-from ..exchanges.changes import Change
+from ..exchanges.facts import Change
 from ..exchanges.matching import Pair
 from ..exchanges.outlines import Outlines
 from ..exchanges.pairing import NOBODY, Listing, Pairing
 from ..values.classes import Mask
 from .differences import Argument, Comparison, Difference, arguments_of, results_of
-from .excerpt import Around, Beside, ExcerptRow, Shown
+from .excerpt import ExcerptRow, Shown
 
 RUNS = ('first', 'second')
 Framing = Callable[[Message], Sequence[int]]
@@ -78,8 +77,6 @@ class Compared:
     late: how many replies come in another order
     late_connections: how many connections do
     lonely: how many calls the first and the second run have alone, which are reported
-    left_out: how often a procedure was left out of the first and of the second run, that one run
-        alone has
     silent: all calls that are left out
     noted: pairs whose answers are equal, and which a run does not allow; they count for nothing
     beside: what differs with some pairs before and after it, for those who show both runs side by
@@ -95,13 +92,18 @@ class Compared:
     late: int = 0
     late_connections: int = 0
     lonely: tuple[int, int] = (0, 0)
-    left_out: tuple[Counter[str], Counter[str]] = field(
-        default_factory=lambda: (Counter[str](), Counter[str]()))
     silent: list[Finding] = field(default_factory=list)
     noted: list[Finding] = field(default_factory=list)
     explained: int = 0
-    beside: Beside = field(default_factory=Beside)
+    beside: Shown | None = None
     mask: Mask = field(default_factory=dict)
+
+    @property
+    def left_out(self) -> list[Counter[str]]:
+        """How often each procedure was left out of the first and of the second run, that one run
+        alone has."""
+        return [Counter(call.message.procedure for call in self.silent
+                        if call.kind == 'only' and call.run == name) for name in RUNS]
 
     def fields(self) -> Counter[tuple[str, str]]:
         """Returns how often each field of each procedure differs."""
@@ -116,14 +118,15 @@ class ParsedExchanges:
     def __init__(self, run: Run, outlines: Outlines, wanted: Iterable[int]) -> None:
         self.exchanges, self.paths, values = dict[int, Exchange](), Paths(), LongValues()
         kept = outlines.with_origins(wanted)
-        for at, line in outlines.lines_of(kept, run.listing() if kept else ()):
+        for at, line in outlines.located(run.listing() if kept else (), kept):
             message = line.message(values)
             if message.is_call:
                 self.exchanges[at] = Exchange(message)
             else:
                 self.exchanges[at].replies.append(message)
-        for exchange in self.exchanges.values():
-            self.paths.take(exchange)
+        for call, reply in ((one.call, reply) for one in self.exchanges.values()
+                            if one.call.procedure in TEACHING for reply in one.replies):
+            self.paths.take(call.procedure, call.text, reply.text)
 
     def path(self, at: int) -> str | None:
         """Returns the path of what a call is about. A folder whose path is not known is `?`."""
@@ -139,7 +142,6 @@ class OneOfTwo:
     order: the exchanges that have a partner
     reported, silent: those that have none, and are reported, or left out
     connections: those of which no exchange has one: the first exchange of each, and how many it has
-    left_out: how often a procedure is left out
     """
     apart: ParsedExchanges
 
@@ -162,7 +164,6 @@ class OneOfTwo:
             else:
                 self.reported += sorted({*some} - {*silent})
                 self.silent += silent
-        self.left_out = Counter(map(procedure_of, self.silent))
 
     def number_told(self) -> int:
         """Returns how many exchanges are reported that it has alone."""
@@ -205,18 +206,17 @@ class Explaining:
     def __init__(self, runs: Sequence[Run], pairing: Pairing, leaves_out: frozenset[str],
                  explanation: Explanation) -> None:
         """Pairs that are explained were taken apart again, and are left out."""
-        self.pairing, self.by_order = pairing, explanation.pairs
-        self.remarks, self.noted = explanation.remarks, explanation.noted
+        self.pairing, self.explanation = pairing, explanation
         first, second = (OneOfTwo(number, run, pairing, leaves_out, explanation)
                          for number, run in enumerate(runs))
         self.runs = first, second
 
     def explained(self, unequal: set[int], named: set[int], mask: Mask, tells_order: bool,
-                  around: Around | None) -> Compared:
+                  is_shown: bool) -> Compared:
         """Returns what differs in the pairs of the unequal turns, and besides.
 
         named: the turns of equal pairs that say what belongs to what
-        around: how much is shown of both runs side by side, if that is asked for
+        is_shown: whether both runs are shown side by side
         """
         pairing, (here, there) = self.pairing, self.runs
         moved = [*pairing.moved, *pairing.elsewhere, *pairing.sent_again] if tells_order else []
@@ -232,22 +232,17 @@ class Explaining:
             elsewhere=len(pairing.elsewhere), late_connections=pairing.late_connections,
             late=sum(number for _, number, _ in pairing.late_replies),
             lonely=(here.number_told(), there.number_told()),
-            left_out=(here.left_out, there.left_out), silent=list(self.of_the_silent(tells_order)),
-            noted=[self.of_both('noted', *note) for note in self.noted.items()],
-            explained=sum(map(bool, self.by_order.values())), mask=mask,
-            beside=self.beside([*(pair for pair, _ in changed), *moved], around) if around
-            else Beside())
+            silent=list(self.of_the_silent(tells_order)),
+            noted=[self.of_both('noted', *note) for note in self.explanation.noted.items()],
+            explained=sum(map(bool, self.explanation.pairs.values())), mask=mask,
+            beside=self.beside([*(pair for pair, _ in changed), *moved]) if is_shown else None)
 
     def has_another_order(self) -> bool:
         """Returns whether it makes a difference that the order does not count."""
         pairing = self.pairing
-        return bool(self.by_order or any(own.silent for own in self.runs) or pairing.moved
-                    or pairing.elsewhere or pairing.late_replies
+        return bool(self.explanation.pairs or any(own.silent for own in self.runs)
+                    or pairing.moved or pairing.elsewhere or pairing.late_replies
                     or pairing.late_connections or pairing.sent_again)
-
-    def tells_lonely(self) -> bool:
-        """Returns whether something is reported that one run alone has."""
-        return any(own.reported or own.connections for own in self.runs)
 
     def take_apart(self, turns: set[int], moved: Iterable[Pair]) -> set[int]:
         """Takes the exchanges of some turns apart, and all that are reported. Returns the turns,
@@ -259,8 +254,9 @@ class Explaining:
             for own in self.runs]
         turns = {turn for turn, (at, to) in enumerate(zip(here.order, there.order))
                  if at in first or to in second}
-        left_out = [*self.by_order, *self.pairing.sent_again, *self.noted]
-        causes = [change for some in self.by_order.values() for change in some[:1]]
+        explained = self.explanation.pairs
+        left_out = [*explained, *self.pairing.sent_again, *self.explanation.noted]
+        causes = [change for some in explained.values() for change in some[:1]]
         for own, some in zip(self.runs, both):
             some.update(own.silent, (pair[own.number] for pair in left_out),
                         (change.at for change in causes if change.run == own.number),
@@ -277,14 +273,16 @@ class Explaining:
             found = list(of_pair(here.apart.exchanges[at], there.apart.exchanges[to],
                                  here.apart.path(at), comparison))
             if turn in unequal:
-                yield from (((at, to), self.with_remark(replace(finding, differences=tuple(
-                    map(self.with_paths, finding.differences))), (at, to))) for finding in found)
+                yield from (((at, to), self.completed(finding, (at, to))) for finding in found)
 
-    def with_remark(self, finding: Finding, pair: Pair) -> Finding:
-        """Returns a finding about a reply with the reason why no order explains it."""
+    def completed(self, finding: Finding, pair: Pair) -> Finding:
+        """Returns a finding with the paths of file handles, and of a reply with the reason why no
+        order explains it."""
         is_told = finding.kind == 'changed' and not finding.message.is_call and not all(
             one.is_equal for one in finding.differences)
-        return replace(finding, remark=self.remarks.get(pair, '')) if is_told else finding
+        return replace(finding, differences=tuple(map(self.with_paths, finding.differences)),
+                       remark=self.explanation.remarks.get(pair, '') if is_told
+                       else finding.remark)
 
     def with_paths(self, one: Difference) -> Difference:
         """Returns a difference with the paths of both values if they are file handles."""
@@ -308,7 +306,7 @@ class Explaining:
         yield from self.of_sent_again()
         for connection, number, among in pairing.late_replies:
             yield Finding(
-                'order', Message(connection, 'server', 1, 0, ''), None,
+                'order', Message(connection, False, 1, 0, '', ''), None,
                 remark=f'{number} of {among} replies of the connection come in another order')
 
     def of_sent_again(self) -> Iterator[Finding]:
@@ -322,7 +320,7 @@ class Explaining:
                                                    f'run, {times(len(other) + 1)} in the second')
 
     def of_the_silent(self, is_strict: bool) -> Iterator[Finding]:
-        for pair, changes in self.by_order.items():
+        for pair, changes in self.explanation.pairs.items():
             why = self.named(changes[0]) if changes else 'other places of its entries'
             yield self.of_both('explained', pair, why)
         yield from () if is_strict else self.of_sent_again()
@@ -344,7 +342,7 @@ class Explaining:
             place = self.pairing.places_of_homes.get(place, len(self.pairing.homes))
         return place, message.record, is_second
 
-    def beside(self, changed: Iterable[Pair], around: Around) -> Beside:
+    def beside(self, changed: Iterable[Pair]) -> Shown:
         """Returns some pairs that are reported, what one run alone has, and pairs around that. Of a
         connection that one run alone has it is the first exchange."""
         first, second = self.runs
@@ -352,19 +350,13 @@ class Explaining:
                 *((NOBODY, to) for to in (*second.reported, *second.connections))]
         besides = itertools.chain.from_iterable(range(at, at + number)
                                                 for at, number in first.connections.items())
-        shown = Shown(self.pairing, told, besides, around)
+        shown = Shown(self.pairing, told, besides)
         here, there = (ParsedExchanges(own.run, own.outlines, (
             pair[own.number] for pair in shown.pairs if pair[own.number] != NOBODY))
             for own in self.runs)
-        return shown.beside(functools.partial(excerpt_row, here, there))
-
-
-def excerpt_row(here: ParsedExchanges, there: ParsedExchanges, pair: Pair,
-                is_told: bool) -> ExcerptRow:
-    at, to = pair
-    return ExcerptRow(here.exchanges[at] if at != NOBODY else None,
-                      there.exchanges[to] if to != NOBODY else None,
-                      here.path(at) if at != NOBODY else there.path(to), is_told)
+        return shown.fill(lambda pair, is_told: ExcerptRow(
+            here.exchanges.get(pair[0]), there.exchanges.get(pair[1]),
+            there.path(pair[1]) if pair[0] == NOBODY else here.path(pair[0]), is_told))
 
 
 def replies(number: int) -> str:

@@ -2,22 +2,28 @@
 another."""
 from __future__ import annotations
 
-from collections.abc import Sequence
+from collections.abc import Iterable, Iterator, Sequence
 from dataclasses import dataclass, replace
+from itertools import chain, groupby, zip_longest
 from typing import Literal, Optional
 
+from ...exchanges.listing import has_rest, place_of, said_in, xid_of
 from ..exchanges.any_order import Explanation, TwoRuns
-from ..exchanges.pairing import ASKING, Pairing
-from ..exchanges.unequal import ListedInPlace, TwoListings
+from ..exchanges.followed import Followed, with_values
+from ..exchanges.outlines import Outlines, classes_of_items, renamed_values
+from ..exchanges.pairing import ASKING, Listing, Pairing
 from ..values.classes import CLASSES, Mask, Way
 from .accepted import Accepted, Split
-from .excerpt import Around
 from .findings import Compared, Explaining, Finding, Run
 from .trial import Trial
 
 Order = Optional[Literal['strict', 'any']]
 # Classes that follow their objects together.
 GROUPS = frozenset(('ids', 'fsids')), frozenset(('cookies',)), frozenset(('createverfs',))
+
+TurnKey = tuple[bool, int]  # whether a line is of a reply, and the turn of its exchange
+KeyedLines = tuple[TurnKey, list[str]]
+NO_LINES: KeyedLines = (True, 1 << 62), []
 
 
 @dataclass(frozen=True)
@@ -28,7 +34,7 @@ class Choices:
         difference
     masks: that of the comparison, and those of any order, each with more than the one before
     leaves_out: the procedures whose calls are left out in any order if one run alone has them
-    around: how much is shown of both runs side by side, if that is asked for
+    is_shown: whether both runs are shown side by side
     accepted: the findings that were accepted before, if there is a file of them
     follows: the classes whose values follow their objects in any order, if they are not one to one
     """
@@ -36,7 +42,7 @@ class Choices:
     masks: Sequence[Mask]
     follows: frozenset[str] = frozenset()
     leaves_out: frozenset[str] = ASKING
-    around: Around | None = None
+    is_shown: bool = False
     accepted: Accepted | None = None
 
 
@@ -97,9 +103,10 @@ class Orders:
         """Finds whether the runs are the same without the exchanges of all findings, which were
         accepted. That is the word of the program, as without them."""
         mask = found.compared.mask
-        some = self.pairing.here.exchanges_of_messages(
-            finding.first for finding in accepted if finding.first and finding.second)
-        rest = self.pairing.without((at, self.pairing.partners[at]) for at in {*some})
+        some = {self.pairing.here.exchange_of(one.first.connection, one.first.is_call,
+                                              one.first.record)
+                for one in accepted if one.first and one.second}
+        rest = self.pairing.without((at, self.pairing.partners[at]) for at in some)
         if not len(rest.matched(0)):
             return found
         self.captures = self.trial.in_one_order(rest)
@@ -148,7 +155,8 @@ class Orders:
 
     def found_under(self, mask: Mask) -> Outcome:
         """Finds what differs under a mask in any order, or that nothing does."""
-        if self.explaining.tells_lonely() or not self.is_same(mask):
+        is_lonely = any(own.number_told() for own in self.explaining.runs)
+        if is_lonely or not self.is_same(mask):
             return Outcome(self.explained(mask))
         if not len(self.explaining.runs[0].order):
             raise NothingToCompare('nothing to compare: no call of one run is in the other')
@@ -162,18 +170,18 @@ class Orders:
         self.explanation = self.two.explanation(mask)
         if self.explanation.pairs or any(self.explanation.counted):
             self.take(self.two.pairing, self.explanation)
-        self.explaining.remarks = self.explanation.remarks
-        self.explaining.noted = self.explanation.noted
+        self.explaining.explanation = self.explanation
 
     def follow(self, classes: frozenset[str]) -> None:
         """Takes the second run with the first run's values of some classes."""
         first, second = self.runs
-        self.trial = self.trial.with_second(self.two.followed(classes))
+        values = Followed(self.two.pairing, self.two.listings(), classes).values
+        self.trial = self.trial.with_second(with_values(self.two.taken[1], values))
         self.runs = first, replace(second, listing=self.trial.listing(self.trial.captures[1]))
         self.take(self.two.pairing, self.explanation)
 
     def is_same(self, mask: Mask) -> bool:
-        return self.trial.same(self.captures, mask) == 'same'
+        return not self.trial.difference(self.captures, mask)
 
     def listed(self, mask: Mask) -> TwoListings:
         first, second = self.trial.canonical(self.captures, mask)
@@ -186,4 +194,89 @@ class Orders:
         listed = self.listed(mask)
         differing = listed.unequal()
         return self.explaining.explained(differing, listed.turns_of_values(differing), mask,
-                                         self.choices.order == 'strict', self.choices.around)
+                                         self.choices.order == 'strict', self.choices.is_shown)
+
+
+# --- Which exchanges of two captures in one order differ, by their listings ---
+
+class TwoListings:
+    """Two captures in canonical form, in one order and one connection: call N of both has the xid
+    N. A call may have any number of replies. The turns of exchanges are numbered from 0."""
+
+    def __init__(self, first: Listing, second: Listing, mask: Mask) -> None:
+        self.first, self.second = first, second
+        self.classes, self.pattern = classes_of_items(mask), renamed_values(mask)
+        # The renamed values of what differs in the first run, and raw bytes
+        self.values, self.has_rest = set[tuple[str, str]](), False
+
+    def note(self, lines: Iterable[str]) -> None:
+        """Notes which renamed values lines have that differ."""
+        for line in lines:
+            self.has_rest |= has_rest(line)
+            self.values.update((self.classes[name], value)
+                               for name, value in self.pattern.findall(line))
+
+    def turn_of(self, line: str) -> int:
+        return xid_of(line) - 1
+
+    def messages(self, lines: Iterable[str]) -> Iterator[KeyedLines]:
+        """Returns the calls, and then the replies to each call, without their records' numbers."""
+        return ((key, list(map(said_in, some))) for key, some in groupby(
+            lines, lambda line: (not place_of(line).is_call, self.turn_of(line))))
+
+    def unequal(self) -> set[int]:
+        """Returns the turns of the exchanges that are listed in another way."""
+        first, second = iter(self.first()), iter(self.second())
+        # (what is equal at the beginning is not taken apart)
+        one, other = next(((one, other) for one, other in zip_longest(first, second)
+                           if one != other), (None, None))
+        ones, others = (self.messages(chain([line] if line is not None else [], lines))
+                        for line, lines in ((one, first), (other, second)))
+        out = set[int]()
+        (key, said), (other_key, other_said) = next(ones, NO_LINES), next(others, NO_LINES)
+        while (key, other_key) != (NO_LINES[0], NO_LINES[0]):
+            least = min(key, other_key)
+            if key != other_key or said != other_said:
+                out.add(least[1])
+                self.note(said if key == least else ())
+            if key == least:
+                key, said = next(ones, NO_LINES)
+            if other_key == least:
+                other_key, other_said = next(others, NO_LINES)
+        return out
+
+    def turns_of_values(self, unequal: set[int]) -> set[int]:
+        """Returns the turns of exchanges that are equal, and are the first ones with what the
+        unequal ones have: their handles, and other renamed values."""
+        out, seen = set[int](), set[str]()
+        for line in self.first() if self.values or self.has_rest else ():
+            # (raw bytes may have any handle)
+            some = [(name, value) for name, value in self.pattern.findall(line)
+                    if (self.classes[name], value) in self.values or self.has_rest and name == 'fh'
+                    and value not in seen]
+            if some and self.turn_of(line) not in unequal:
+                out.add(self.turn_of(line))
+                self.values.difference_update((self.classes[name], value) for name, value in some)
+                seen.update(value for _, value in some)
+            if not self.values and not self.has_rest:
+                break
+        return out
+
+
+class ListedInPlace(TwoListings):
+    """The same of exchanges that are in the same places: the turns are their numbers."""
+
+    def __init__(self, first: Listing, second: Listing, mask: Mask, outlines: Outlines) -> None:
+        super().__init__(first, second, mask)
+        self.outlines = outlines
+
+    def turn_of(self, line: str) -> int:
+        return self.outlines.exchange_of(*place_of(line))
+
+    def unequal(self) -> set[int]:
+        out = set[int]()
+        for one, other in zip_longest(self.first(), self.second(), fillvalue=''):
+            if one != other:
+                out.add(self.turn_of(one or other))
+                self.note([one])
+        return out

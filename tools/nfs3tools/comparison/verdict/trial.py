@@ -4,7 +4,7 @@ from __future__ import annotations
 import os
 import re
 import tempfile
-from collections.abc import Callable, Iterable, Sequence
+from collections.abc import Callable, Iterable, Mapping, Sequence
 from functools import partial
 from itertools import chain
 from pathlib import Path
@@ -23,7 +23,7 @@ from ..values.classes import CLASSES_BY_NAME, Mask, mask_text
 
 SMALL = 1 << 18  # bytes of a capture whose lines are kept
 RUN_LETTERS = 'ab'  # begin the names of captures
-DIFFERING_CONNECTION = re.compile(r'(?<=differ at )connection (\d+)')
+CONNECTION_AT_FIRST = re.compile(r'^connection (\d+)')
 
 
 def when_of(taken: Taken) -> When | None:
@@ -43,55 +43,49 @@ class Trial:
         self.program, self.folder, self.runs, self.number = program, folder, runs, 0
         self.progress = progress
         self.made = dict[tuple[str, ...], list[str]]()  # by how it was made, and of which captures
-        self.said = dict[tuple[str, str], str]()  # what `same` says of two
+        self.said = dict[tuple[str, str], str]()  # where two differ
         self.few = dict[str, list[str]]()  # the lines of small captures, which are listed once
         self.captures = self.named()
-        self.write()
+        for taken, capture in zip(runs, self.captures):
+            write_temporary(capture, taken.capture())
 
     def with_second(self, second: Taken) -> 'Trial':
         """Returns a trial of the first run and another second one."""
         folder = Path(tempfile.mkdtemp(dir=self.folder))
         return Trial(self.program, folder, [self.runs[0], second], self.progress)
 
-    def write(self) -> None:
-        for taken, capture in zip(self.runs, self.captures):
-            write_temporary(capture, taken.capture())
-
     def named(self) -> list[str]:
         """Returns two new names."""
         self.number += 1
         return [str(self.folder / f'{letter}{self.number}') for letter in RUN_LETTERS]
 
-    def made_of(self, captures: Sequence[str], how: str,
-                make: Callable[[Sequence[str], Sequence[str]], object]) -> list[str]:
-        """Returns the names of what is made of two captures in one way."""
+    def made_of(self, captures: Sequence[str], how: str, what: str,
+                command: Callable[[str, str], list[str]],
+                statuses: Mapping[int, str]) -> list[str]:
+        """Returns the names of what a program makes of two captures in one way."""
         key = how, *captures
         if key not in self.made:
-            names = self.named()
-            make(captures, names)
-            self.made[key] = names
+            self.progress.begin(what)
+            self.made[key] = self.named()
+            run_side_by_side([command(*one) for one in zip(captures, self.made[key])], statuses)
         return self.made[key]
 
     def masked(self, captures: Sequence[str], mask: Mask) -> list[str]:
-        return self.made_of(captures, mask_text(mask),
-                            lambda captures, names: self.mask(captures, names, mask))
+        """Returns the names of well-formed captures with masked values."""
+        program = program_beside(self.program, 'nfs3mask')
+        words = [f'{one}={mask[one].value if one in mask else "keep"}' for one in CLASSES_BY_NAME]
+        return self.made_of(captures, mask_text(mask), 'masking values',
+                            lambda capture, name: [program, capture, name, *words], MASKED)
 
-    def mask(self, captures: Sequence[str], names: Sequence[str], mask: Mask) -> None:
-        self.progress.begin('masking values')
-        run_side_by_side([self.masking(*one, mask) for one in zip(captures, names)], MASKED)
-
-    def masking(self, capture: str, name: str, mask: Mask) -> list[str]:
-        """Returns the command that writes a well-formed capture with masked values."""
-        words = (f'{one}={mask[one].value if one in mask else "keep"}' for one in CLASSES_BY_NAME)
-        return [program_beside(self.program, 'nfs3mask'), capture, name, *words]
-
-    def same(self, captures: Sequence[str], mask: Mask) -> str:
-        """Returns what the program says of two captures: `same`, or where they differ."""
+    def difference(self, captures: Sequence[str], mask: Mask) -> str:
+        """Returns where the program says that two captures differ, or nothing if it calls them the
+        same."""
         masked = self.masked(captures, mask)
         key = masked[0], masked[1]
         if key not in self.said:
             self.progress.begin('comparing both runs')
-            self.said[key] = run_program(self.program, ['same', *masked], COMPARED).out.strip()
+            said = run_program(self.program, ['same', *masked], COMPARED).out.strip()
+            self.said[key] = said.partition(' at ')[2]
         return self.said[key]
 
     def listing(self, capture: str) -> Listing:
@@ -112,26 +106,20 @@ class Trial:
             return lines
         return (with_connection(line, numbers[place_of(line).connection - 1]) for line in lines)
 
-    def placed(self, verdict: str) -> str:
-        """Returns what `same` says of both captures with the number that the connection has in the
-        first run, or else in the second."""
-        found = DIFFERING_CONNECTION.search(verdict)
-        place = int(found[1]) if found else 0
-        numbers = [taken.connections[place - 1].number for taken in self.runs
-                   if 0 < place <= len(taken.connections)]
-        return DIFFERING_CONNECTION.sub(f'connection {numbers[0]}', verdict,
-                                        1) if numbers else verdict
+    def placed(self, place: str) -> str:
+        """Returns where both captures differ with the number that the connection has in the first
+        run, or else in the second."""
+        found = CONNECTION_AT_FIRST.match(place)
+        numbers = [taken.connections[int(found[1]) - 1].number for taken in self.runs
+                   if int(found[1]) <= len(taken.connections)] if found else []
+        return CONNECTION_AT_FIRST.sub(f'connection {numbers[0]}', place) if numbers else place
 
     def canonical(self, captures: Sequence[str],
                   mask: Mask | None = None) -> tuple[Listing, Listing]:
         """Returns the listings of two captures in canonical form, under a mask if there is one."""
         masked = captures if mask is None else self.masked(captures, mask)
-
-        def make(captures: Sequence[str], names: Sequence[str]) -> None:
-            self.progress.begin('making the canonical form')
-            run_side_by_side([[self.program, 'canon', *one] for one in zip(captures, names)],
-                             CHECKED)
-        first, second = self.made_of(masked, 'canon', make)
+        first, second = self.made_of(masked, 'canon', 'making the canonical form', lambda *names: [
+            self.program, 'canon', *names], CHECKED)
         return self.listing(first), self.listing(second)
 
     def paired(self, masks: Sequence[Mask], lonely: frozenset[str]) -> Pairing:
