@@ -1,5 +1,5 @@
 -- Small captures are checked by computing.
-use Rattle.std.proofs.Common.{◌≡◌, ◌≢◌, ℕ, ◌+◌, Bool, true, false, ◌&&◌, List, [], ◌∷◌, ◌++◌, length, refl, arith, nat_lt, ltb-true}
+use Rattle.std.proofs.Common.{◌≡◌, ◌≢◌, ℕ, Bool, true, false, ◌&&◌, List, [], ◌∷◌, ◌++◌, length, refl, arith, nat_lt, ltb-true}
 use Rattle.canon3.proofs.Common.{nat_eq, list_any, Decides-eqb, Word, Entry, Begin, Call, Turn, Reply, Close, End, handles, verifiers, Member, here, there, IsHandle, IsVerifier, canonical, Same}
 use Rattle.canon3.proofs.Lemmas.Order.Order.{Stage, Between, InCalls, InReplies, Over, begin, call, turn, reply, close, end, Runs, stays, steps, IsWellFormed}
 use Rattle.canon3.proofs.Lemmas.Numbers.RankLemmas.{member_of_test}

@@ -5,7 +5,6 @@ use Rattle.xdr3.specs.Shape.{Shape, choose, hyper, fixed, write_verf, opaque, no
 use Rattle.xdr3.specs.Layout.{Layout, exactly, remaining, after}
 use Rattle.xdr3.proofs.Lemmas.Shapes.ShapeParts.{HasParts, Part, RowHasParts, opaque_part, parts_weaker, row_weaker, write_verf_part}
 use Rattle.rpc_head.specs.Messages.{procedure_in}
-use Rattle.xdr3.specs.Item.{called}
 use Rattle.capture3.specs.Capture.{total_size}
 use Rattle.procs3.proofs.HeadParts.{call_head_parts, reply_head_parts}
 use Rattle.procs3.proofs.ProcedureParts.{IsProtocolRow, arguments_have_parts, reply_has_parts}
