@@ -167,19 +167,19 @@ def what_does_not_count(place: Compared) -> None:
 
 def verdicts_in_words(place: Compared) -> None:
     """Pages of runs that are the same, in another order, and without calls."""
-    def wants(heading: str, remark: str, calls: str, *words: str) -> None:
+    place.put('a', NULLS)
+    place.put('b', NULLS, ([], []))
+    for heading, remark, calls, *words in (
+            ('are the same', 'Nothing differs but what is masked.',
+             '103 equal calls in 3 connections', FIRST, SECOND),
+            ('are the same in another order', 'Nothing differs but the order.',
+             '100 equal calls in 12 connections', *CONCURRENT[:2]),
+            ('differ', 'Only which messages share a value, or empty connections, can.',
+             '5 equal calls in 1 connection')):
         page = place.page(*words)
         place.want(heading, (page.texts('h1'), remark in page.text(),
                              page.all('section')[-1].text()),
                    ([f'The runs {heading}'], True, 'Calls' + calls))
-    wants('are the same', 'Nothing differs but what is masked.', '103 equal calls in 3 connections',
-          FIRST, SECOND)
-    wants('are the same in another order', 'Nothing differs but the order.',
-          '100 equal calls in 12 connections', *CONCURRENT[:2])
-    place.put('a', NULLS)
-    place.put('b', NULLS, ([], []))
-    wants('differ', 'Only which messages share a value, or empty connections, can.',
-          '5 equal calls in 1 connection')
     place.put('b', ([], []))
     place.want('no calls', (place.compare('--html', 'none', 'a', 'b')[0], place.read('none')),
                (2, None))
@@ -189,49 +189,43 @@ def glance_of(page: Node) -> str:
     return ''.join(page.texts('p', 'glance'))
 
 
-def glances(place: Compared, what: str, first: Conversation, second: Conversation,
-            *words: str) -> Node:
-    """Wants these words under the title of two runs. Returns the page."""
-    options = ['--order=strict'] if 'reordered' in words[0] else []
-    page = place.page_of(first, second, *options)
-    place.want(what, glance_of(page).split(' · '), [*words])
-    return page
+def listed(*names: bytes) -> Conversation:
+    """READDIR with some entries."""
+    some = entries(None, bytes(8), [entry(1, name, 0) for name in names], is_end=True)
+    return conversation_of([(READDIR, fh(b'top') + bytes(20), ok(some))])
 
 
 def at_a_glance(place: Compared) -> None:
-    """Under the title is what differs, with its paths."""
+    """Under the title is what differs, with its paths. Of values only those are shown that are the
+    same in all messages, known, and whole."""
     place.want('a recording', glance_of(place.page(FIRST, CHANGED)),
                'rtmax, rtpref, wtmax, .. of /mem (1 FSINFO reply)')
-    text, more = worked(SENTENCE), '1 SETATTR only in the second run: /hold/f1 mode 0640'
-    calls = '(1 WRITE, 2 READs)'
-    page = glances(place, 'data', text, worked(SENTENCE.replace(b'same', b'sAme'), 30),
-                 f'1 byte of /hold/f2 {calls}', more)
+    text, calls = worked(SENTENCE), '(1 WRITE, 2 READs)'
+    for first, second, *words in (
+            (text, worked(SENTENCE[:20], 30, 31), f'bytes of /hold/f2 {calls}',
+             '2 SETATTRs only in the second run: /hold/f1',
+             'count of /hold/f2: 82 → 20 (1 WRITE)',
+             'count of /hold/f2: 82 → 20 (3 replies to WRITE, READ)'),
+            (asked([0o640] * 3), asked([0o640, 0o600, 0o600]),
+             'obj.mode of 2 paths, the first /m/f1: 0640 → 0600 (2 GETATTR replies)'),
+            (asked([0o640] * 3), asked([0o641, 0o600, 0o600]),
+             'obj.mode of 3 paths, the first /m/f0 (3 GETATTR replies)'),
+            (link(b'x'), link(b'y', ACCES), 'status: NFS3_OK → NFS3ERR_ACCES (1 READLINK reply)'),
+            (link(b'x'), link(b'y'), 'path: "x" → "y" (1 READLINK reply)'),
+            (link(b'x' * 62), link(b'y'), 'path (1 READLINK reply)'),
+            (listed(b'a'), listed(b'a', b'b'), 'entry.name (1 READDIR reply)'),
+            (text, worked(SENTENCE.replace(b'same', b'sAme'), 30),
+             f'1 byte of /hold/f2 {calls}',
+             '1 SETATTR only in the second run: /hold/f1 mode 0640')):
+        page = place.page_of(first, second)
+        place.want(f'{words}', glance_of(page).split(' · '), words)
     place.want('paths', page.all('p', 'glance')[0].texts('code'), ['/hold/f2', '/hold/f1'])
     order = [node.tag for node in page.nodes()
              if node.tag in ('h1', 'section') or {'glance', 'about'} & set(node.classes)]
     place.want('order', order, ['h1', 'p', 'details', 'section', 'section', 'section'])
-    glances(place, 'several', text, worked(SENTENCE[:20], 30, 31), f'bytes of /hold/f2 {calls}',
-          '2 SETATTRs only in the second run: /hold/f1', 'count of /hold/f2: 82 → 20 (1 WRITE)',
-          'count of /hold/f2: 82 → 20 (3 replies to WRITE, READ)')
-
-
-def values_at_a_glance(place: Compared) -> None:
-    """Of values only those are shown that are the same in all messages, known, and whole."""
-    glances(place, 'fields', asked([0o640] * 3), asked([0o640, 0o600, 0o600]),
-          'obj.mode of 2 paths, the first /m/f1: 0640 → 0600 (2 GETATTR replies)')
-    glances(place, 'other values', asked([0o640] * 3), asked([0o641, 0o600, 0o600]),
-          'obj.mode of 3 paths, the first /m/f0 (3 GETATTR replies)')
-    glances(place, 'a status', link(b'x'), link(b'y', ACCES),
-          'status: NFS3_OK → NFS3ERR_ACCES (1 READLINK reply)')
-    glances(place, 'a path', link(b'x'), link(b'y'), 'path: "x" → "y" (1 READLINK reply)')
-    glances(place, 'a path that is cut', link(b'x' * 62), link(b'y'), 'path (1 READLINK reply)')
-    def listed(*names: bytes) -> Conversation:
-        some = entries(None, bytes(8), [entry(1, name, 0) for name in names], is_end=True)
-        return conversation_of([(READDIR, fh(b'top') + bytes(20), ok(some))])
-    glances(place, 'of one run', listed(b'a'), listed(b'a', b'b'), 'entry.name (1 READDIR reply)')
-    (calls_of, replies), turned = asked([1, 2, 3]), (1, 2, 5, 6, 3, 4)
-    glances(place, 'order', (calls_of, replies),
-            ([calls_of[0], *(calls_of[at] for at in turned)], replies), '2 calls reordered')
+    (made, replies), turned = asked([1, 2, 3]), (0, 1, 2, 5, 6, 3, 4)
+    page = place.page_of((made, replies), ([made[at] for at in turned], replies), '--order=strict')
+    place.want('turned', glance_of(page), '2 calls reordered')
     place.put('a', asked([0o640]), gets([0o640]))
     place.put('b', asked([0o600]), gets([0o600]))
     place.want('a path is not known', glance_of(place.page()),
@@ -249,16 +243,15 @@ def kinds_of_differences(place: Compared) -> None:
     place.put('b', asked([0o640, 0o600, 0o600]), gets([0o640, 0o604], [1]), link(b'y'))
     page = place.page()
     table = page.all('table')[1]
-    place.want('counts', table_of(table)[1:], [
-        ['GETATTR', 'obj.mode', '2 paths', '3'],
-        ['MKDIR', 'only in the second run', '/m/new1 0', '1'], ['READLINK', 'path', '', '1']])
-    place.want('how many', page.texts('h2')[1], '4 differences in 5 messages')
+    place.want('counts', (page.texts('h2')[1], table_of(table)[1:]), (
+        '4 differences in 5 messages', [
+            ['GETATTR', 'obj.mode', '2 paths', '3'],
+            ['MKDIR', 'only in the second run', '/m/new1 0', '1'], ['READLINK', 'path', '', '1']]))
     articles = {'#' + one.attributes['id']: one.text() for one in page.all('article')}
     links = [one.attributes['href'] for one in table.all('a')]
-    place.want('links', links, ['#f1', '#f3', '#f4'])
+    place.want('links', (links, broken_links(page)), (['#f1', '#f3', '#f4'], []))
     place.want('where they lead', [said in articles[name] for name, said in zip(
         links, ('obj.mode=0640 (416)', 'NFSPROC3_MKDIR', 'path='))], [True] * 3)
-    place.want('broken links', broken_links(page), [])
 
 
 def changes_of(node: Node) -> list[str]:
@@ -416,27 +409,26 @@ def equal(*records: int, more: int = 0) -> list[str]:
 
 def calls_around(place: Compared) -> None:
     """Three equal calls are before and after each finding, and between them how many are equal."""
-    def wants(what: str, first: Conversation, second: Conversation, *wanted: str) -> None:
-        place.put('a', first, NULLS)
-        place.put('b', second, NULLS)
-        place.want(what, rows_and_gaps(place.page()),
-                   [*wanted, '5 equal calls in 1 other connection'])
-    wants('near the ends', gets(with_modes(100)), gets(with_modes(100, 1, 99)), *equal(1), '≠ 2 2',
-          *equal(3, 4, 5), '91 equal calls', *equal(97, 98, 99), '≠ 100 100')
-    wants('near one another', gets(with_modes(20)), gets(with_modes(20, 5, 9, 16)), '2 equal calls',
-          *equal(3, 4, 5), '≠ 6 6', *equal(7, 8, 9), '≠ 10 10', *equal(11, 12, 13, 14, 15, 16),
-          '≠ 17 17', *equal(18, 19, 20))
-    wants('of the second run', gets(with_modes(100)), gets(with_modes(100), [20] * 30 + [70]),
-          '17 equal calls', *equal(18, 19, 20), *(f'+ {record}' for record in range(21, 51)),
-          *equal(21, 22, 23, more=30), '44 equal calls', *equal(68, 69, 70, more=30), '+ 101',
-          *equal(71, 72, 73, more=31), '27 equal calls')
-    wants('of the first run', gets(with_modes(9), [4]), gets(with_modes(9)), '1 equal call',
-          *equal(2, 3, 4), '- 5', *equal(6, 7, 8, more=-1), '2 equal calls')
     calls, replies = gets(with_modes(50, 40))
     more = conversation_of([(4, fh(b'file') + word(1), ok(post_op_attr(), word(1)))] * 6, 900)
-    wants('left out', (more[0] + calls, more[1] + replies), gets(with_modes(50)),
-          '37 equal calls, 6 calls of the first run left out', *equal(44, 45, 46, more=-6),
-          '≠ 47 41', *equal(48, 49, 50, more=-6), '6 equal calls')
+    for first, second, *wanted in (
+            (gets(with_modes(100)), gets(with_modes(100, 1, 30, 34, 41, 99)),
+             *equal(1), '≠ 2 2', *equal(3, 4, 5), '22 equal calls', *equal(28, 29, 30), '≠ 31 31',
+             *equal(32, 33, 34), '≠ 35 35', *equal(36, 37, 38, 39, 40, 41), '≠ 42 42',
+             *equal(43, 44, 45), '51 equal calls', *equal(97, 98, 99), '≠ 100 100'),
+            (gets(with_modes(100)), gets(with_modes(100), [20] * 30 + [70]),
+             '17 equal calls', *equal(18, 19, 20), *(f'+ {record}' for record in range(21, 51)),
+             *equal(21, 22, 23, more=30), '44 equal calls', *equal(68, 69, 70, more=30), '+ 101',
+             *equal(71, 72, 73, more=31), '27 equal calls'),
+            (gets(with_modes(9), [4]), gets(with_modes(9)), '1 equal call',
+             *equal(2, 3, 4), '- 5', *equal(6, 7, 8, more=-1), '2 equal calls'),
+            ((more[0] + calls, more[1] + replies), gets(with_modes(50)),
+             '37 equal calls, 6 calls of the first run left out', *equal(44, 45, 46, more=-6),
+             '≠ 47 41', *equal(48, 49, 50, more=-6), '6 equal calls')):
+        place.put('a', first, NULLS)
+        place.put('b', second, NULLS)
+        place.want(wanted[0], rows_and_gaps(place.page()),
+                   [*wanted, '5 equal calls in 1 other connection'])
 
 
 def calls_of_one_run(place: Compared) -> None:
