@@ -1,26 +1,17 @@
 """Tests of how much of two runs tools/compare says that it compared, in each form."""
-import html
-import re
 from collections import Counter
 from collections.abc import Callable, Sequence
 from typing import NamedTuple
+from xml.etree import ElementTree
 
 from examples.messages import NFS, NFSACL, call, dirop, fattr, fh, ok, post_op_attr, success, word
 from examples.packets import Talk, pcap
 
 from .comparisons import Conversation, conversation_of
-from .scripts import TOP, Tools, connection_of, stream
+from .pages import Node, table_of, tree_of
+from .scripts import TOP, Tools, connection_of, stream, sums
 
-GETATTR, LOOKUP = 1, 3
-WORDS = ('ok', 'refused', 'in part', 'left out', 'not checked', 'errors')
-
-
-class Connection(NamedTuple):
-    """A connection, under which words it counts, and the option that allows it."""
-    frames: list[bytes]
-    counts: dict[str, int]
-    allowed_by: str | None = None
-    raw: dict[str, int] = {}
+GETATTR, LOOKUP, RAW = 1, 3, 'NFSACL GETACL'
 
 
 def calls(number: int = 3, name: bytes = b'x') -> Conversation:
@@ -30,53 +21,49 @@ def calls(number: int = 3, name: bytes = b'x') -> Conversation:
         *[(GETATTR, fh(name), ok(fattr(1, 5)))] * (number - 1)])
 
 
-def whole(port: int) -> Connection:
-    return Connection(connection_of(*calls(), port=port), {'ok': 1})
-
-
-def lossy(port: int) -> Connection:
-    """One with a segment that is missing, of a call and a half."""
+def lossy(port: int) -> list[bytes]:
+    """A segment is missing, of a call and a half."""
     frames = connection_of(*calls(16), 8, port=port)
-    return Connection(frames[:5] + frames[6:], {'in part': 1}, '--allow-losses')
+    return frames[:5] + frames[6:]
 
 
-def without_its_calls(port: int) -> Connection:
-    """One without a SYN and without calls, which is left out."""
-    talk = Talk(port)
-    return Connection([talk.sent(1, stream(calls()[1]))], {'left out': 1}, '--allow-losses')
-
-
-def of_version_4(port: int) -> Connection:
-    bodies = [call(1, NFS, 3, 0), call(2, NFS, 4, 1, b'compound')], [success(1), success(2)]
-    return Connection(connection_of(*bodies, port=port), {'not checked': 1}, '--allow-not-checked')
-
-
-def refused(port: int) -> Connection:
+def refused(port: int) -> list[bytes]:
     asked, replies = calls()
-    bad = [replies[0], success(2, word(77)), replies[2]]
-    return Connection(connection_of(asked, bad, port=port), {'refused': 1})
+    return connection_of(asked, [replies[0], success(2, word(77)), replies[2]], port=port)
 
 
-def of_http(port: int) -> Connection:
-    """One that is no RPC, which is left out and changes no status."""
+def of_http(port: int) -> list[bytes]:
     talk = Talk(port, 80)
-    frames = [*talk.opened(), talk.sent(0, b'GET / HTTP/1.1\r\n\r\n'),
-              talk.sent(1, b'HTTP/1.1 200 OK\r\n\r\n'), *talk.closed()]
-    return Connection(frames, {'left out': 1, 'without calls': 1}, '')
+    return [*talk.opened(), talk.sent(0, b'GET / HTTP/1.1\r\n\r\n'),
+            talk.sent(1, b'HTTP/1.1 200 OK\r\n\r\n'), *talk.closed()]
 
 
-def with_acls(port: int) -> Connection:
-    """One with calls of another program beside those that are judged."""
+def with_acls(port: int) -> list[bytes]:
+    """Calls of another program are beside those that are judged."""
     asked, replies = calls()
     more = call(8, NFSACL, 3, 1, fh(b'x') + word(0)), success(8, word(5))
-    frames = connection_of([*asked, more[0]], [*replies, more[1]], port=port)
-    return Connection(frames, {'ok': 1}, '', {'NFSACL GETACL': 1})
+    return connection_of([*asked, more[0]], [*replies, more[1]], port=port)
 
 
-KINDS: dict[str, Callable[[int], Connection]] = {
-    'whole': whole, 'lossy': lossy, 'without its calls': without_its_calls,
-    'version 4': of_version_4, 'refused': refused, 'HTTP': of_http,
-    'ACLs': with_acls}
+class Kind(NamedTuple):
+    """A kind of connections: its frames from a port, its counts, and the option that allows it."""
+    frames: Callable[[int], list[bytes]]
+    counts: dict[str, int]
+    allowed_by: str | None = ''
+
+
+VERSION_4 = [call(1, NFS, 3, 0), call(2, NFS, 4, 1, b'compound')], [success(1), success(2)]
+KINDS = {
+    'whole': Kind(lambda port: connection_of(*calls(), port=port), {'ok': 1}),
+    'lossy': Kind(lossy, {'in part': 1}, '--allow-losses'),
+    # (one without a SYN)
+    'without its calls': Kind(lambda port: [Talk(port).sent(1, stream(calls()[1]))],
+                              {'left out': 1}, '--allow-losses'),
+    'version 4': Kind(lambda port: connection_of(*VERSION_4, port=port), {'not checked': 1},
+                      '--allow-not-checked'),
+    'refused': Kind(refused, {'refused': 1}, None),
+    'HTTP': Kind(of_http, {'left out': 1, 'without calls': 1}),
+    'ACLs': Kind(with_acls, {'ok': 1, RAW: 1})}
 OPTIONS = ('--allow-losses', '--allow-not-checked')
 
 
@@ -85,122 +72,82 @@ class Covers(Tools):
 
     def put(self, name: str, kinds: Sequence[str]) -> Counter[str]:
         """Writes a recording, and returns the counts that it has to have."""
-        connections = [KINDS[kind](700 + number) for number, kind in enumerate(kinds)]
-        self.write(name, pcap(frame for one in connections for frame in one.frames))
-        counts = Counter[str]()
-        for one in connections:
-            counts.update(one.counts)
-            counts.update({f'raw {what}': number for what, number in one.raw.items()})
-        return counts
+        self.write(name, pcap(frame for port, kind in enumerate(kinds, 700)
+                              for frame in KINDS[kind].frames(port)))
+        counts = sum((Counter(KINDS[kind].counts) for kind in kinds), Counter[str]())
+        return counts + Counter(judged=counts['ok'] + counts['refused'])
 
     def compare(self, *words: str) -> tuple[int, list[str], str]:
         status, out, error = self.tool('compare', *words)
         return status, out.splitlines(), error
 
-    def of_json(self) -> list[Counter[str]]:
-        """The counts of both runs in the JSON that was written."""
-        found = self.json('out.json')
-        return [counts_of({**{key: value for key, value in run['counts'].items() if key != 'raw'},
-                           **{f'raw {what}': number
-                              for what, number in run['counts']['raw'].items()}})
-                for run in found['runs']]
-
-    def junit(self) -> list[Counter[str]]:
-        root = self.xml('out.xml')
-        return [counts_of(
-            {one.attrib['name'].removeprefix(f'{run} run: ').replace('raw: ', 'raw '): int(
-                one.attrib['value'])
-             for one in root.iter('property') if one.attrib['name'].startswith(run)})
-                for run in ('first', 'second')]
-
-    def page(self) -> list[Counter[str]]:
-        """The counts in the table at the top of the page."""
-        table = (self.read('out.html') or b'').decode().partition('<table class=runs>')[
-            2].partition('</table>')[0]
-        rows = {name: [html.unescape(cell) for cell in re.findall('<td>(.*?)</td>', cells)]
-                for name, cells in re.findall('<tr><th>(.*?)</th>(.*?)</tr>', table)}
-        raw = [dict(reversed(one.split(' ', 1)) for one in cell.split(', ') if cell != 'nothing')
-               for cell in rows.get('raw', ['nothing'] * 2)]
-        return [counts_of({**{name: int(cells[at]) for name, cells in rows.items()
-                              if name in (*WORDS, 'judged', 'without calls')},
-                           **{f'raw {what}': int(number) for what, number in raw[at].items()}})
-                for at in (0, 1)]
+    def compared(self, *words: str) -> tuple[int, list[str], ElementTree.Element, Node]:
+        """The status, the lines, JUnit and the page of two runs. JSON is in `out.json`."""
+        status, out, error = self.compare(*words, '--html', 'page.html', '--json', 'out.json',
+                                          '--junit', 'out.xml', 'a', 'b')
+        self.want(f'{words}: error', 'Traceback' in error, False)
+        return status, out, self.xml('out.xml'), tree_of((self.read('page.html') or b'').decode())
 
 
-def counts_of(found: dict[str, int]) -> Counter[str]:
-    """The counts that are not 0, without the sum of two of them, which has to be right."""
-    if found.get('judged', -1) != found['ok'] + found['refused']:
-        return Counter({'a wrong sum': 1})
-    return Counter({name: number for name, number in found.items() if number and name != 'judged'})
-
-
-LINE = re.compile(r'(both runs|first run|second run): (\d+) judged \((\d+) ok, (\d+) refused\), '
-                  r'(\d+) in part, (\d+) left out'
-                  r'(?: \((\d+) without a call\))?, (\d+) not checked, (\d+) errors(?:; (.*) raw)?')
-
-
-def in_text(lines: Sequence[str]) -> list[Counter[str]]:
-    """The counts of both runs in the lines that are printed."""
-    found = list[Counter[str]]()
-    for read in filter(None, map(LINE.fullmatch, lines)):
-        raw = {f'raw {what}': int(number)
-               for number, what in re.findall(r'(\d+) ([^,]+)', read[10] or '')}
-        names = ('judged', 'ok', 'refused', 'in part', 'left out', 'without calls', 'not checked',
-                 'errors')
-        counts = counts_of({**dict(zip(names, (int(number or 0) for number in read.groups()[1:9]))),
-                            **raw})
-        found += [counts] * (2 if read[1] == 'both runs' else 1)
-    return found
+def line_of(counts: Counter[str]) -> str:
+    return sums(counts['ok'], counts['in part'], counts['refused'], 0, counts['left out'],
+                counts['not checked'], counts['without calls'], f'1 {RAW}' if counts[RAW] else '')
 
 
 RUNS: list[tuple[Sequence[str], Sequence[str]]] = [
     (['whole'], ['whole']), (['whole', 'lossy', 'without its calls'], ['whole']),
     (['refused', 'whole', 'version 4'],) * 2, (['whole', 'HTTP'], ['whole', 'ACLs']),
-    (['whole', 'lossy', 'without its calls', 'version 4', 'refused', 'HTTP', 'ACLs'],) * 2]
+    ([*KINDS],) * 2]
 
 
 def the_counts_in_each_form(place: Covers) -> None:
     """The counts stand in text, JSON, JUnit and on the page."""
-    for first, second in RUNS:
-        wanted = [place.put('a', first), place.put('b', second)]
+    for runs in RUNS:
+        wanted = [place.put(name, kinds) for name, kinds in zip('ab', runs)]
+        lines = [line_of(counts) for counts in wanted]
         for words in ([], ['--mask', 'none', '--order', 'any']):
-            what = f'{first} {second} {words}'
-            status, out, error = place.compare(*words, '--html', 'out.html', '--json', 'out.json',
-                                               '--junit', 'out.xml', 'a', 'b')
-            place.want(f'{what}: status', (status in (0, 1, 2), 'Traceback' in error),
-                       (True, False))
-            place.want(f'{what}: text', in_text(out), wanted)
-            place.want(f'{what}: JSON', place.of_json(), wanted)
-            place.want(f'{what}: JUnit', place.junit(), wanted)
-            place.want(f'{what}: page', place.page(), wanted)
+            _, out, suites, page = place.compared(*words)
+            place.want(f'{runs} {words}: text',
+                       [line for line in out if ' judged (' in line],
+                       [f'both runs: {lines[0]}'] if lines[0] == lines[1] else [
+                           f'{name} run: {line}' for name, line in zip(('first', 'second'), lines)])
+            table = page.all('table', 'runs')[0]
+            rows = {row[0]: row[1:] for row in table_of(table)}
+            for at, (name, counts) in enumerate(zip(('first', 'second'), wanted)):
+                found = place.json('out.json')['runs'][at]['counts']
+                properties = Counter({
+                    one.attrib['name'].removeprefix(f'{name} run: ').removeprefix('raw: '):
+                    int(one.attrib['value']) for one in suites.iter('property')
+                    if one.attrib['name'].startswith(name)})
+                raw = rows.get('raw', ['nothing'] * 2)[at].replace(f'1 {RAW}', '1')
+                cells = Counter({word: int(cell[at]) for word, cell in rows.items() if word in (
+                    'judged', *(one for kind in KINDS.values() for one in kind.counts))})
+                for form, said in (('JSON', Counter({**found, **found['raw'], 'raw': 0})),
+                                   ('JUnit', properties),
+                                   ('page', cells + Counter({RAW: int(raw == '1')}))):
+                    place.want(f'{runs} {words}: {form}', +said, counts)
 
 
 def words_and_statuses(place: Covers) -> None:
     """Each count decides verdict and status by its own option, in each form."""
-    for kind, make in KINDS.items():
-        allowed_by = make(700).allowed_by
-        for name in 'ab':
-            place.put(name, ['whole', kind])
-        is_whole = kind == 'whole' or allowed_by == ''
-        word = 'same' if is_whole else 'same in part'
-        others = [one for one in OPTIONS if one != allowed_by]
+    for name, kind in KINDS.items():
+        place.put('a', ['whole', name])
+        place.put('b', ['whole', name])
+        is_whole = name == 'whole' or kind.allowed_by == ''
+        word, look = ('same', 'same') if is_whole else ('same in part', 'part')
+        others = [one for one in OPTIONS if one != kind.allowed_by]
         for allowed in ([[]] if is_whole else [[], others, [*OPTIONS]]):
-            what, is_allowed = f'{kind} {allowed}', is_whole or allowed_by in allowed
-            wanted = 2 if kind == 'refused' else 0 if is_allowed else 1
-            status, out, _ = place.compare(*allowed, '--html', 'out.html', '--json', 'out.json',
-                                           '--junit', 'out.xml', 'a', 'b')
-            place.want(what, (status, out[1].partition(':')[0]), (wanted, word))
-            found = place.json('out.json')['verdict']
-            place.want(f'{what}: JSON', found, word)
-            heading = re.findall('<h1.*?</h1>', (place.read('out.html') or b'').decode())
-            look = 'same' if is_whole else 'part'
-            place.want(f'{what}: page', heading, [f'<h1 class={look}>The runs are the {word}</h1>'])
-            suite = place.xml('out.xml')
-            cases = {case.attrib['name']: [one.tag for one in case if one.tag != 'system-out']
-                     for case in suite.iter('testcase')}
-            errors = [tag for tags in cases.values() for tag in tags if tag == 'error']
-            place.want(f'{what}: JUnit', (cases['the runs are the same'], errors),
-                       (['failure'] if wanted else [], ['error'] * (2 if kind == 'refused' else 0)))
+            is_allowed = is_whole or kind.allowed_by in allowed
+            wanted = 2 if name == 'refused' else 0 if is_allowed else 1
+            status, out, suites, page = place.compared(*allowed)
+            tags = {case.attrib['name']: [one.tag for one in case if one.tag != 'system-out']
+                    for case in suites.iter('testcase')}
+            place.want(f'{name} {allowed}', (
+                status, out[1].partition(':')[0], place.json('out.json')['verdict'],
+                [(one.classes, one.text()) for one in page.all('h1')],
+                tags['the runs are the same'], [*tags.values()].count(['error'])),
+                (wanted, word, word, [([look], f'The runs are the {word}')],
+                 ['failure'] if wanted else [], 2 * (name == 'refused')))
 
 
 def what_is_not_compared(place: Covers) -> None:
@@ -253,7 +200,7 @@ def nothing_to_compare(place: Covers) -> None:
 
 def recordings_that_end_early(place: Covers) -> None:
     """One that is cut is compared in part, and a damaged one has status 2."""
-    content = pcap(whole(700).frames + whole(701).frames)
+    content = pcap(KINDS['whole'].frames(700) + KINDS['whole'].frames(701))
     place.write('a', content[:-5])
     status, out, _ = place.compare('a', 'a')
     place.want('cut', (status, out[1].partition(':')[0]), (1, 'same in part'))

@@ -31,27 +31,35 @@ SET = ('set_mode set.mode set_uid set.uid set_gid set.gid set_size set.size set_
        'set.mtime_nsec')
 
 
-def of(owner: str, names: str) -> list[str]:
-    return [f'{owner}.{name}' for name in names.split()]
-
-
 def attr(owner: str) -> list[str]:
     """post_op_attr with attributes."""
-    return of(owner, 'attr ' + ATTRIBUTES)
+    return [f'{owner}.{name}' for name in ('attr', *ATTRIBUTES.split())]
 
 
 def change(owner: str) -> list[str]:
     """wcc_data with attributes before and after."""
-    return [f'{owner}.before',
-            *of(f'{owner} before', 'size mtime_sec mtime_nsec ctime_sec ctime_nsec'),
+    before = 'size mtime_sec mtime_nsec ctime_sec ctime_nsec'.split()
+    return [f'{owner}.before', *(f'{owner} before.{name}' for name in before),
             *attr(f'{owner} after')]
 
 
-def listed(name: str) -> list[str]:
+def listed(owner: str) -> list[str]:
     """An entry of READDIRPLUS with attributes and a handle."""
-    owner = f'entry "{name}"'
-    return ['entry', f'{owner} listed.fileid', *of(owner, 'name cookie'), *attr(owner),
-            *of(owner, 'handle fh')]
+    return ['entry', f'{owner} listed.fileid', f'{owner}.name', f'{owner}.cookie', *attr(owner),
+            f'{owner}.handle', f'{owner}.fh']
+
+
+# What the last character of a word in a row stands for, after the name of its owner.
+PARTS = {'?': attr, '!': change, '-': lambda owner: change(owner)[:6], '+': listed}
+
+
+def labels_in(text: str) -> list[str]:
+    """The labels of a row, in which `~` stands for a space."""
+    out = list[str]()
+    for one in text.replace('SET', SET).replace('~', '\0').split():
+        one = one.replace('\0', ' ')
+        out += PARTS[one[-1]](one[:-1]) if one[-1] in PARTS else [one]
+    return out
 
 
 A, W = post_op_attr(FILE), wcc(4, FILE)
@@ -61,84 +69,68 @@ ENTRIES = messages.entries(FOLDER, VERIFIER,
 ENTRIES_PLUS = messages.entries(FOLDER, VERIFIER, [
     messages.entryplus(1, b'a.b', 2, FILE, H), messages.entryplus(3, b'c', 4),
     messages.entryplus(5, b'd"', 6, FOLDER, H)], is_end=True)
-MADE = ['handle', 'fh', *attr('obj'), *change('dir')]
+NAMED, BOTH = dirop(H, b'a'), dirop(H, b'a') + dirop(H, b'b')
+OF_OBJECT = ' '.join(f'obj.{name}' for name in ATTRIBUTES.split())
 
 # Of each procedure its arguments, the results of a success and those of a failure, and the labels
 # of each of the three.
-Row = tuple[bytes, bytes, bytes | None, Sequence[str], Sequence[str], Sequence[str]]
-NFS_ROWS: dict[int, Row] = {
-    0: (b'', b'', None, [], [], []),
-    1: (fh(H), FILE, b'', ['fh'], of('obj', ATTRIBUTES), []),
-    2: (fh(H) + SETTINGS + guard(NOW), W, W, ['fh', *SET.split(), 'check', 'guard.ctime_sec',
-                                              'guard.ctime_nsec'], change('obj'),
-        change('obj')),
-    3: (dirop(H, b'a'), fh(H) + A + A, A, ['fh', 'name'], ['fh', *attr('obj'), *attr('dir')],
-        attr('dir')),
-    4: (fh(H) + word(1), A + word(1), A, ['fh', 'access'], [*attr('obj'), 'access'], attr('obj')),
-    5: (fh(H), A + opaque(b'p'), A, ['fh'], [*attr('obj'), 'path'], attr('obj')),
-    6: (fh(H) + hyper(1) + word(2), A + word(2) + word(1) + opaque(b'hi'), A,
-        ['fh', 'offset', 'count'], [*attr('obj'), 'count', 'eof', 'data'], attr('obj')),
-    7: (fh(H) + hyper(1) + word(2) + word(0) + opaque(b'hi'), W + word(2) + word(0) + VERIFIER, W,
-        ['fh', 'offset', 'count', 'stable', 'data'], [*change('obj'), 'count', 'committed', 'verf'],
-        change('obj')),
-    8: (dirop(H, b'a') + how(UNCHECKED, SETTINGS), NEW, W, ['fh', 'name', 'how', *SET.split()],
-        MADE, change('dir')),
-    9: (dirop(H, b'a') + SETTINGS, NEW, W, ['fh', 'name', *SET.split()], MADE, change('dir')),
-    10: (dirop(H, b'a') + SETTINGS + opaque(b'p'), NEW, W, ['fh', 'name', *SET.split(), 'path'],
-         MADE, change('dir')),
-    11: (dirop(H, b'a') + word(BLK) + SETTINGS + word(1) + word(2), NEW, W,
-         ['fh', 'name', 'type', *SET.split(), 'spec1', 'spec2'], MADE, change('dir')),
-    12: (dirop(H, b'a'), W, W, ['fh', 'name'], change('dir'), change('dir')),
-    13: (dirop(H, b'a'), W, W, ['fh', 'name'], change('dir'), change('dir')),
-    14: (dirop(H, b'a') + dirop(H, b'b'), W + W, W + W,
-         ['from.fh', 'from.name', 'to.fh', 'to.name'],
-         [*change('from-dir'), *change('to-dir')], [*change('from-dir'), *change('to-dir')]),
-    15: (fh(H) + dirop(H, b'a'), A + W, A + W, ['file.fh', 'link.fh', 'link.name'],
-         [*attr('file'), *change('dir')], [*attr('file'), *change('dir')]),
-    16: (fh(H) + hyper(0) + bytes(8) + word(9), ENTRIES, A, ['fh', 'cookie', 'cookieverf', 'count'],
-         [*attr('dir'), 'cookieverf', 'entry', *of('entry "a.b"', 'fileid name cookie'), 'entry',
-          *of('entry "c"', 'fileid name cookie'), 'entry', 'eof'], attr('dir')),
-    17: (fh(H) + hyper(0) + bytes(8) + word(9) + word(9), ENTRIES_PLUS, A,
-         ['fh', 'cookie', 'cookieverf', 'dircount', 'maxcount'],
-         [*attr('dir'), 'cookieverf', *listed('a.b'), 'entry', 'entry "c" listed.fileid',
-          *of('entry "c"', 'name cookie attr handle'),
-          *listed('d\\x22'), 'entry', 'eof'], attr('dir')),
-    18: (fh(H), A + bytes(52), A, ['fh'],
-         [*attr('obj'), *'tbytes fbytes abytes tfiles ffiles afiles invarsec'.split()],
-         attr('obj')),
-    19: (fh(H), A + bytes(48), A, ['fh'], [*attr('obj'), 'rtmax', 'rtpref', 'rtmult', 'wtmax',
-                                           'wtpref', 'wtmult', 'dtpref', 'maxfilesize',
-                                           'delta_sec', 'delta_nsec', 'properties'], attr('obj')),
-    20: (fh(H), A + bytes(24), A, ['fh'], [*attr('obj'), 'linkmax', 'name_max', 'no_trunc',
-                                           'chown_restricted', 'case_insensitive',
-                                           'case_preserving'], attr('obj')),
-    21: (fh(H) + hyper(0) + word(0), W + VERIFIER, W, ['fh', 'offset', 'count'],
-         [*change('obj'), 'verf'], change('obj'))}
-MOUNT_ROWS: dict[int, Row] = {
-    0: (b'', b'', None, [], [], []),
-    1: (opaque(b'/a'), fh(H) + messages.array([word(1), word(6)]), b'', ['dirpath'],
-        ['fh', 'flavors', 'flavor', 'flavor'], []),
-    2: (b'', messages.mountlist([(b'h', b'/a'), (b'i', b'/b')]), None, [],
-        ['entry', 'entry 1.hostname', 'entry 1.directory', 'entry', 'entry 2.hostname',
-         'entry 2.directory', 'entry'], []),
-    3: (opaque(b'/a'), b'', None, ['dirpath'], [], []),
-    4: (b'', b'', None, [], [], []),
-    5: (b'', messages.exports([(b'/a', []), (b'/b', [b'g', b'h'])]), None, [],
-        ['entry', 'entry 1.directory', 'entry 1.group', 'entry', 'entry 2.directory',
-         'entry 2.group', 'entry 2 group 1.name',
-         'entry 2.group', 'entry 2 group 2.name', 'entry 2.group', 'entry'], [])}
-# Messages with fewer parts, and those that are not accepted.
-OTHERS: list[tuple[int, bytes, bytes, Sequence[str], Sequence[str]]] = [
-    (2, fh(H) + sattr() + guard(), ok(wcc()), ['fh', 'set_mode', 'set_uid', 'set_gid', 'set_size',
-                                               'set_atime', 'set_mtime', 'check'],
-     ['status', 'obj.before', 'obj after.attr']),
-    (8, dirop(H, b'a') + how(EXCLUSIVE, VERIFIER), ok(made(None, None, wcc(4))),
-     ['fh', 'name', 'how', 'createverf'],
-     ['status', 'handle', 'obj.attr', *change('dir')[:6], 'dir after.attr']),
-    (14, dirop(H, b'a') + dirop(H, b'b'), failed(NOENT, wcc(None, FILE), wcc(4)),
-     ['from.fh', 'from.name', 'to.fh', 'to.name'],
-     ['status', 'from-dir.before', *attr('from-dir after'), *change('to-dir')[:6],
-      'to-dir after.attr'])]
+Row = tuple[bytes, bytes, bytes | None, str, str, str]
+NFS_ROWS: list[Row] = [
+    (b'', b'', None, '', '', ''),
+    (fh(H), FILE, b'', 'fh', OF_OBJECT, ''),
+    (fh(H) + SETTINGS + guard(NOW), W, W, 'fh SET check guard.ctime_sec guard.ctime_nsec', 'obj!',
+     'obj!'),
+    (NAMED, fh(H) + A + A, A, 'fh name', 'fh obj? dir?', 'dir?'),
+    (fh(H) + word(1), A + word(1), A, 'fh access', 'obj? access', 'obj?'),
+    (fh(H), A + opaque(b'p'), A, 'fh', 'obj? path', 'obj?'),
+    (fh(H) + hyper(1) + word(2), A + word(2) + word(1) + opaque(b'hi'), A, 'fh offset count',
+     'obj? count eof data', 'obj?'),
+    (fh(H) + hyper(1) + word(2) + word(0) + opaque(b'hi'), W + word(2) + word(0) + VERIFIER, W,
+     'fh offset count stable data', 'obj! count committed verf', 'obj!'),
+    (NAMED + how(UNCHECKED, SETTINGS), NEW, W, 'fh name how SET', 'handle fh obj? dir!', 'dir!'),
+    (NAMED + SETTINGS, NEW, W, 'fh name SET', 'handle fh obj? dir!', 'dir!'),
+    (NAMED + SETTINGS + opaque(b'p'), NEW, W, 'fh name SET path', 'handle fh obj? dir!', 'dir!'),
+    (NAMED + word(BLK) + SETTINGS + word(1) + word(2), NEW, W, 'fh name type SET spec1 spec2',
+     'handle fh obj? dir!', 'dir!'),
+    (NAMED, W, W, 'fh name', 'dir!', 'dir!'),
+    (NAMED, W, W, 'fh name', 'dir!', 'dir!'),
+    (BOTH, W + W, W + W, 'from.fh from.name to.fh to.name', 'from-dir! to-dir!',
+     'from-dir! to-dir!'),
+    (fh(H) + NAMED, A + W, A + W, 'file.fh link.fh link.name', 'file? dir!', 'file? dir!'),
+    (fh(H) + hyper(0) + bytes(8) + word(9), ENTRIES, A, 'fh cookie cookieverf count',
+     'dir? cookieverf entry entry~"a.b".fileid entry~"a.b".name entry~"a.b".cookie entry '
+     'entry~"c".fileid entry~"c".name entry~"c".cookie entry eof', 'dir?'),
+    (fh(H) + hyper(0) + bytes(8) + word(9) + word(9), ENTRIES_PLUS, A,
+     'fh cookie cookieverf dircount maxcount', 'dir? cookieverf entry~"a.b"+ entry '
+     'entry~"c"~listed.fileid entry~"c".name entry~"c".cookie entry~"c".attr entry~"c".handle '
+     'entry~"d\\x22"+ entry eof', 'dir?'),
+    (fh(H), A + bytes(52), A, 'fh', 'obj? tbytes fbytes abytes tfiles ffiles afiles invarsec',
+     'obj?'),
+    (fh(H), A + bytes(48), A, 'fh', 'obj? rtmax rtpref rtmult wtmax wtpref wtmult dtpref '
+     'maxfilesize delta_sec delta_nsec properties', 'obj?'),
+    (fh(H), A + bytes(24), A, 'fh', 'obj? linkmax name_max no_trunc chown_restricted '
+     'case_insensitive case_preserving', 'obj?'),
+    (fh(H) + hyper(0) + word(0), W + VERIFIER, W, 'fh offset count', 'obj! verf', 'obj!')]
+MOUNT_ROWS: list[Row] = [
+    (b'', b'', None, '', '', ''),
+    (opaque(b'/a'), fh(H) + messages.array([word(1), word(6)]), b'', 'dirpath',
+     'fh flavors flavor flavor', ''),
+    (b'', messages.mountlist([(b'h', b'/a'), (b'i', b'/b')]), None, '',
+     'entry entry~1.hostname entry~1.directory entry entry~2.hostname entry~2.directory entry', ''),
+    (opaque(b'/a'), b'', None, 'dirpath', '', ''),
+    (b'', b'', None, '', '', ''),
+    (b'', messages.exports([(b'/a', []), (b'/b', [b'g', b'h'])]), None, '',
+     'entry entry~1.directory entry~1.group entry entry~2.directory entry~2.group '
+     'entry~2~group~1.name entry~2.group entry~2~group~2.name entry~2.group entry', '')]
+# Messages with fewer parts.
+OTHERS: list[tuple[int, bytes, bytes, str, str]] = [
+    (2, fh(H) + sattr() + guard(), ok(wcc()),
+     'fh set_mode set_uid set_gid set_size set_atime set_mtime check',
+     'status obj.before obj~after.attr'),
+    (8, NAMED + how(EXCLUSIVE, VERIFIER), ok(made(None, None, wcc(4))), 'fh name how createverf',
+     'status handle obj.attr dir- dir~after.attr'),
+    (14, BOTH, failed(NOENT, wcc(None, FILE), wcc(4)), 'from.fh from.name to.fh to.name',
+     'status from-dir.before from-dir~after? to-dir- to-dir~after.attr')]
 
 
 def of_exchange(place: Findings, program: int, procedure: int, arguments: bytes,
@@ -164,48 +156,42 @@ def all_fields(message: Message) -> dict[str, str]:
 
 def labels_of_every_procedure(place: Findings) -> None:
     """Whose each item is, of all procedures, by the names of RFC 1813, sections 3.3 and 5.2."""
-    rows = [(NFS, number, row) for number, row in NFS_ROWS.items()] + [
-        (MOUNT, number, row) for number, row in MOUNT_ROWS.items()]
-    place.want('rows', [number for _, number, _ in rows], [*range(22), *range(6)])
-    for program, number, (arguments, done, wrong, *labels) in rows:
-        has_status = wrong is not None
-        replies = [ok(done), failed(NOENT, wrong)] if wrong is not None else [done]
-        found = [labels_of(message) for message in of_exchange(place, program, number, arguments,
-                                                               [success(7, reply)
-                                                                for reply in replies])]
-        wanted = [CREDENTIAL.split() + [*labels[0]]]
-        wanted += [ACCEPTED.split() + ['status'] * has_status + [*each]
-                   for each in labels[1:1 + len(replies)]]
-        place.want(f'program {program}, procedure {number}', found, wanted)
+    place.want('rows', (len(NFS_ROWS), len(MOUNT_ROWS)), (22, 6))
+    for program, rows in ((NFS, NFS_ROWS), (MOUNT, MOUNT_ROWS)):
+        for number, (arguments, done, wrong, asked, *answered) in enumerate(rows):
+            replies = [done] if wrong is None else [ok(done), failed(NOENT, wrong)]
+            found = [labels_of(message) for message in of_exchange(
+                place, program, number, arguments, [success(7, reply) for reply in replies])]
+            head = ACCEPTED.split() + ['status'] * (wrong is not None)
+            place.want(f'program {program}, procedure {number}', found, [
+                CREDENTIAL.split() + labels_in(asked),
+                *(head + labels_in(words) for _, words in zip(replies, answered))])
 
 
 def labels_of_fewer_parts(place: Findings) -> None:
-    for number, arguments, reply, asked, answered in OTHERS:
-        found = [labels_of(message)[-len(wanted):] for message, wanted in zip(
-            of_exchange(place, NFS, number, arguments, [success(7, reply)]), (asked, answered))]
-        place.want(f'procedure {number}', found, [[*asked], [*answered]])
+    for number, arguments, reply, *words in OTHERS:
+        wanted = [labels_in(some) for some in words]
+        found = of_exchange(place, NFS, number, arguments, [success(7, reply)])
+        place.want(f'procedure {number}', [labels_of(message)[-len(some):]
+                                           for message, some in zip(found, wanted)], wanted)
     rejected = [word(7) + word(1) + word(1) + word(0) + word(2) + word(2),
                 word(7) + word(1) + word(1) + word(1) + word(5),
                 word(7) + word(1) + word(0) + bytes(8) + word(2) + word(3) + word(3)]
-    found = [labels_of(message) for message in of_exchange(place, NFS, 3, dirop(H, b'a'),
-                                                           rejected)[1:]]
-    place.want('replies that have no results', found, [
-        ['mtype', 'reply_stat', 'reject_stat', 'low', 'high'],
-        ['mtype', 'reply_stat', 'reject_stat', 'auth_stat'],
-        ['mtype', 'reply_stat', 'verf_flavor', 'verf_body', 'accept_stat', 'low', 'high']])
-    found = [labels_of(message)[-1]
-             for message in of_exchange(place, NFSACL, 1, fh(H), [success(7, word(0))])]
-    place.want('raw', found, ['rest', 'rest'])
-    no_credential = place.put('a', ([call(7, NFS, 3, 0)], []))
+    place.want('replies that have no results', [' '.join(labels_of(message)) for message in
+                                                of_exchange(place, NFS, 3, NAMED, rejected)[1:]], [
+        'mtype reply_stat reject_stat low high', 'mtype reply_stat reject_stat auth_stat',
+        'mtype reply_stat verf_flavor verf_body accept_stat low high'])
+    raw = of_exchange(place, NFSACL, 1, fh(H), [success(7, word(0))])
+    place.want('raw', [labels_of(message)[-1] for message in raw], ['rest', 'rest'])
+    place.put('a', ([call(7, NFS, 3, 0)], []))
     place.want('without a credential',
-               (no_credential,
-                labels_of(line_of(place.run('show', 'a')[1].splitlines()[0]).message())[5:]),
-               (None, ['cred_flavor', 'cred_body', 'verf_flavor', 'verf_body']))
+               labels_of(line_of(place.run('show', 'a')[1].splitlines()[0]).message())[5:],
+               ['cred_flavor', 'cred_body', 'verf_flavor', 'verf_body'])
 
 
 def fields_are_those_of_labels(place: Findings) -> None:
     """Each field of a message is one that its procedure may have."""
-    for number, (arguments, done, *_) in NFS_ROWS.items():
+    for number, (arguments, done, *_) in enumerate(NFS_ROWS):
         for message in of_exchange(place, NFS, number, arguments,
                                    [success(7, ok(done) if number else b'')]):
             fields, known = all_fields(message), fields_of(message.procedure)
