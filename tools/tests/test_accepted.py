@@ -1,6 +1,5 @@
 """Tests of `tools/compare --accept` and `--accept-new`, on files of one folder."""
 import json
-import re
 from typing import Any
 
 from examples.messages import (
@@ -66,18 +65,6 @@ def a_field_is_accepted_by_procedure_path_and_values(place: Comparisons) -> None
         status, verdict, lines = compared(place, '--accept', 'known')
         place.want(f'fits not {changes}', (status, verdict, lines[0], len(lines)),
                    (1, differ, '0 accepted', 2))
-
-
-def what_is_left_decides(place: Comparisons) -> None:
-    """A second field that differs is printed alone, with its own position."""
-    place.put_both(run(1, 1, 1), run(1, 2, 3))
-    accepts(place, NLINK)
-    status, out, _ = place.compare('--accept', 'known', 'a', 'b')
-    place.want('status', status, 1)
-    place.want('verdict', out[1], 'differ at connection 1 server record 6')
-    place.want('fields', [line for line in out if re.match('  [-+]', line)],
-               ['  - obj.nlink=1', '  + obj.nlink=3'])
-    place.want('counted', '1 accepted' in out, True)
 
 
 def entries_that_fit_nothing_are_named(place: Comparisons) -> None:
@@ -242,16 +229,17 @@ def files_are_written_and_read_with_care(place: Comparisons) -> None:
 def all_forms_say_the_same(place: Comparisons) -> None:
     """All forms of output have the same counts and the same status."""
     place.put('a', run(1, 1, 1))
-    for nlinks, known, accepted, gone in (((1, 2, 1), [NLINK], 1, 0),
-                                          ((1, 2, 3), [NLINK, ONLY], 1, 1),
-                                          ((1, 1, 1), [NLINK], 0, 1)):
+    for nlinks, known, accepted, gone, verdict in (
+            ((1, 2, 1), [NLINK], 1, 0, 'same but for 1 accepted: 6 calls in 1 connection'),
+            ((1, 2, 3), [NLINK, ONLY], 1, 1, 'differ at connection 1 server record 6'),
+            ((1, 1, 1), [NLINK], 0, 1, 'same: 6 calls in 1 connection')):
         place.put('b', run(*nlinks))
         accepts(place, *known)
         status, out, _ = place.compare('--accept', 'known', '--brief', '--json', 'x.json',
                                        '--junit', 'x.xml', '--html', 'x.html', 'a', 'b')
-        text = (f'{accepted} accepted' in out,
-                sum(line.startswith('no longer found: ') for line in out))
-        place.want('text', text, (True, gone))
+        place.want('text', (out[1], f'{accepted} accepted' in out,
+                            sum(line.startswith('no longer found: ') for line in out)),
+                   (verdict, True, gone))
         found = place.json('x.json')
         place.want('JSON', (found['accepted']['count'], len(found['accepted']['findings']),
                             len(found['accepted']['no_longer_found'])),

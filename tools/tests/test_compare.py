@@ -179,46 +179,6 @@ def ordinary_runs(place: Comparisons) -> None:
                                                | {'cred_length'}), (1, True, True))
 
 
-def changed_fields(place: Comparisons) -> None:
-    """A field that differs is named, with both values, and nothing else is."""
-    first, second = Made(1), Made(2)
-    place.put('a', first.conversation())
-    second.sizes[1] = 11
-    place.put('b', second.conversation())
-    lines = place.compare('a', 'b')[1][2:]
-    fields = [line for line in lines if line.startswith('  ')]
-    place.want('size', fields, ['  - obj.size=10', '  + obj.size=11'] * 2
-               + ['  - entry "x".size=10', '  + entry "x".size=11'])
-    place.want('summary', lines[-2],
-               'fields that differ, and how often: entry.size of NFSPROC3_READDIRPLUS 2, '
-               'obj.size of NFSPROC3_LOOKUP 1, obj.size of NFSPROC3_ACCESS 1')
-    place.want('heading', lines[0], 'NFSPROC3_LOOKUP reply ?/x: connection 1 server record 2 | '
-               'connection 1 server record 2')
-
-
-def statuses_that_differ(place: Comparisons) -> None:
-    """After another status the rest has another layout, and is not compared."""
-    first, second = Made(1), Made(2)
-    script = second.script()
-    script[2] = (script[2][0], script[2][1], messages.failed(13, post_op_attr()))
-    place.put_both(first.conversation(), second.conversation(script))
-    lines = place.compare('a', 'b')[1][2:]
-    place.want('status', lines[1:3], ['  - status=0 (NFS3_OK)', '  + status=13 (NFS3ERR_ACCES)'])
-    place.want('one finding', len(lines), 5)
-    place.want('in words', lines[-1], '10 of 10 calls matched; status in 1 reply')
-
-
-def bound_values(place: Comparisons) -> None:
-    """Two files where the other run has one are found, whatever their handles."""
-    first, second = Made(7), Made(8)
-    place.put('a', first.conversation())
-    second.handles[2] = second.handles[1]
-    place.put('b', second.conversation())
-    status, lines, _ = place.compare('a', 'b')
-    place.want('bound', (status, any(line.startswith('  + fh=') and ' # ' in line
-                                     for line in lines)), (1, True))
-
-
 def zero_cookies(place: Comparisons) -> None:
     """The cookie 0 is the beginning of a directory, and no other cookie is."""
     first, second = Made(11), Made(12)
@@ -243,29 +203,6 @@ def users_and_groups(place: Comparisons) -> None:
     status, out, _ = place.compare('--mask', '+owners', 'a', 'b')
     place.want('two become one', (status, set(re.findall(NAMES, '\n'.join(out), re.M))),
                (1, {'group', 'uid'}))
-
-
-def directories(place: Comparisons) -> None:
-    """Entries in another order are one difference, and so is an entry that is missing."""
-    def listing(made: Made, *files: int) -> list[tuple[int, bytes, bytes]]:
-        entries = [messages.entryplus(made.ids[file], FILES[file], made.cookies[file],
-                                      made.attributes(file), made.handles[file])
-                   for file in files]
-        results = ok(messages.entries(made.attributes(0), made.cookieverf, entries, is_end=True))
-        return [(17, fh(made.handles[0]) + hyper(0) + bytes(8) + word(512) + word(4096), results)]
-    first, second = Made(15), Made(16)
-    place.put_both(first.conversation(listing(first, 1, 2)),
-                   second.conversation(listing(second, 2, 1)))
-    lines = place.compare('a', 'b')[1][2:]
-    place.want('order', lines[1:3],
-               ['  - entry="x"', '  + entry="y"    # the entries come in another order'])
-    for names, wanted in (((1,), '  - entry.name="y"'), ((1, 2), None)):
-        place.put('b', second.conversation(listing(second, *names)))
-        found = [line for line in place.compare('a', 'b')[1] if ' entry.name=' in line]
-        place.want('entries', found, [wanted] if wanted else [])
-    place.put('a', first.conversation(listing(first, 1)))
-    found = [line for line in place.compare('a', 'b')[1] if ' entry.name=' in line]
-    place.want('more entries', found, ['  + entry.name="y"'])
 
 
 def entries_of_one_name(place: Comparisons) -> None:

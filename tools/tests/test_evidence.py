@@ -238,7 +238,7 @@ def results_that_no_other_answer_has(place: Comparisons) -> None:
               for asked, granted in ((7, 5), (3, 1), (3, 3), (15, 5))]
     for right, wanted in zip(rights, (0, 0, 1, 1)):
         alone(place, f'{right}', [rights[0], *END], right, wanted)
-    for attributes in ({'nlink': 9}, {'mode': 0o7777}, {'size': 1}, {'uid': 1}):
+    for attributes in ({'nlink': 9}, {'mode': 0o7777}, {'size': 1}, {'uid': 1}, {'fsid': 9}):
         alone(place, f'{attributes}', END, got(NAME, 7, **attributes), 1)
     both = [make(), listed(b'f', b'z'), *END]
     for what, extra, wanted in (

@@ -286,19 +286,6 @@ def equal_findings(place: Findings) -> None:
                                 '  - obj.nlink=3', '  + obj.nlink=2', f'{summary[:-1]}3'])
 
 
-def equal_findings_of_one_run(place: Findings) -> None:
-    """Calls that one run alone has are one finding for each file."""
-    place.put('a', asked_for((b'1', 1), (b'2', 1)))
-    calls, replies = asked_for((b'1', 1), (b'2', 1), more=3)
-    more = [call(xid, NFS, 3, 1, fh(b'2')) for xid in (8, 9)]
-    place.put('b', (calls + more, replies + [success(xid, ok(fattr(REG, 1))) for xid in (8, 9)]))
-    place.wants('second', 1,
-                ['only in the second run: 3 calls of NFSPROC3_GETATTR ?/f0, first: connection 1 '
-                 'client record 5',
-                 'only in the second run: 2 calls of NFSPROC3_GETATTR ?/f1, first: connection 1 '
-                 'client record 8'])
-
-
 ASKED_ALONE: list[tuple[int, bytes, str, Sequence[str]]] = [
     (2, fh(b'dir') + sattr(0o640) + guard(), 'SETATTR', ['fh=646972', 'set.mode=0640 (416)']),
     (2, fh(b'dir') + sattr(None, 5, None, 7, set_to_client_time(NOW), word(1)) + guard(NOW),

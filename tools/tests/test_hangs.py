@@ -12,7 +12,7 @@ from .scripts import Tools, sums, taken_of, timed
 
 BEGUN = 1_600_000_000  # 12:26:40 UTC
 ROOT, FOLDER, FILE = b'root', b'folder', b'file'
-GETATTR, LOOKUP, READ, CREATE, RENAME = 1, 3, 6, 8, 14
+GETATTR, LOOKUP, CREATE, RENAME = 1, 3, 8, 14
 
 
 def hung() -> bytes:
@@ -36,9 +36,6 @@ def rows_of(tools: Tools, *words: str) -> list[list[str]]:
     return [re.split('  +', line.strip()) for line in out.splitlines()[1:-2]]
 
 
-LINE = sums(2, silent=2)
-
-
 def listed_without_a_reply(tools: Tools) -> None:
     """--no-reply lists how long each waited, and --slow counts that."""
     tools.write('a.pcap', hung())
@@ -56,19 +53,13 @@ def listed_without_a_reply(tools: Tools) -> None:
 def counted_in_each_form(tools: Tools) -> None:
     """Their number is the same in each form of output, and changes no status."""
     tools.write('a.pcap', hung())
-    words = '--json', 'x.json', '--junit', 'x.xml', '--html', 'x.html', 'a.pcap'
-    status, out, _ = tools.tool('verdicts', *words)
-    tools.want('text', (status, out.splitlines()[-1]), (0, LINE))
-    written = tools.json('x.json')
-    tools.want('JSON', (written['counts']['without reply'],
-                        [row['unanswered'] for row in written['rows']]),
-               (2, [2, 0]))
-    suite = tools.xml('x.xml')
-    tools.want('JUnit', [one.get('value') for one in suite.iter('property')
-                         if one.get('name') == 'without reply'], ['2'])
-    tools.want('page', b'<b>2</b> calls without a reply' in (tools.read('x.html') or b''), True)
+    status, out, _ = tools.tool('verdicts', '--json', 'x.json', '--html', 'x.html', 'a.pcap')
+    rows = tools.json('x.json')['rows']
+    tools.want('verdicts', (status, out.splitlines()[-1], [row['unanswered'] for row in rows]),
+               (0, sums(2, silent=2), [2, 0]))
+    tools.want('page', b'<b>2</b> calls without a reply' in tools.read('x.html'), True)
     for words in (['procedures', '--total'], ['calls']):
-        tools.want(words[0], LINE in tools.tool(*words, 'a.pcap')[1], True)
+        tools.want(words[0], sums(2, silent=2) in tools.tool(*words, 'a.pcap')[1], True)
 
 
 def sent_again_later(tools: Tools) -> None:

@@ -113,19 +113,6 @@ def seen_in_the_middle(place: Comparisons) -> None:
         place.want(f'found {words}', '  - obj after.size=8' in out, True)
 
 
-def folders_that_others_change(place: Comparisons) -> None:
-    """A count of links that one run alone has is a difference."""
-    def run(*links: int) -> Conversation:
-        return conversation_of((GETATTR, fh(b'folder'), ok(fattr(2, 5, nlink=nlink)))
-                               for nlink in links)
-    place.put_both(run(2, 3, 4, 5), run(3, 2, 4, 5))
-    place.want('links', place.compare('--order', 'any', 'a', 'b')[1][1],
-               'same in another order: 4 calls; 1 reordered; 1 reply reordered')
-    place.put('b', run(9, 2, 3, 5))
-    status, out, _ = place.compare('--order', 'any', 'a', 'b')
-    place.want('another count', (status, out[-1].endswith('; obj.nlink in 1 reply')), (1, True))
-
-
 def masks_of_any_order(place: Comparisons) -> None:
     """Classes that are named stay as they are, and so does a whole mask."""
     relaxed = dict.fromkeys(('ids', 'createverfs', 'cookies', 'wcc'), Way.ZERO)
@@ -244,20 +231,6 @@ def connections_by_what_they_ask(place: Comparisons) -> None:
     place.want('in words', found[-1],
                '60 of 61 calls matched; 19 connections reordered; 1 only in the second run; '
                'obj.mode in 1 reply')
-
-
-def calls_between_neighbours(place: Comparisons) -> None:
-    """Calls between the same neighbours are matched, whatever they ask."""
-    def run(name: bytes) -> Conversation:
-        return conversation_of([(GETATTR, fh(b'a'), ok(fattr(1, 1))),
-                         (CREATE, dirop(b'top', name) + word(0) + sattr(),
-                          ok(messages.made(None, None, wcc()))),
-                         (GETATTR, fh(b'b'), ok(fattr(1, 2)))])
-    place.put_both(run(b'x'), run(b'y'))
-    line = 'NFSPROC3_CREATE ?/x: connection 1 client record 2 | connection 1 client record 2'
-    for order in ('strict', 'any'):
-        status, out, _ = place.compare('--order', order, 'a', 'b')
-        place.want(order, (status, out[2:5]), (1, [line, '  - name="x"', '  + name="y"']))
 
 
 def one_call_more_among_alike_ones(place: Comparisons) -> None:

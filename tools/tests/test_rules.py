@@ -5,7 +5,7 @@ from typing import Any, NamedTuple
 
 from examples import messages
 from examples.messages import (
-    NFS, auth_sys, call, dirop, failed, fattr, fh, fragment, hyper, made, ok, opaque, post_op_attr,
+    NFS, auth_sys, call, dirop, failed, fattr, fh, fragment, hyper, made, ok, post_op_attr,
     sattr, success, wcc, word)
 from examples.packets import Talk, pcap
 
@@ -237,16 +237,6 @@ def calls_that_are_many(place: Comparisons) -> None:
     place.want('told', any('GETATTR: 11 more than 10' in line for line in said.lines), True)
 
 
-def calls_alone_that_tell_something_else(place: Comparisons) -> None:
-    """Another size, mode, owner or id than its run has elsewhere for the object."""
-    others: list[dict[str, Any]] = [{'size': 5}, {'mode': 0o600}, {'uid': 0}, {'fsid': 9}]
-    for other in others:
-        said = any_order(place, BOTH, [*BOTH, got(b'handle f', 7, **other)])
-        place.want(f'{other}', (said.status, said.found), (1, ['only GETATTR']))
-    said = any_order(place, BOTH, [*BOTH, got(b'handle f', 9)])
-    place.want('fileid', said.status, 1)
-
-
 def access(bits: int, user: int = 1000) -> Step:
     return Step(ACCESS, fh(b'handle f') + word(63), ok(post_op_attr(), word(bits)), user=user)
 
@@ -271,24 +261,6 @@ def ids_that_follow_their_objects(place: Comparisons) -> None:
     wrong = [*run([7, 8, 7])[:-1], got(b'hf2', 8)]
     said = any_order(place, run([7, 8, 9]), wrong)
     place.want('a wrong one', (said.status, said.found), (1, ['changed GETATTR']))
-
-
-def written(at: int, size: int, client: int = 0) -> Step:
-    arguments = fh(b'handle f') + hyper(at) + word(4) + word(0) + opaque(b'data')
-    results = ok(wcc(None, fattr(1, 7, size)), word(4), word(0), b'verifier')
-    return Step(WRITE, arguments, results, client=client)
-
-
-def sizes_that_an_order_explains(place: Comparisons) -> None:
-    """WRITEs in another order tell other sizes, which fit the writes."""
-    first = [*BOTH, written(0, 4), written(4, 8, client=1)]
-    second = [*BOTH, written(4, 8, client=1), written(0, 8)]
-    said = any_order(place, first, second)
-    place.want('explained', (said.status, len(said.json['left_out'])), (0, 1))
-    said = any_order(place, first, [*BOTH, written(4, 8, client=1), written(0, 9)])
-    place.want('too large', (said.status, said.found), (1, ['changed WRITE']))
-    said = any_order(place, first, [*BOTH, written(0, 8), written(4, 8, client=1)])
-    place.want('in the same order', (said.status, said.found), (1, ['changed WRITE']))
 
 
 def calls_that_were_sent_again(place: Comparisons) -> None:

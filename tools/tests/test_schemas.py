@@ -11,34 +11,27 @@ from .scripts import EXAMPLES, FIRST, SECOND, Tools, whole, write_faulty
 from .test_accepted import NLINK, accepts, run
 
 RUNS = [FIRST, SECOND]
-# Pieces of schemas, with values that fit and values that do not.
-CASES: list[tuple[Any, list[Any], list[Any]]] = [
-    ({'type': 'integer'}, [0, -3], [True, 1.5, '1', None, []]),
-    ({'type': ['string', 'null']}, ['', None], [0, {}]),
-    ({'type': 'number'}, [1, 1.5], [False, '1']),
-    ({'const': 1}, [1], [True, 1.0, 2, '1']),
-    ({'enum': ['a', None]}, ['a', None], ['b', 0]),
-    ({'type': 'array', 'items': {'type': 'integer'}}, [[], [1, 2]], [{}, [1, 'x']]),
-    ({'type': 'object', 'properties': {'a': {'type': 'integer'}}, 'required': ['a'],
-      'additionalProperties': False},
-     [{'a': 1}], [{}, {'a': 'x'}, {'a': 1, 'b': 1}, []]),
-    ({'type': 'object', 'additionalProperties': {'type': 'integer'}}, [{}, {'x': 1}], [{'x': 'y'}]),
-    ({'anyOf': [{'type': 'null'}, {'type': 'integer'}]}, [None, 1], ['x']),
-    ({'$ref': '#/$defs/a', '$defs': {'a': {'items': {'$ref': '#/$defs/b'}}, 'b': {'const': 3}}},
-     [[], [3, 3]], [[3, 4]]),
-    ({'$ref': 'other.json#/$defs/a'}, ['a'], [1])]
-
-
 def validator_knows_its_keywords(tools: Tools) -> None:
-    """Values that fit pieces of schemas have no fault, and those that do not have one."""
-    tools.write('other.json',
-                json.dumps({'$defs': {'a': {'$ref': '#/$defs/b'},
-                                      'b': {'type': 'string'}}}).encode())
-    for schema, fitting, others in CASES:
-        tools.write('s.json', json.dumps(schema).encode())
-        found = [not Schema('s.json', pathlib.Path(tools.folder)).faults(value)
-                 for value in (*fitting, *others)]
-        tools.want(json.dumps(schema), found, [True] * len(fitting) + [False] * len(others))
+    """What fits has no fault, and has one with another value in any place, or a member too few or
+    too many."""
+    schema = {
+        '$ref': '#/$defs/whole', '$defs': {'name': {'$ref': 'other.json#/$defs/a'}, 'whole': {
+            'type': 'object', 'required': ['one', 'many'], 'additionalProperties': False,
+            'properties': {
+                'one': {'const': 1}, 'few': {'enum': ['a', None]}, 'many': {
+                    'type': 'array', 'items': {'anyOf': [{'type': 'null'}, {'type': 'integer'}]}},
+                'open': {'additionalProperties': {'$ref': '#/$defs/name'}},
+                'number': {'type': 'number'}, 'is': {'type': ['boolean', 'null']}}}}}
+    good = {'one': 1, 'few': None, 'many': [None, -3], 'open': {'x': 'y'}, 'number': 1.5,
+            'is': False}
+    tools.write('s.json', json.dumps(schema).encode())
+    tools.write('other.json', json.dumps({'$defs': {'a': {'type': 'string'}}}).encode())
+    others = [{**good, name: value} for name, some in {
+        'one': (True, 1.0, 2), 'few': ('b', 0), 'many': ({}, [True], ['x'], [1.5]), 'more': (1,),
+        'open': ({'x': 1},), 'number': (False, '1'), 'is': (0, {})}.items() for value in some]
+    found = [not Schema('s.json', pathlib.Path(tools.folder)).faults(value)
+             for value in (good, {'one': 1, 'many': []}, {'one': 1}, [], *others)]
+    tools.want('fits', found, [True, True] + [False] * (2 + len(others)))
 
 
 def schemas_use_what_is_known(tools: Tools) -> None:

@@ -130,14 +130,6 @@ def no_colours_elsewhere(tools: Tools) -> None:
     tools.want('JSON', '\x1b' in out, False)
 
 
-def names_stay_escaped(tools: Tools) -> None:
-    """A control character in a name is `\\x` and two digits, in colours, too."""
-    tools.write('\x1b[31m.pcap', recording())
-    for tool in ('verdicts', 'procedures'):
-        text = '\n'.join(on_terminal(tools, 300, tool, '\x1b[31m.pcap')[1])
-        tools.want(tool, ('\\x1b[31m.pcap' in text, '\x1b[31m.pcap' in text), (True, False))
-
-
 def comparisons_have_colours_as_diff(tools: Tools) -> None:
     """Lines have the colour of their run, verdicts of the status."""
     place = Comparisons(tools.program, tools.folder)
