@@ -16,7 +16,7 @@ from examples.packets import ACK, FIN, RST, Talk, pcap
 
 from .recordings import interface, section, simple
 from .scripts import (
-    FIRST, TOP, Tools, in_fragments, measured, of_tshark, sums as sum_line, whole, write_faulty)
+    FIRST, TOP, Tools, in_fragments, of_tshark, sums as sum_line, whole)
 
 HEADS = ['time', 'ms', 'frame', 'conn', 'call', 'answer']
 ROOT, FOLDER, FILE = b'root', b'folder', b'file'
@@ -27,9 +27,6 @@ NAMES = ('NULL', 'GETATTR', 'SETATTR', 'LOOKUP', 'ACCESS', 'READLINK', 'READ', '
          'READDIRPLUS', 'FSSTAT', 'FSINFO', 'PATHCONF', 'COMMIT')
 (NULL, GETATTR, SETATTR, LOOKUP, ACCESS, READLINK, READ, WRITE, CREATE, MKDIR, SYMLINK, MKNOD,
  REMOVE, RMDIR, RENAME, LINK, READDIR, READDIRPLUS, FSSTAT, FSINFO, PATHCONF, COMMIT) = range(22)
-MANY, MOST_MEMORY = 12_000, 36_000_000
-
-
 Answer = tuple[int, list[list[str]], str]
 
 
@@ -345,34 +342,6 @@ def captures_have_no_times(tools: Tools) -> None:
         tools.want(words[0], (status, len(lines), error), (0, 3, f'a.nfs3cap: {told}\n'))
 
 
-ALLOWED = ['--allow-losses', '--allow-not-checked']
-
-
-def as_verdicts_judges(tools: Tools) -> None:
-    """The status, the counts, and what is reported are those of tools/verdicts, in each form."""
-    faulty, talk = write_faulty(tools), Talk()
-    version_4 = [(0, call(1, NFS, 4, 1, bytes(8))), (1, success(1, bytes(8)))]
-    tools.write('four.pcap', pcap([*talk.opened(), *talked(talk, version_4)]))
-    for name, *options in [*([one] for one in (*faulty, 'four.pcap')),
-                           ['lost.pcap', *ALLOWED], ['four.pcap', *ALLOWED]]:
-        words = ['--program', tools.program, *options]
-        judged, out, told = tools.tool('verdicts', *words, '--json', 'x.json', name)
-        rows = [verdict for line in out.splitlines()[1:-1]
-                if (verdict := line.split('  ')[-1].strip()) != 'ok']
-        status, found, error = tools.tool('calls', *words, name)
-        tools.want(f'{name} {options}', (status, found.splitlines()[-1]),
-                   (judged, out.splitlines()[-1]))
-        tools.want('reasons of ' + name,
-                   (error.startswith(told), [row for row in rows if row not in error]), (True, []))
-        if name in ('lost.pcap', 'bad.pcap', 'four.pcap'):
-            status, found, _ = tools.tool('calls', *words, '--json', name)
-            tools.want('JSON of ' + name, (status, json.loads(found)['counts']),
-                       (judged, tools.json('x.json')['counts']))
-            status, _, error = tools.tool('calls', *words, '--csv', name)
-            tools.want('CSV of ' + name, (status, error.splitlines()[-1]),
-                       (judged, out.splitlines()[-1]))
-
-
 def forms_for_programs(tools: Tools) -> None:
     """CSV has the values of JSON, in the same order, of several recordings."""
     tools.write('a,\n.pcap', pcap(mounted(Talk(service=20048))))
@@ -447,24 +416,3 @@ def as_tshark_has_them(tools: Tools) -> None:
                    len([one for one in found if one['is_error']
                         and one['procedure'][0] == 'N']), failures)
 
-
-def many_calls(tools: Tools) -> None:
-    """Memory, and processor time beside that of tools/verdicts, in both orders."""
-    talk = Talk()
-    frames = talk.opened()
-    for xid in range(MANY):
-        one = asked(xid, READ, fh(b'%032d' % (xid % 5_000)) + hyper(xid << 12) + word(4096))
-        frames += talked(talk,
-                         [(0, one),
-                          (1,
-                           success(xid, ok(post_op_attr(ATTRIBUTES), word(3), word(1),
-                                           opaque(b'abc'))))])
-    tools.write('a.pcap', pcap(frames))
-    spent = list[float]()
-    for name, *words in (['verdicts'], ['calls'], ['calls', '--sort', 'latency']):
-        status, lines, seconds, memory = measured(tools, name, '--program', tools.program, *words,
-                                                  'a.pcap')
-        spent.append(seconds)
-        tools.want(name, (status, memory <= MOST_MEMORY or memory), (0, True))
-    tools.want('what it printed', (lines[-2], len(lines)), (f'{MANY:,} exchanges', MANY + 3))
-    tools.want('processor time', max(spent) <= 8 * spent[0] or spent, True)

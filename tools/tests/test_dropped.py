@@ -31,6 +31,20 @@ def exchanged(talk: Talk, numbers: typing.Iterable[int], bad: int | None = None)
     return frames
 
 
+def with_frames(make: typing.Callable[[Talk], list[bytes]], bad: int | None = None,
+                at: int = 10) -> bytes:
+    """A recording of a connection, with more frames after some of 20 exchanges."""
+    talk = Talk()
+    return pcap([*talk.opened(), *exchanged(talk, range(at)), *make(talk),
+                 *exchanged(talk, range(at, 20), bad), *talk.closed()])
+
+
+def moved(talk: Talk, *sizes: int) -> list[bytes]:
+    """So many bytes of each side are not recorded."""
+    talk.next = [at + size for at, size in zip(talk.next, sizes)]
+    return []
+
+
 def with_times(frames: list[bytes], seconds: dict[int, int]) -> bytes:
     """A recording, with so many seconds before some frames, by their index."""
     pauses = itertools.accumulate(seconds.get(number, 0) for number in range(len(frames)))
@@ -60,40 +74,29 @@ def told(tools: Tools, what: str, recording: bytes, status: int, rows: list[str]
 def much_is_missing_in_the_middle(tools: Tools) -> None:
     """However much it is, what comes after it is judged."""
     for lost in (1_000, 70_000_000, 1_000_000_000, 2_200_000_000, 3_000_000_000, 4_200_000_000):
-        for bad in (None, 15):
-            talk = Talk()
-            frames = [*talk.opened(), *exchanged(talk, range(10))]
-            talk.next = [talk.next[0] + lost, talk.next[1] + lost]
-            frames += [*exchanged(talk, range(10, 20), bad), *talk.closed()]
-            row = (f'ok in part: 20 calls, {2 * lost:,} bytes missing' if bad is None else RECORD_16
-                   % (3 + 2 * 16))
-            told(tools, f'{lost} bytes, {bad}', pcap(frames), 1, [row])
+        for bad, row in ((None, f'ok in part: 20 calls, {2 * lost:,} bytes missing'),
+                         (15, RECORD_16 % (3 + 2 * 16))):
+            told(tools, f'{lost} bytes, {bad}',
+                 with_frames(lambda talk: moved(talk, lost, lost), bad), 1, [row])
 
 
 def much_is_missing_at_the_end(tools: Tools) -> None:
     """However much it is, if several frames show it."""
     for lost in (60_000_000, 70_000_000, 200_000_000, 2_000_000_000, 3_000_000_000):
-        talk = Talk()
-        frames = [*talk.opened(), *exchanged(talk, range(10))]
-        talk.next = [talk.next[0] + lost, talk.next[1] + lost]
-        ending = [talk.frame(0, FIN | ACK), talk.frame(1, FIN | ACK, ahead=0)]
-        acknowledging = [talk.frame(0, ACK), talk.frame(1, ACK)]
-        told(tools, f'{lost} bytes', pcap(frames + acknowledging + ending), 1,
-             [f'ok in part: 10 calls, {2 * lost:,} bytes missing'])
-        row = f'ok in part: 10 calls, {2 * lost:,} bytes missing'
-        told(tools, f'{lost} bytes, FIN alone', pcap(frames + ending), 1, [row])
+        for is_acknowledged in (True, False):
+            talk = Talk()
+            frames = [*talk.opened(), *exchanged(talk, range(10)), *moved(talk, lost, lost)]
+            frames += [talk.frame(side, ACK) for side in (0, 1) if is_acknowledged]
+            told(tools, f'{lost} bytes, {is_acknowledged}', pcap(
+                [*frames, talk.frame(0, FIN | ACK), talk.frame(1, FIN | ACK, ahead=0)]), 1,
+                 [f'ok in part: 10 calls, {2 * lost:,} bytes missing'])
 
 
 def one_frame_that_is_far(tools: Tools) -> None:
     """An acknowledgement that no other frame agrees with is reported."""
     for far in (1 << 30, 3_000_000_000):
-        talk = Talk()
-        frames = [*talk.opened(), *exchanged(talk, range(10))]
-        talk.next[0] += far
-        frames.append(talk.frame(1, ACK))
-        talk.next[0] -= far
-        frames += [*exchanged(talk, range(10, 20)), *talk.closed()]
-        told(tools, f'{far}', pcap(frames), 1,
+        told(tools, f'{far}', with_frames(lambda talk: [
+            *moved(talk, far, 0), talk.frame(1, ACK), *moved(talk, -far, 0)]), 1,
              ['ok in part: 20 calls, bytes far beyond the last may be missing'],
              'client: frame 24 shows bytes far beyond the last that is known, and no other frame '
              'does')
@@ -116,54 +119,40 @@ def much_in_flight(tools: Tools) -> None:
 
 def stray_resets(tools: Tools) -> None:
     """A RST that its receiver does not expect ends nothing."""
-    for what, ahead in (('far', 0x30000000), ('old', -250)):
-        talk = Talk()
-        frames = [*talk.opened(), *exchanged(talk, range(10)), talk.frame(1, RST, ahead=ahead),
-                  *exchanged(talk, range(10, 20), 15), *talk.closed()]
-        told(tools, what, pcap(frames), 1, [RECORD_16 % 36])
-        talk = Talk()
-        frames = [*talk.opened(), talk.frame(1, RST, ahead=ahead), *exchanged(talk, range(20)),
-                  *talk.closed()]
-        told(tools, what + ', before any payload', pcap(frames), 0, ['ok'],
+    for ahead in (0x30000000, -250):
+        def reset(talk: Talk) -> list[bytes]:
+            return [talk.frame(1, RST, ahead=ahead)]
+        told(tools, f'{ahead}', with_frames(reset, 15), 1, [RECORD_16 % 36])
+        told(tools, f'{ahead}, before any payload', with_frames(reset, at=0), 0, ['ok'],
              'frame 4: a RST that its receiver does not expect')
 
 
 def stray_ends(tools: Tools) -> None:
     """A FIN after which the stream goes on, acknowledged, is none; else it is counted."""
     for side in (0, 1):
-        for bad in (None, 15):
-            talk = Talk()
-            frames = [*talk.opened(), *exchanged(talk, range(10)), talk.frame(side, FIN | ACK),
-                      *exchanged(talk, range(10, 20), bad), *talk.closed()]
-            told(tools, f'{side} {bad}', pcap(frames), bad is not None, ['ok'] if bad is None
-                 else [RECORD_16 % 36])
-    talk = Talk()
-    frames = [*talk.opened(), *exchanged(talk, range(10)), talk.frame(1, FIN | ACK)]
-    frames += [talk.frame(1, ACK, reply(9, False)), talk.frame(0, FIN | ACK)]
-    told(tools, 'not acknowledged', pcap(frames), 1,
-         [f'ok in part: 10 calls, {REPLY} bytes left out'],
-         f'server: {REPLY} bytes fit nowhere in the stream, and are left out, first frame 25')
-    talk = Talk()
-    frames = [*talk.opened(), *exchanged(talk, range(10))]
-    talk.next[1] += REPLY
-    frames += [talk.frame(1, FIN | ACK)]
-    talk.next[1] -= REPLY
-    frames += [talk.frame(1, FIN | ACK), talk.frame(0, FIN | ACK)]
-    told(tools, 'two ends', pcap(frames), 1, [f'ok in part: 10 calls, {REPLY} bytes missing'])
+        for bad, row in ((None, 'ok'), (15, RECORD_16 % 36)):
+            told(tools, f'{side} {bad}', with_frames(
+                lambda talk: [talk.frame(side, FIN | ACK)], bad), bad is not None, [row])
+    for what, note in (('left out', f'server: {REPLY} bytes fit nowhere in the stream, and are left '
+                        'out, first frame 25'), ('missing', '')):
+        talk = Talk()
+        frames = [*talk.opened(), *exchanged(talk, range(10))]
+        last = ([*moved(talk, 0, REPLY), talk.frame(1, FIN | ACK), *moved(talk, 0, -REPLY),
+                 talk.frame(1, FIN | ACK)] if what == 'missing' else
+                [talk.frame(1, FIN | ACK), talk.frame(1, ACK, reply(9, False))])
+        told(tools, what, pcap([*frames, *last, talk.frame(0, FIN | ACK)]), 1,
+             [f'ok in part: 10 calls, {REPLY} bytes {what}'], note)
 
 
 def stray_beginnings(tools: Tools) -> None:
     """A SYN that fits no connection begins none if the one that is there goes on."""
-    for flags, side in ((SYN, 0), (SYN | ACK, 1), (SYN | ACK, 0), (SYN, 1)):
-        for ahead in (0x30000000, 5_000, -300):
-            for bad in (None, 15):
-                talk = Talk()
-                frames = [*talk.opened(), *exchanged(talk, range(10)),
-                          talk.frame(side, flags, ahead=ahead),
-                          *exchanged(talk, range(10, 20), bad), *talk.closed()]
-                told(tools, f'{flags} {side} {ahead} {bad}', pcap(frames), bad is not None,
-                     ['ok'] if bad is None else [RECORD_16 % 36],
-                     'frame 24: a SYN that fits no connection' if bad is None else '')
+    for (flags, side), ahead in itertools.product(
+            ((SYN, 0), (SYN | ACK, 1), (SYN | ACK, 0), (SYN, 1)), (0x30000000, 5_000, -300)):
+        for bad, row, note in ((None, 'ok', 'frame 24: a SYN that fits no connection'),
+                               (15, RECORD_16 % 36, '')):
+            told(tools, f'{flags} {side} {ahead} {bad}', with_frames(
+                lambda talk: [talk.frame(side, flags, ahead=ahead)], bad), bad is not None, [row],
+                 note)
 
 
 def ports_that_are_used_again(tools: Tools) -> None:
@@ -202,32 +191,32 @@ def syn_after_data(tools: Tools) -> None:
 
 def other_content(tools: Tools) -> None:
     """Bytes with other content make a connection in part, but not a keep-alive or RST."""
+    for what, more, row, note in (
+            ('other content', lambda talk: [talk.frame(0, ACK, b'x' * CALL, ahead=-3 * CALL)],
+             '1 frame with other content',
+             '1 frame repeats bytes with other content, first frame 24'),
+            ('before the first', lambda talk: [talk.frame(0, ACK, b'x' * 9,
+                                                          ahead=-10 * CALL - 9)],
+             '9 bytes left out', 'client: 9 bytes fit nowhere in the stream, and are left out, '
+             'first frame 24'),
+            ('a keep-alive', lambda talk: [talk.frame(0, ACK, b'x', ahead=-1)], '', '')):
+        told(tools, what, with_frames(more), int(row != ''),
+             [f'ok in part: 20 calls, {row}' if row else 'ok'], note)
     talk = Talk()
-    frames = [*talk.opened(), *exchanged(talk, range(10))]
-    other = talk.frame(0, ACK, b'x' * CALL, ahead=-3 * CALL)
-    before = talk.frame(0, ACK, b'x' * 9, ahead=-10 * CALL - 9)
-    keep_alive, reset = talk.frame(0, ACK, b'x', ahead=-1), talk.frame(0, RST, b'a reason')
-    told(tools, 'other content', pcap([*frames, other, *talk.closed()]), 1,
-         ['ok in part: 10 calls, 1 frame with other content'],
-         '1 frame repeats bytes with other content, first frame 24')
-    talk.next = [talk.next[0] - 1, talk.next[1]]
-    told(tools, 'before the first', pcap([*frames, before, *talk.closed()]), 1,
-         ['ok in part: 10 calls, 9 bytes left out'],
-         'client: 9 bytes fit nowhere in the stream, and are left out, first frame 24')
-    told(tools, 'a keep-alive', pcap([*frames, keep_alive, reset]), 0, ['ok'])
+    frames = [*talk.opened(), *exchanged(talk, range(10)), talk.frame(0, RST, b'a reason')]
+    told(tools, 'a reset with a reason', pcap(frames), 0, ['ok'])
 
 
 def other_content_beyond_an_end(tools: Tools) -> None:
     """Bytes beyond a FIN count if they come again with other content."""
-    for what, again, row in (('as they were', reply(10, False), 'ok'),
-                             ('with other content', b'x' * REPLY,
-                              'ok in part: 20 calls, 1 frame with other content')):
+    for again, row, note in ((reply(10, False), 'ok', ''),
+                             (b'x' * REPLY, 'ok in part: 20 calls, 1 frame with other content',
+                              '1 frame repeats bytes with other content, first frame 27')):
         talk = Talk()
         frames = [*talk.opened(), *exchanged(talk, range(10)), talk.frame(1, FIN | ACK),
                   *exchanged(talk, [10]), talk.frame(1, ACK, again, ahead=-REPLY),
                   *exchanged(talk, range(11, 20)), *talk.closed()]
-        told(tools, what, pcap(frames), int(row != 'ok'), [row],
-             '' if row == 'ok' else '1 frame repeats bytes with other content, first frame 27')
+        told(tools, row, pcap(frames), int(row != 'ok'), [row], note)
 
 
 def bytes_of_a_gap_that_was_given_up(tools: Tools) -> None:
@@ -244,27 +233,22 @@ def bytes_of_a_gap_that_was_given_up(tools: Tools) -> None:
 
 def stale_fragments(tools: Tools) -> None:
     """A fragment twice begins no other datagram; one that waits is given up."""
-    for cut, hosts, limit in ((fragments, ('192.0.2.7', '192.0.2.1'), 30),
-                              (fragments_6, ('2001:db8::7', '2001:db8::1'), 60)):
-        for again in (True, False):
-            for pause in (limit + 10, 3_600):
-                talk = Talk(hosts=hosts)
-                opened = talk.opened()
-                first = [ethernet(piece) for piece in cut(talk.datagram(0, ACK, stream(CALLS[:5])),
-                                                          64, 7)]
-                talk.next[0] += 5 * CALL
-                second = [ethernet(piece)
-                          for piece in cut(talk.datagram(0, ACK, stream(CALLS[5:10])), 64, 7)]
-                talk.next[0] += 5 * CALL
-                left = first + first[-1:] if again else first[:-2] + first[-1:]
-                recording = with_times(opened + left + second, {len(opened + left): pause})
-                found = taken_of(recording)
-                content = found.connections[0].client.read(0, 1 << 20) if found.connections else b''
-                tools.want(f'{limit} {again} {pause}', content, stream(CALLS[:10]) if again
-                           else stream(CALLS[5:10]) if content else b'')
-                remarks = [remark.reason for remark in found.remarks]
-                tools.want('told', remarks,
-                           [] if again
-                           else ['1 datagram of TCP is not taken, since not all fragments of it '
-                                 'came in time'])
-                found.spool.close()
+    lost = '1 datagram of TCP is not taken, since not all fragments of it came in time'
+    for (cut, hosts, limit), is_whole, hours in itertools.product(
+            ((fragments, ('192.0.2.7', '192.0.2.1'), 30),
+             (fragments_6, ('2001:db8::7', '2001:db8::1'), 60)), (True, False), (0, 1)):
+        talk = Talk(hosts=hosts)
+        opened, both = talk.opened(), list[list[bytes]]()
+        for at in (0, 5):
+            content = stream(CALLS[at:at + 5])
+            both.append([ethernet(piece) for piece in cut(talk.datagram(0, ACK, content), 64, 7)])
+            talk.next[0] += len(content)
+        first, second = both
+        left = opened + (first if is_whole else first[:-2]) + first[-1:]
+        with taken_of(with_times(left + second, {len(left): 3_600 if hours else limit + 10})
+                      ) as found:
+            content = found.connections[0].client.read(0, 1 << 20) if found.connections else b''
+            tools.want(f'{limit} {is_whole} {hours}', content, stream(CALLS[:10]) if is_whole
+                       else stream(CALLS[5:10]) if content else b'')
+            tools.want('told', [remark.reason for remark in found.remarks],
+                       [] if is_whole else [lost])

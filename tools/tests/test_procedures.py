@@ -1,6 +1,8 @@
 """Tests of `tools/procedures`."""
 import csv
 import io
+import itertools
+import json
 import re
 from typing import Any, NamedTuple
 
@@ -9,7 +11,8 @@ from examples.messages import (
     success, word)
 from examples.packets import Talk, pcap
 
-from .scripts import Tools, measured, stream, sums as sum_line, whole, write_faulty
+from .scripts import (
+    Tools, connection_of, measured, stream, sums as sum_line, whole, write_faulty)
 
 GETATTR, LOOKUP, MNT = 1, 3, 1  # by their numbers
 HEADS = ['procedure', 'calls', 'again', 'replies', 'no reply', 'call bytes',
@@ -17,7 +20,7 @@ HEADS = ['procedure', 'calls', 'again', 'replies', 'no reply', 'call bytes',
 LONGEST = HEADS.index('longest')
 ENDS = 'client 192.0.2.7:700, server 192.0.2.1:2049'
 ATTRIBUTES = ok(fattr(1, 5))
-MANY, MOST_MEMORY = 30_000, 48 << 20
+MANY = 15_000
 
 
 class Row(NamedTuple):
@@ -179,20 +182,29 @@ def xids_that_come_again(tools: Tools) -> None:
 
 
 def judged_in_part(tools: Tools) -> None:
-    """Titles, words and status are those of tools/verdicts."""
-    faulty = write_faulty(tools)
+    """Titles, words and status are those of tools/verdicts, and so are those of tools/calls, in
+    each form."""
+    faulty, allowed = write_faulty(tools), ['--allow-losses', '--allow-not-checked']
     tools.write('first.pcap', pcap(whole()[:3] + whole()[4:]))
-    for name in (*faulty, 'first.pcap'):
-        for options in ((), ('--allow-losses',)):
-            status, tables, error = procedures(tools, *options, name)
-            judged, out, told = tools.tool('verdicts', *options, name)
-            verdicts = [line.split('  ')[-1] for line in out.splitlines()[1:-1]]
-            titles = list(tables)
-            tools.want(f'{name}: what is told', (status, error), (judged, told))
-            tools.want(f'{name}: verdicts',
-                       [verdict in title for verdict, title in zip(verdicts, titles)],
-                       [True] * len(verdicts))
-            tools.want(f'{name}: sums', titles[-1], f'{name} in all: {out.splitlines()[-1]}')
+    tools.write('four.pcap', pcap(connection_of([call(1, NFS, 4, 1, bytes(8))],
+                                                [success(1, bytes(8))])))
+    for name, options in itertools.product((*faulty, 'first.pcap', 'four.pcap'), ([], allowed)):
+        status, tables, error = procedures(tools, *options, name)
+        judged, out, told = tools.tool('verdicts', *options, '--json', 'x.json', name)
+        *verdicts, last = [line.split('  ')[-1].strip() for line in out.splitlines()[1:]]
+        tools.want(f'{name}: what is told', (status, error), (judged, told))
+        tools.want(f'{name}: verdicts', [verdict in title for verdict, title in zip(
+            verdicts, tables)], [True] * len(verdicts))
+        tools.want(f'{name}: sums', list(tables)[-1], f'{name} in all: {last}')
+        listed, as_json, as_csv = (tools.tool('calls', *options, *form, name)
+                                   for form in ([], ['--json'], ['--csv']))
+        tools.want(f'calls of {name}', (
+            listed[0], as_json[0], as_csv[0], listed[1].splitlines()[-1],
+            as_csv[2].splitlines()[-1], json.loads(as_json[1])['counts']),
+            (*[judged] * 3, last, last, tools.json('x.json')['counts']))
+        tools.want(f'reasons of {name}', (
+            listed[2].startswith(told),
+            [row for row in verdicts if row != 'ok' and row not in listed[2]]), (True, []))
     _, tables, _ = procedures(tools, 'bad.pcap')
     title = next(title for title in tables if 'connection 2' in title)
     numbers = ['1', '0', '1', '0']
@@ -318,17 +330,21 @@ def files_for_others(tools: Tools) -> None:
 
 
 def many_calls(tools: Tools) -> None:
-    """Memory, and processor time beside that of tools/verdicts."""
-    talk = Talk()
+    """Memory of tools/procedures and tools/calls, and processor time beside tools/verdicts."""
+    talk, spent = Talk(), list[float]()
     frames = talk.opened()
     for xid in range(MANY):
         asked = call(xid, NFS, 3, GETATTR, fh(b'%032d' % (xid % 5_000)))
         frames += [talk.sent(0, fragment(asked)), talk.sent(1, fragment(success(xid, ATTRIBUTES)))]
     tools.write('a.pcap', pcap(frames))
-    spent = dict[str, float]()
-    for name in ('verdicts', 'procedures'):
-        status, lines, spent[name], memory = measured(tools, name, '--program', tools.program,
-                                                      'a.pcap')
-        tools.want(name, (status, memory <= MOST_MEMORY or memory), (0, True))
-    tools.want('what it printed', lines[-1].split()[2:6], [f'{MANY}', '0', f'{MANY}', '0'])
-    tools.want('processor time', spent['procedures'] <= 4 * spent['verdicts'] or spent, True)
+    for name, most, *words in (('verdicts', 48), ('procedures', 48), ('calls', 40),
+                               ('calls', 40, '--sort', 'latency')):
+        status, lines, seconds, memory = measured(tools, name, '--program', tools.program, *words,
+                                                  'a.pcap')
+        spent.append(seconds)
+        tools.want(name, (status, memory <= most << 20 or memory), (0, True))
+        if name == 'procedures':
+            tools.want('what it printed', lines[-1].split()[2:6], [f'{MANY}', '0', f'{MANY}', '0'])
+    tools.want('what is listed', (lines[-2], len(lines)), (f'{MANY:,} exchanges', MANY + 3))
+    tools.want('processor time', (spent[1] <= 4 * spent[0], max(spent) <= 8 * spent[0]) == (
+        True, True) or spent, True)

@@ -20,8 +20,6 @@ from .scripts import (
     ALL, CALL, CALLS, FAULTS, FIRST, REPLIES, TOP, VERDICTS, Tools, connection_of, exchange,
     in_fragments, of_tshark, stream, sums, taken_of, whole)
 
-# words, and the status of what is in part
-ALLOWING: list[tuple[list[str], int]] = [([], 1), (['--allow-losses'], 0)]
 HEAD = 'connection 1 %s: client 192.0.2.7:700, server 192.0.2.1:2049, tcp.stream == 0'
 
 
@@ -88,36 +86,31 @@ def places_by_standard_input(tools: Tools, frames: list[bytes]) -> None:
 
 def places_of_other_recordings(tools: Tools) -> None:
     """Fragments, frames without times, cuts and gaps."""
-    frames = whole()
+    frames, talk = whole(), Talk()
     pieces = [ethernet(piece) for number, frame in enumerate(frames)
               for piece in fragments(frame[14:], 64, number)]
-    tools.write('a.pcap', pcap(pieces))
-    tools.want('the last fragment', where(tools, 'connection 1 client record 1 byte 0')[1][-1],
-               'frame.number == 9')
-    talk = Talk()
-    tools.write('a.pcap',
-                pcap(talk.opened() + [talk.sent(0, ALL[0][at:at + 1]) for at in range(2 * CALL)]))
-    for byte, frame in ((0, 8), (39, 47), (40, 47)):
-        answer = where(tools, f'connection 1 client record 1 byte {byte}')
-        tools.want(f'byte {byte} of single bytes', answer[1][-1], f'frame.number == {frame}')
-    tools.want('all of them', where(tools, 'connection 1 client record 2')[1][-1],
-               'frame.number in {48..91}')
-    tools.write('a.pcap', section() + interface() + b''.join(map(simple, frames)))
-    tools.want('no time', where(tools, 'connection 1 client record 1 byte 0')[1][1],
-               'frame 4, without a time')
-    tools.write('a.pcap', pcap(Talk(699).opened() + whole() + whole(first=(9_000, 9_000))))
-    lines = where(tools, 'connection 2 server record 39 byte 23')[1]
-    tools.want('the third of Wireshark', lines[0].endswith('tcp.stream == 2') and lines[-1],
-               'frame.number == 31')
-    tools.write('a.pcap', pcap(frames[:4] + frames[5:]))
-    first = 2 * 344 // CALL + 1
-    tools.want('after a gap', where(tools, f'connection 1 client record {first - 7} byte 39')[1][
-        -1], 'frame.number == 5')
-    tools.write('a.pcap', pcap(frames[4:]))
-    tools.want('cut', where(tools, 'connection 1 client record 1 byte 0')[1][-1],
-               'frame.number == 1')
-    tools.want('its record', where(tools, 'connection 1 client record 8')[1][-1],
-               'frame.number in {1..2}')
+    single = pcap(talk.opened() + [talk.sent(0, ALL[0][at:at + 1]) for at in range(2 * CALL)])
+    again = pcap(Talk(699).opened() + whole() + whole(first=(9_000, 9_000)))
+    no_times = section() + interface() + b''.join(map(simple, frames))
+    # (the first record that is whole behind the gap has another number)
+    behind = 2 * 344 // CALL + 1 - 7
+    for recording, place, last in (
+            (pcap(pieces), 'client record 1 byte 0', 'number == 9'),
+            *((single, f'client record 1 byte {byte}', f'number == {frame}')
+              for byte, frame in ((0, 8), (39, 47), (40, 47))),
+            (single, 'client record 2', 'number in {48..91}'),
+            (pcap(frames[:4] + frames[5:]), f'client record {behind} byte 39', 'number == 5'),
+            (pcap(frames[4:]), 'client record 1 byte 0', 'number == 1'),
+            (pcap(frames[4:]), 'client record 8', 'number in {1..2}'),
+            (again, 'server record 39 byte 23', 'number == 31'),
+            (no_times, 'client record 1 byte 0', 'number == 4')):
+        tools.write('a.pcap', recording)
+        lines = where(tools, f'connection {1 + (recording == again)} {place}')[1]
+        tools.want(place, lines[-1], f'frame.{last}')
+        if recording in (again, no_times):
+            tools.want('what is said', ('tcp.stream == 2' in lines[0], lines[1]), (
+                recording == again, lines[1] if recording == again
+                else 'frame 4, without a time'))
 
 
 @unittest.skipUnless(shutil.which('tshark'), 'tshark is not there')
@@ -357,9 +350,9 @@ def notes_on_a_recording(tools: Tools) -> None:
     status, rows, _, error = verdicts(tools, '--json', 'x.json', '--junit', 'x.xml', 'a.pcap')
     tools.want('a note', (status, [row[-1] for row in rows], error),
                (0, ['ok', 'ok'], f'a.pcap: {told}\n'))
-    found = [(row['connection'], row['state'], row['message'], row['notes'])
-             for row in rows_of(tools, 'x.json')]
-    tools.want('JSON', found, [(None, 'note', told, []), (1, 'ok', 'ok', []), (2, 'ok', 'ok', [])])
+    tools.want('JSON', [[row[key] for key in ('connection', 'state', 'message', 'notes')]
+                        for row in rows_of(tools, 'x.json')],
+               [[None, 'note', told, []], [1, 'ok', 'ok', []], [2, 'ok', 'ok', []]])
     suite = tools.xml('x.xml')[0]
     tools.want('JUnit', (suite.get('tests'), suite.findtext('system-out'),
                          [len(case) for case in suite.iter('testcase')]),
@@ -370,58 +363,46 @@ def notes_on_a_recording(tools: Tools) -> None:
                [f'a.pcap: {told}', f'b.pcap: {told}'])
 
 
-def write_files(tools: Tools, *inputs: str) -> None:
-    """Writes JUnit XML and JSON of a fault, a loss, what is left out, and a file that is none."""
+def files_for_others(tools: Tools) -> None:
+    """JUnit XML holds whatever the name of a file has; JSON has states, positions, frames and what
+    is missing. Both of a fault, a loss, what is left out, and a file that is none."""
     name = 'a\1\n<&"]]>\udcff.pcap'
     tools.write(name, (TOP / 'examples/bad_server_record.pcap').read_bytes())
     tools.write('b.pcap', pcap(whole()[:4] + whole()[5:] + Talk(800).opened()))
     tools.write('c', b'text')
-    words = ['--junit', 'x.xml', '--json', 'x.json', '--program', tools.program, name, *inputs]
-    done = ended([VERDICTS, *words], tools.folder)
-    tools.want('status', (done.status, b'Traceback' in done.error), (1, False))
-
-
-def files_for_others(tools: Tools) -> None:
-    """JUnit XML holds whatever the name of a file has."""
-    write_files(tools, 'b.pcap', 'c')
-    suites = tools.xml('x.xml')
-    suite = suites[0]
-    tools.want('the suite',
-               [suite.get(key) for key in ('name', 'tests', 'failures', 'errors', 'skipped')],
-               ['nfs3canon', '5', '2', '1', '1'])
-    in_part = 'ok in part: 30 calls, 344 bytes missing'
-    escaped = 'a\\x01\\x0a<&"]]>\\xff.pcap'
+    words = ['--junit', 'x.xml', '--json', 'x.json', '--program', tools.program, name]
+    done = ended([VERDICTS, *words, 'b.pcap', 'c'], tools.folder)
+    suite, in_part = tools.xml('x.xml')[0], 'ok in part: 30 calls, 344 bytes missing'
+    tools.want('the suite', (done.status, b'Traceback' in done.error, [
+        suite.get(key) for key in ('name', 'tests', 'failures', 'errors', 'skipped')]),
+        (1, False, ['nfs3canon', '5', '2', '1', '1']))
+    escaped, ends = 'a\\x01\\x0a<&"]]>\\xff.pcap', '192.0.2.7 to 192.0.2.1:2049'
+    left_out = 'left out: 192.0.2.7:800 and 192.0.2.1:2049: no payload'
     cases = [(case.get('classname'), case.get('name'),
               [(item.tag, item.get('message')) for item in case if item.tag != 'system-out'])
              for case in suite.iter('testcase')]
-    ends = '192.0.2.7 to 192.0.2.1:2049'  # the client's port is another in each run
+    # (the client's port is another in each run)
     tools.want('the cases', cases, [
         (escaped, 'connection 1 ' + ends, []),
         (escaped, 'connection 2 ' + ends,
          [('failure', 'server record 2 byte 0: NoCall, frame 13')]),
         ('b.pcap', 'connection 1 ' + ends, [('failure', in_part)]),
-        ('b.pcap', 'left out: 192.0.2.7:800 and 192.0.2.1:2049: no payload',
-         [('skipped', 'left out: 192.0.2.7:800 and 192.0.2.1:2049: no payload')]),
+        ('b.pcap', left_out, [('skipped', left_out)]),
         ('c', 'as a whole', [('error', 'it is neither pcap nor pcapng')])])
-    told = [item.text or '' for case in suite.iter('testcase') for item in case
-            if item.tag == 'system-out']
-    tools.want('what is told', [text.splitlines()[:2] for text in told],
-               [[in_part, 'client: 344 bytes are missing from the recording after the first 344, '
-                 'before frame 5; '
-                 f'{9 * CALL - 344} bytes of torn records are left out']])
-
-
-def rows_for_others(tools: Tools) -> None:
-    """JSON has states, positions, frames and what is missing."""
-    write_files(tools, 'b.pcap', 'c')
-    rows = rows_of(tools, 'x.json')
-    tools.want('JSON', [(row['state'], row['connection'], row['tcp_stream'], row[
-        'position'], row['reason'], row['frames'], row['missing']) for row in rows], [
-            ('ok', 1, 0, None, None, [], 0), ('refused', 2, 1, 'server record 2 byte 0', 'NoCall', [
-                {'number': 13, 'time': 1_000_012_000}], 0), ('in part', 1, 0, None, None, [], 344),
-            ('left out', None, None, None, None, [], 0), ('error', None, None, None, None, [], 0)])
-    status, _, _ = tools.tool('verdicts', '--junit', 'absent/x', 'b.pcap')
-    tools.want('a file that cannot be written', status, 3)
+    told = [(case.findtext('system-out') or '').splitlines()[:2] for case in suite.iter('testcase')]
+    tools.want('what is told', [text for text in told if text], [
+        [in_part, 'client: 344 bytes are missing from the recording after the first 344, before '
+         f'frame 5; {9 * CALL - 344} bytes of torn records are left out']])
+    tools.want('JSON', [[row[key] for key in ('state', 'connection', 'tcp_stream', 'position',
+                                              'reason', 'frames', 'missing')]
+                        for row in rows_of(tools, 'x.json')], [
+        ['ok', 1, 0, None, None, [], 0],
+        ['refused', 2, 1, 'server record 2 byte 0', 'NoCall',
+         [{'number': 13, 'time': 1_000_012_000}], 0],
+        ['in part', 1, 0, None, None, [], 344], ['left out', None, None, None, None, [], 0],
+        ['error', None, None, None, None, [], 0]])
+    tools.want('a file that cannot be written',
+               tools.tool('verdicts', '--junit', 'absent/x', 'b.pcap')[0], 3)
 
 
 def interrupted(tools: Tools) -> None:
