@@ -189,99 +189,83 @@ def replies_of_each_kind(tools: Tools) -> None:
                 (7, 0, [8]), (8, 0, [9])])
 
 
+def ended_by(*last: str, skips: range = range(0), begins: int = 0) -> bytes:
+    """Three calls, the second of which has no reply, without some frames."""
+    talk = Talk()
+    order = [(0, asked(1, NULL)), (1, success(1)), (0, asked(2, NULL)), (0, asked(3, NULL)),
+             (1, success(3))]
+    sent = [*talk.opened(), *talked(talk, order)]
+    ending = {'fin': lambda: talk.closed(), 'rst': lambda: [talk.frame(1, RST | ACK)],
+              'half': lambda: [talk.frame(1, FIN | ACK)]}
+    sent += [frame for one in last for frame in ending[one]()]
+    return pcap([frame for number, frame in enumerate(sent) if number not in skips
+                 and number >= begins])
+
+
 def without_a_reply(tools: Tools) -> None:
     """`no reply` is said only if the end of a whole connection is recorded."""
-    def frames(last: list[bytes], skips: range = range(0), begins: int = 0) -> bytes:
-        talk = Talk()
-        order = [(0, asked(1, NULL)), (1, success(1)), (0, asked(2, NULL)), (0, asked(3, NULL)),
-                 (1, success(3))]
-        sent = [*talk.opened(), *talked(talk, order)]
-        ending = {b'fin': lambda: talk.closed(), b'rst': lambda: [talk.frame(1, RST | ACK)],
-                  b'half': lambda: [talk.frame(1, FIN | ACK)]}
-        sent += [frame for one in last for frame in ending[one]()]
-        return pcap([frame for number, frame in enumerate(sent) if number not in skips
-                     and number >= begins])
-    rows = [('open', frames([]), 'no reply recorded', 0),
-            ('closed', frames([b'fin']), 'no reply', 0),
-            ('reset', frames([b'rst']), 'no reply', 0),
-            ('closed by the server', frames([b'half']), 'no reply', 0),
-            ('begun before', frames([b'fin'], begins=3), 'no reply', 1),
-            ('a reply is missing', frames([b'fin'], range(4, 5)), None, 1)]
-    for what, content, answer, status in rows:
-        tools.write('a.pcap', content)
-        found = [one['answer'] for one in objects(tools, 'a.pcap')]
-        tools.want(what, found, ['OK', answer, 'OK'] if answer
-                   else ['no reply recorded'] * 2 + ['OK'])
-        one = calls(tools, '--errors', 'a.pcap')
-        tools.want(f'--errors, {what}', (one[0], [line[-1] for line in one[1][1:-2]]),
-                   (status, ['no reply in 0.000 s'] if answer == 'no reply' else []))
-    # A capture shows no end; a reply that is refused, and those after it, are not judged.
-    tools.write('a.nfs3cap', messages.capture(([asked(1, NULL)], [])))
-    tools.want('a capture', [one['answer'] for one in objects(tools, 'a.nfs3cap')],
-               ['no reply recorded'])
+    for what, content, answers, status in (
+            ('open', ended_by(), ['OK', 'no reply recorded', 'OK'], 0),
+            ('closed', ended_by('fin'), ['OK', 'no reply', 'OK'], 0),
+            ('reset', ended_by('rst'), ['OK', 'no reply', 'OK'], 0),
+            ('closed by the server', ended_by('half'), ['OK', 'no reply', 'OK'], 0),
+            ('begun before', ended_by('fin', begins=3), ['OK', 'no reply', 'OK'], 1),
+            ('a reply is missing', ended_by('fin', skips=range(4, 5)),
+             ['no reply recorded', 'no reply recorded', 'OK'], 1),
+            # (a capture shows no end)
+            ('a capture', messages.capture(([asked(1, NULL)], [])), ['no reply recorded'], 0)):
+        tools.write('a', content)
+        tools.want(what, [one['answer'] for one in objects(tools, 'a')], answers)
+        found, lines, _ = calls(tools, '--errors', 'a')
+        tools.want(f'--errors, {what}', (found, [line[-1] for line in lines[1:-2]]),
+                   (status, ['no reply in 0.000 s'] if 'no reply' in answers else []))
+    # A reply that is refused, and those after it, are not judged.
     talk = Talk()
     order = [(0, asked(1, NULL)), (1, success(1)), (0, asked(2, GETATTR, fh(b'a'))),
              (1, success(2, word(3))), (0, asked(3, NULL)), (1, success(3))]
     tools.write('a.pcap', pcap([*talk.opened(), *talked(talk, order), *talk.closed()]))
     status, lines, error = calls(tools, 'a.pcap')
-    tools.want('refused', (status, [line[-1] for line in lines[1:-2]], lines[-1], error),
-               (1, ['OK', 'not judged', 'not judged'],
-                [sum_line(refused=1)],
+    tools.want('refused', (status, [line[-1] for line in (*lines[1:-2], lines[-1])], error),
+               (1, ['OK', 'not judged', 'not judged', sum_line(refused=1)],
                 'a.pcap: connection 1: server record 2 byte 24: BadEnum, frame 7\n'))
 
 
 # Options, and the calls that they choose. Latencies of the first connection of NFS: 5, 3 and 1
 # microseconds; of all others 1. MNT is on connection 1.
-CHOSEN: list[tuple[list[str], list[str]]] = [
-    ([], ['1:1', '2:1', '2:2', '2:3', '3:1', '3:2', '3:3']),
-    (['--errors'], ['2:2', '2:3']),
-    (['--slow', '3us'], ['2:1', '2:2']),
-    (['--slow', '0.003ms'], ['2:1', '2:2']),
-    (['--slow', '1s'], []),
-    (['--slow', '5us', '--errors'], []),
-    (['--procedure', 'GETATTR,mnt'], ['1:1', '2:1', '3:1']),
-    (['--procedure', 'NULL'], ['3:2', '3:3']),
-    (['--procedure', 'NFSPROC3_RENAME'], ['2:3']),
-    (['--procedure', 'GETACL'], []),
-    (['--path', '/x'], ['1:1', '2:1']),
-    (['--path', '/*'], ['1:1', '2:1', '2:2', '2:3']),
-    (['--path', '*/bä'], ['2:3']),
-    (['--path', '?'], ['3:1']),
-    (['--path', '[?]'], ['3:1']),
-    (['--path', '/x/[ab]'], ['2:2', '2:3']),
-    (['--user', '0'], ['2:2']),
-    (['--user', '1000'], ['2:1', '2:3', '3:1']),
-    (['--client', '192.0.2.7'], ['1:1', '2:1', '2:2', '2:3']),
-    (['--client', '2001:DB8:0::7'], ['3:1', '3:2', '3:3']),
-    (['--client', '[2001:db8::7]', '--procedure', 'NULL'], ['3:2', '3:3']),
-    (['--client', '192.0.2.1'], []),
-    (['--sort', 'latency'], ['2:1', '2:2', '1:1', '2:3', '3:1', '3:2', '3:3'])]
+CHOSEN = {
+    '': '1:1 2:1 2:2 2:3 3:1 3:2 3:3', '--errors': '2:2 2:3', '--slow 3us': '2:1 2:2',
+    '--slow 0.003ms': '2:1 2:2', '--slow 1s': '', '--slow 5us --errors': '',
+    '--procedure GETATTR,mnt': '1:1 2:1 3:1', '--procedure NULL': '3:2 3:3',
+    '--procedure NFSPROC3_RENAME': '2:3', '--procedure GETACL': '', '--path /x': '1:1 2:1',
+    '--path /*': '1:1 2:1 2:2 2:3', '--path */bä': '2:3', '--path ?': '3:1', '--path [?]': '3:1',
+    '--path /x/[ab]': '2:2 2:3', '--user 0': '2:2', '--user 1000': '2:1 2:3 3:1',
+    '--client 192.0.2.7': '1:1 2:1 2:2 2:3', '--client 2001:DB8:0::7': '3:1 3:2 3:3',
+    '--client [2001:db8::7] --procedure NULL': '3:2 3:3', '--client 192.0.2.1': '',
+    '--sort latency': '2:1 2:2 1:1 2:3 3:1 3:2 3:3'}
 
 
 def what_is_chosen(tools: Tools) -> None:
     """Options choose what is listed; the status and the counts are those of all."""
     root = auth_sys(1, b'client', 0, 0, [])
     first, second = Talk(), Talk(701, hosts=('2001:db8::7', '2001:db8::1'))
-    frames = [*mounted(Talk(702, service=20048)), *first.opened(), *second.opened()]
-    frames += talked(first,
-                     [(0, asked(1, GETATTR, fh(ROOT))),
-                      (0, asked(2, LOOKUP, dirop(ROOT, b'a'), root)),
-                      (0, asked(3, RENAME, dirop(ROOT, b'a') + dirop(ROOT, b'b\xc3\xa4'))),
-                      (1, success(3, failed(18, NO_WCC, NO_WCC))),
-                      (1, success(2, failed(2, post_op_attr()))), (1, success(1, ok(DIRECTORY)))])
-    frames += talked(second, [(0, asked(1, GETATTR, fh(ROOT))), (1, success(1, ok(DIRECTORY))),
-                              (0, asked(2, NULL, b'', AUTH_NONE)), (1, success(2)),
-                              (0, call(3, NFSACL, 3, 0)), (1, success(3))])
-    tools.write('a.pcap', pcap(frames))
-    for words, wanted in CHOSEN:
-        status, lines, error = calls(tools, *words, 'a.pcap')
+    tools.write('a.pcap', pcap([
+        *mounted(Talk(702, service=20048)), *first.opened(), *second.opened(), *talked(first, [
+            (0, asked(1, GETATTR, fh(ROOT))), (0, asked(2, LOOKUP, dirop(ROOT, b'a'), root)),
+            (0, asked(3, RENAME, dirop(ROOT, b'a') + dirop(ROOT, b'b\xc3\xa4'))),
+            (1, success(3, failed(18, NO_WCC, NO_WCC))), (1, success(2, failed(2, post_op_attr()))),
+            (1, success(1, ok(DIRECTORY)))]), *talked(second, [
+                (0, asked(1, GETATTR, fh(ROOT))), (1, success(1, ok(DIRECTORY))),
+                (0, asked(2, NULL, b'', AUTH_NONE)), (1, success(2)), (0, call(3, NFSACL, 3, 0)),
+                (1, success(3))])]))
+    for words, chosen in CHOSEN.items():
+        wanted = chosen.split()
+        status, lines, error = calls(tools, *words.split(), 'a.pcap')
         number = '7 exchanges' if len(wanted) == 7 else f'{len(wanted)} of 7 exchanges'
-        tools.want(' '.join(words), (status, [line[3] for line in lines[1:-2]], lines[-2:], error),
+        tools.want(words, (status, [line[3] for line in lines[1:-2]], lines[-2:], error),
                    (0, wanted, [[number], [sum_line(3, raw='1 NFSACL NULL')]], ''))
-        if words[:1] in ([], ['--errors'], ['--sort']):
-            tools.want('JSON of ' + ' '.join(words),
-                       [f'{one["connection"]}:{one["record"]}'
-                        for one in objects(tools, *words, 'a.pcap')], wanted)
+        if words in ('', '--errors', '--sort latency'):
+            tools.want('JSON of ' + words, [f'{one["connection"]}:{one["record"]}' for one in
+                                            objects(tools, *words.split(), 'a.pcap')], wanted)
 
 
 def words_that_are_refused(tools: Tools) -> None:
@@ -381,11 +365,10 @@ def long_names(tools: Tools) -> None:
 
 def servers_with_equal_handles(tools: Tools) -> None:
     """A handle of one server says nothing of the same handle of another."""
-    other = ('192.0.2.7', '192.0.2.2')
-    first, second = Talk(), Talk(701, hosts=other)
-    frames = [*mounted(Talk(702, service=20048)), *first.opened(), *second.opened()]
-    frames += talked(first, [(0, asked(1, GETATTR, fh(ROOT))), (1, success(1, ok(DIRECTORY)))])
-    frames += talked(second, [(0, asked(1, GETATTR, fh(ROOT))), (1, success(1, ok(DIRECTORY)))])
+    frames = mounted(Talk(702, service=20048))
+    for talk in (Talk(), Talk(701, hosts=('192.0.2.7', '192.0.2.2'))):
+        frames += [*talk.opened(), *talked(talk, [(0, asked(1, GETATTR, fh(ROOT))),
+                                                  (1, success(1, ok(DIRECTORY)))])]
     tools.write('a.pcap', pcap(frames))
     tools.want('paths', [one['path'] for one in objects(tools, 'a.pcap')], ['/x', '/x', '?'])
 
@@ -400,19 +383,16 @@ def as_tshark_has_them(tools: Tools) -> None:
         rows = of_tshark(tools, recording, 'rpc.msgtyp == 1', 'rpc.reqframe', 'rpc.repframe',
                          'frame.number', 'rpc.time', 'nfs.status3')
         replies = [[cell.split(',') for cell in row] for row in rows]
-        wanted = [(int(frame), int(reply), round(float(time) * 1_000_000)) for first, second,
-                  [reply], times, _ in replies for frame,
-                  time in zip(first if first != [''] else second, times)]
-        found = objects(tools, recording)
-        tools.want(name,
-                   sorted((one['frame'], one['replies'][0]['frame'],
-                           round(one['latency_ns'] / 1_000)) for one in found), sorted(wanted))
-        relative = dict(of_tshark(tools, recording, 'frame', 'frame.number', 'frame.time_relative'))
+        found, relative = objects(tools, recording), dict(of_tshark(
+            tools, recording, 'frame', 'frame.number', 'frame.time_relative'))
+        tools.want(name, sorted((one['frame'], one['replies'][0]['frame'],
+                                 round(one['latency_ns'] / 1_000)) for one in found),
+                   sorted((int(frame), int(reply), round(float(time) * 1_000_000))
+                          for first, second, [reply], times, _ in replies
+                          for frame, time in zip(first if first != [''] else second, times)))
         lines = calls(tools, recording)[1][1:-2]
         tools.want('times', [line[0] for line in lines],
                    [f'{float(relative[line[2]]):.6f}' for line in lines])
-        failures = sum(state not in ('', '0') for *_, states in replies for state in states)
-        tools.want('errors',
-                   len([one for one in found if one['is_error']
-                        and one['procedure'][0] == 'N']), failures)
+        tools.want('errors', sum(one['is_error'] and one['procedure'][0] == 'N' for one in found),
+                   sum(state not in ('', '0') for *_, states in replies for state in states))
 

@@ -163,22 +163,16 @@ def ranks_of_latencies(tools: Tools) -> None:
 
 def xids_that_come_again(tools: Tools) -> None:
     """A call with another handle is no retransmission, and has its reply."""
-    first, second = (call(9, NFS, 3, GETATTR, fh(name)) for name in (b'a', b'b'))
-    reply = success(9, ATTRIBUTES)
-    for bodies, wanted in (([(0, first), (1, reply), (0, second), (1, reply)], (2, 0, 2, 0, 1_000)),
-                           ([(0, first), (0, second), (0, first), (0, second), (1, reply)],
-                            (4, 2, 1, 1, 4_000)),
-                           ([(0, first), (0, first), (0, second), (1, reply), (1, reply),
-                             (1, reply)], (3, 1, 3, 0, 3_000)),
-                           ([(0, first), (0, first), (0, first)], (3, 2, 0, 1, None))):
+    names = 'calls', 'again', 'replies', 'unanswered', 'most_ns'
+    bodies = {'a': (0, call(9, NFS, 3, GETATTR, fh(b'a'))),
+              'b': (0, call(9, NFS, 3, GETATTR, fh(b'b'))), '<': (1, success(9, ATTRIBUTES))}
+    for order, *wanted in (('a<b<', 2, 0, 2, 0, 1_000), ('abab<', 4, 2, 1, 1, 4_000),
+                           ('aab<<<', 3, 1, 3, 0, 3_000), ('aaa', 3, 2, 0, 1, None)):
         talk = Talk()
-        tools.write('a.pcap',
-                    pcap(talk.opened() + [talk.sent(side, fragment(body))
-                                          for side, body in bodies]))
+        tools.write('a.pcap', pcap(talk.opened() + [
+            talk.sent(side, fragment(body)) for side, body in map(bodies.__getitem__, order)]))
         row = tables_of(tools, 'a.pcap')[0]['procedures'][0]
-        tools.want(str(wanted),
-                   tuple(row[name] for name in ('calls', 'again', 'replies', 'unanswered',
-                                                'most_ns')), wanted)
+        tools.want(order, [row[name] for name in names], wanted)
 
 
 def judged_in_part(tools: Tools) -> None:
@@ -220,24 +214,21 @@ def judged_in_part(tools: Tools) -> None:
 def sorted_rows(tools: Tools) -> None:
     """The largest number is first, and the sum last, also in JSON and CSV."""
     tools.write('a.pcap', pcap(one_of_each(Talk())[0]))
-    null, getattr_row, lookup, mnt = 'NULL', 'GETATTR', 'LOOKUP', 'MNT'
-    dump, getport = 'DUMP', 'GETPORT'
-    for column, wanted in (('procedure', [null, getattr_row, lookup, mnt, dump, getport]),
-                           ('calls', [getattr_row, null, lookup, mnt, dump, getport]),
-                           ('no-reply', [null, getattr_row, lookup, mnt, dump, getport]),
-                           ('most', [getattr_row, lookup, mnt, dump, getport, null]),
-                           ('sum', [getattr_row, lookup, mnt, dump, getport, null]),
-                           ('errors', [getattr_row, lookup, mnt, dump, getport, null])):
-        status, tables, _ = procedures(tools, '--total', '--sort', column, '--csv',
-                                       'x.csv', 'a.pcap')
-        names = [re.split('[_ ]', cells[0])[-1] for cells in list(tables.values())[0][1:-1]]
-        tools.want(column, (status, names), (0, wanted))
-        rows = list(csv.DictReader(io.StringIO((tools.read('x.csv') or b'').decode())))
-        tools.want(f'CSV by {column}',
-                   [re.split('[_ ]', row['procedure'])[-1] for row in rows], wanted * 2)
-        found = tables_of(tools, '--sort', column, 'a.pcap')[0]['procedures']
-        tools.want(f'JSON by {column}', [re.split('[_ ]', row['procedure'])[-1] for row in found],
-                   [*wanted, 'in all'.split()[-1]])
+    for column, order in (('procedure', 'NULL GETATTR LOOKUP MNT DUMP GETPORT'),
+                          ('calls', 'GETATTR NULL LOOKUP MNT DUMP GETPORT'),
+                          ('no-reply', 'NULL GETATTR LOOKUP MNT DUMP GETPORT'),
+                          ('most', 'GETATTR LOOKUP MNT DUMP GETPORT NULL'),
+                          ('sum', 'GETATTR LOOKUP MNT DUMP GETPORT NULL'),
+                          ('errors', 'GETATTR LOOKUP MNT DUMP GETPORT NULL')):
+        status, tables, _ = procedures(tools, '--total', '--sort', column, '--csv', 'x.csv',
+                                       '--json', 'x.json', 'a.pcap')
+        rows = csv.DictReader(io.StringIO((tools.read('x.csv') or b'').decode()))
+        listed = tools.json('x.json')['tables'][0]['procedures']
+        for form, names in (('text', [cells[0] for cells in [*tables.values()][0][1:-1]]),
+                            ('CSV', [row['procedure'] for row in rows][:6]),
+                            ('JSON', [row['procedure'] for row in listed[:-1]])):
+            tools.want(f'{form} by {column}', (status, [re.split('[_ ]', name)[-1]
+                                                        for name in names]), (0, order.split()))
     tools.want('another column', tools.tool('procedures', '--sort', 'colour', 'a.pcap')[0], 2)
     # Beside a recording with 39 calls of NULL these are first, and without them those of GETATTR.
     tools.write('b.pcap', pcap(whole()))
