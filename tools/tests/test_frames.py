@@ -93,15 +93,17 @@ def frames_without_a_record(tools: Tools) -> None:
 def words_of_a_position(tools: Tools) -> None:
     """An unfinished or a superfluous word is refused, and an example is given."""
     tools.write('a.pcap', pcap(whole()))
-    good = (
-        'connection 1 client record 2', ' 1 client 2 ', '1 client 2 xid=2 NFSPROC3_NULL mtype=0',
-        'connection 1 client record 2 byte 3: BadEnum', 'first: connection 1 client record 2',
-        'second: connection 1 client record 2: Short', 'differ at connection 1 client record 2',
-        'frame 5', 'nfs3canon: a word before\nconnection 1 client record 2: Short\n')
-    for text in good:
-        tools.want(repr(text), tool(tools, 'where', 'a.pcap', text)[0], 0)
-    for text in ('1 client 2 byte 3', '1 client 2 byte',
-                 '1 client', 'connection 1 client record 2 byte', 'connection 1 client record',
+    for text in ('connection 1 client record 2', ' 1 client 2 ', '1:2', '1:2 frame 4',
+                 '1 client 2 xid=2 NFSPROC3_NULL mtype=0',
+                 'connection 1 client record 2 byte 3: BadEnum',
+                 'first: connection 1 client record 2', 'frame 5',
+                 'second: connection 1 client record 2: Short',
+                 'differ at connection 1 client record 2',
+                 'nfs3canon: a word before\nconnection 1 client record 2: Short\n'):
+        for name, *out in (('where',), ('explain',), ('cut', f'out{len(tools.names())}')):
+            tools.want(f'{name} {text!r}', tool(tools, name, 'a.pcap', text, *out)[0], 0)
+    for text in ('1 client 2 byte 3', '1 client 2 byte', '1 client', '1:',
+                 'connection 1 client record 2 byte', 'connection 1 client record',
                  '1 client 2: x y', 'connection 1 client record 2 byte 3 4',
                  'x connection 1 client record 2', 'third: connection 1 client record 2',
                  'frame', 'frame 5 6', 'frame five', 'file', 'file 12 13',
@@ -116,21 +118,21 @@ def places_that_are_not_there(tools: Tools) -> None:
     """Each tool says which place is not there, of a recording and of a capture."""
     tools.write('a.pcap', pcap(whole()))
     tools.write('a', packed(ALL))
-    for place, told in (('connection 1 client record 40',) * 2, ('connection 1 client record 0',)
-                        * 2, ('connection 2 client record 1 byte 0', 'connection 2'),
+    for place, told in (('connection 1 client record 40', ''), ('connection 1 client record 0', ''),
+                        ('connection 2 client record 1 byte 0', 'connection 2'),
                         ('connection 0 client record 1', 'connection 0')):
         for name, *words in (('where', 'a.pcap', place), ('explain', 'a.pcap', place),
                              ('explain', 'a', place), ('cut', 'a.pcap', place, 'out')):
             tools.want(f'{name} {words}', tool(tools, name, *words),
-                       (1, [], f'{name}: there is no {told}\n'))
+                       (1, [], f'{name}: there is no {told or place}\n'))
     place = 'connection 1 client record 1 byte 41'
-    for name in ('where', 'explain'):
+    none = 'of the capture is not of a stream, so no frame carries it'
+    for name, place, told in (
+            *((name, place, f'there is no {place}: the body is shorter')
+              for name in ('where', 'explain')),
+            *(('where', f'file {byte}', f'byte {byte} {none}') for byte in (8, 15, 999_999))):
         tools.want(f'{name} {place}', tool(tools, name, 'a.pcap', place),
-                   (1, [], f'{name}: there is no {place}: the body is shorter\n'))
-    for byte in (8, 15, 999_999):
-        tools.want(f'where {byte}', tool(tools, 'where', 'a.pcap', f'file {byte}'), (
-            1,
-            [], f'where: byte {byte} of the capture is not of a stream, so no frame carries it\n'))
+                   (1, [], f'{name}: {told}\n'))
 
 
 # --- As a recording ---
@@ -216,24 +218,21 @@ def datagrams_in_fragments(tools: Tools) -> None:
     for cut_up, hosts in ((fragments, ('192.0.2.7', '192.0.2.1')),
                           (fragments_6, ('2001:db8::7', '2001:db8::1'))):
         talk = Talk(hosts=hosts)
-        opened = talk.opened()
-        call_pieces = [ethernet(piece) for piece in cut_up(talk.datagram(0, ACK, ALL[0]), 400)]
-        other = [ethernet(piece)
-                 for piece in cut_up(Talk(701, hosts=hosts).datagram(0, ACK, bytes(900)), 400, 78)]
-        reply = talk.frame(1, ACK, ALL[1])
-        frames = [*opened, other[0], *call_pieces[:2], other[1], *call_pieces[2:], other[2], reply]
+        opened, other = talk.opened(), Talk(701, hosts=hosts).datagram(0, ACK, bytes(900))
+        first, second, *others = [ethernet(piece) for piece in cut_up(other, 400, 78)]
+        pieces = [ethernet(piece) for piece in cut_up(talk.datagram(0, ACK, ALL[0]), 400)]
+        frames = [*opened, first, *pieces[:2], second, *pieces[2:], *others,
+                  talk.frame(1, ACK, ALL[1])]
         tools.write('a.pcap', pcap(frames))
-        status, lines, _ = tool(tools, 'cut', 'a.pcap', 'connection 1 client record 39', 'out.pcap')
-        numbers = [frames.index(frame) + 1 for frame in call_pieces]
-        place = 'connection 1 client record 39'
-        told = (f'frame {numbers[-1]} cannot be trimmed to these records, and a dissector may not '
-                'find them')
-        tools.want('lines', (status, lines[0], lines[-2]),
-                   (1, f'{place}: {place}, frame {numbers[-1]}', told))
+        numbers, place = [frames.index(frame) + 1 for frame in pieces], \
+            'connection 1 client record 39'
+        status, lines, _ = tool(tools, 'cut', 'a.pcap', place, f'{cut_up.__name__}.pcap')
+        told = 'cannot be trimmed to these records, and a dissector may not find them'
+        tools.want('lines', (status, lines[0], lines[-2]), (
+            1, f'{place}: {place}, frame {numbers[-1]}', f'frame {numbers[-1]} {told}'))
         parts = parts_of(frames, {len(frames): (38 * 28, 39 * 28)})
-        tools.want('OUT',
-                   tools.read('out.pcap') == extract(parts, [1, 2, *numbers, len(frames)]), True)
-        os.remove(tools.path('out.pcap'))
+        tools.want('OUT', tools.read(f'{cut_up.__name__}.pcap')
+                   == extract(parts, [1, 2, *numbers, len(frames)]), True)
 
 
 def exchanges_in_the_extract(tools: Tools) -> None:
@@ -274,17 +273,6 @@ def with_origins(tools: Tools) -> None:
                             f'frame {one["frame"]}', 'out.pcap')
     found = [other for other in listed(tools, 'out.pcap') if comparable(other) == comparable(one)]
     tools.want('path', (status, [other['path'] for other in found]), (0, [one['path']]))
-
-
-def records_at_fault(tools: Tools) -> None:
-    """A message that is refused is so in OUT."""
-    for name, frame, fault in (('bad_bool', 5, 'server record 1 byte 28: BadBool, frame 4'),
-                               ('bad_client_record', 4,
-                                'client record 1 byte 4: BadEnum, frame 3'),
-                               ('bad_length', 4, 'client record 1 byte 40: TooLong, frame 3')):
-        status, lines, _ = tool(tools, 'cut', str(TOP / f'examples/{name}.pcap'),
-                                f'frame {frame}', name + '.pcap')
-        tools.want(name, (status, lines[-2:]), (0, ['connection 1: ' + fault, sums(refused=1)]))
 
 
 def openings_that_do_not_fit(tools: Tools) -> None:

@@ -81,17 +81,6 @@ def sent_again_later(tools: Tools) -> None:
                    ['1:1', '2:1'])
 
 
-def positions_of_calls(tools: Tools) -> None:
-    """`where`, `explain` and `cut` take a position as `calls` and `procedures` print it."""
-    tools.write('a.pcap', hung())
-    for text in ('2:1', '2:1 frame 14'):
-        status, out, _ = tools.tool('where', 'a.pcap', text)
-        tools.want(text, (status, out.split(':')[0]), (0, 'connection 2 client record 1'))
-    tools.want('explain', tools.tool('explain', 'a.pcap', '1:2')[0], 0)
-    tools.want('cut', tools.tool('cut', 'a.pcap', '1:2', 'out')[0], 0)
-    tools.want('none', tools.tool('where', 'a.pcap', '2:')[0], 2)
-
-
 def windows(tools: Tools) -> None:
     """--from and --to take seconds, or a time of day; --utc prints that."""
     tools.write('a.pcap', hung())

@@ -3,7 +3,7 @@ import re
 
 from tests.shared.rows import SMALL, capture_in, rows_of
 
-from .scripts import TOP, Tools
+from .scripts import Tools
 
 # Words that tell what is said of each reason from what is said of any other.
 WORDS_OF_REASONS = {
@@ -40,17 +40,3 @@ def explained(tools: Tools) -> None:
             tools.want('the item of ' + line,
                        'after the last item' in out or 'allowed: ' not in out, False)
 
-
-def explained_as_documented(tools: Tools) -> None:
-    """The words of docs/FORMATS.md."""
-    tools.write('a', (TOP / 'examples/bad_status.nfs3cap').read_bytes())
-    status, out, _ = tools.tool('explain', 'a', 'connection 1 server record 1 byte 24')
-    tools.want('bad_status', (status, out.splitlines()[:3]), (0, [
-        'connection 1 server record 1: reply NFSPROC3_GETATTR of program 100003, version 3, '
-        'procedure 1', 'xid 7, a body of 28 bytes, to call record 1', 'byte 24: status = 3']))
-    tools.write('a', (TOP / 'examples/interleaved.nfs3cap').read_bytes())
-    out = tools.tool('explain', 'a', 'connection 2 server record 1 byte 4')[1]
-    tools.want('of version 2', 'byte 4: mtype = 1 (REPLY)' in out.splitlines(), True)
-    for name in ('ganesha_a.pcap', 'bad_bool.pcap'):
-        status, out, error = tools.tool('explain', str(TOP / 'examples' / name), 'file 0: BadMagic')
-        tools.want('a recording', (status, out, 'tools/from_pcap' in error), (2, '', True))

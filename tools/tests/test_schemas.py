@@ -42,18 +42,18 @@ def schemas_use_what_is_known(tools: Tools) -> None:
         tools.want(path.name, (f'[{path.name}]({path.name})' in page, schema['$id'],
                                schema['$schema']),
                    (True, path.name, 'https://json-schema.org/draft/2020-12/schema'))
+        parts, more = [schema], list[Any]()
+        while parts:
+            parts, more = [part for one in parts for part in parts_of(one)], more + parts
         tools.want('keywords of ' + path.name,
-                   sorted(keywords_of(schema) - KEYWORDS.keys() - NOTES), [])
+                   {word for one in more for word in one} - KEYWORDS.keys() - NOTES, set())
 
 
-def keywords_of(schema: Any) -> set[str]:
-    """The keywords of a schema and of its parts."""
-    found = set(schema)
-    parts = [*schema.get('properties', {}).values(), *schema.get('$defs', {}).values(),
-             *schema.get('anyOf', ())]
-    parts += [part for part in (schema.get('items'), schema.get('additionalProperties'))
-              if isinstance(part, dict)]
-    return found.union(*map(keywords_of, parts))
+def parts_of(schema: Any) -> list[Any]:
+    """The schemas right in another one."""
+    some = [*schema.get('properties', {}).values(), *schema.get('$defs', {}).values(),
+            *schema.get('anyOf', ()), schema.get('items'), schema.get('additionalProperties')]
+    return [part for part in some if isinstance(part, dict)]
 
 
 def fits(tools: Tools, name: str, text: str) -> Any:
