@@ -1,6 +1,6 @@
 """Tests of what `tools/compare --order any` explains: a wrong answer, and beside it a sound one."""
 import random
-from collections.abc import Iterable, Sequence
+from collections.abc import Iterable
 from typing import Any
 
 from examples import messages
@@ -20,11 +20,10 @@ START = [ROOT, FOLDER, FILE, got(W, 3, kind=2), got(NAME, 7)]
 END = [got(NAME, 7)]
 
 
-def explained(place: Comparisons, what: str, first: Iterable[Step], second: Iterable[Step],
-              wanted: int) -> None:
+def wants(place: Comparisons, what: str, first: Iterable[Step], second: Iterable[Step],
+          wanted: int) -> None:
     """Two runs that begin alike are the same in any order, or differ."""
-    said = any_order(place, [*START, *first], [*START, *second])
-    place.want(what, said.status, wanted)
+    place.want(what, any_order(place, [*START, *first], [*START, *second]).status, wanted)
 
 
 def make(name: bytes = b'z', **options: Any) -> Step:
@@ -42,10 +41,14 @@ def set_to(mode: int | None = None, uid: int | None = None, shown: int | None = 
 
 def listed(*names: bytes, is_end: bool = True, **attributes: int) -> Step:
     """READDIRPLUS of the folder; the attributes are those of `f`."""
-    entries = [messages.entryplus(
-        7 if name == b'f' else 50, name, 1 + at, fattr(1, 7 if name == b'f' else 50, **(
-            attributes if name == b'f' else {})), b'handle ' + name)
-        for at, name in enumerate(names)]
+    def entry(name: bytes, cookie: int) -> bytes:
+        fileid, more = (7, attributes) if name == b'f' else (50, {})
+        return messages.entryplus(fileid, name, cookie, fattr(1, fileid, **more), b'handle ' + name)
+    return entries_of(*(entry(name, at) for at, name in enumerate(names, 1)), is_end=is_end)
+
+
+def entries_of(*entries: bytes, is_end: bool = True) -> Step:
+    """READDIRPLUS of the folder."""
     results = ok(messages.entries(fattr(2, 3), bytes(8), entries, is_end=is_end))
     return Step(READDIRPLUS, fh(W) + bytes(16) + word(512) + word(4096), results)
 
@@ -91,8 +94,8 @@ def attributes_of_a_folder_in_which_something_is_made(place: Comparisons) -> Non
         for name, (procedure, arguments, before, after) in asked.items():
             one, other = Step(procedure, arguments, before), Step(procedure, arguments, after)
             last = got(W, 3, kind=2, size=attributes.get('size', 0))
-            explained(place, f'{name} {attributes}', [one, make(), last], [make(), other, last],
-                      wanted)
+            wants(place, f'{name} {attributes}', [one, make(), last], [make(), other, last],
+                  wanted)
 
 
 def a_value_that_nothing_set(place: Comparisons) -> None:
@@ -100,19 +103,19 @@ def a_value_that_nothing_set(place: Comparisons) -> None:
     old = got(NAME, 7)
     for mode, wanted in ((0o600, 0), (0o6777, 1), (0o640, 1)):
         new = got(NAME, 7, mode=mode)
-        explained(place, f'{mode:o}', [old, set_to(0o600)], [set_to(0o600), new], wanted)
+        wants(place, f'{mode:o}', [old, set_to(0o600)], [set_to(0o600), new], wanted)
     for mode, wanted in ((0o600, 0), (0o644, 0), (0o777, 1)):
         new = got(NAME, 7, mode=mode)
-        explained(place, f'{mode:o} meanwhile', [old, set_to(0o600)],
-                  [set_to(0o600, is_slow=True), new], wanted)
+        wants(place, f'{mode:o} meanwhile', [old, set_to(0o600)],
+              [set_to(0o600, is_slow=True), new], wanted)
     for uid, wanted in ((1001, 0), (4242, 1)):
         new = got(NAME, 7, uid=uid)
-        explained(place, f'uid {uid}', [old, set_to(uid=1001)], [set_to(uid=1001), new], wanted)
+        wants(place, f'uid {uid}', [old, set_to(uid=1001)], [set_to(uid=1001), new], wanted)
     for mode, wanted in ((0o600, 0), (0o7777, 1)):
-        explained(place, f'{mode:o} of an entry', [listed(b'f'), set_to(0o600)],
-                  [set_to(0o600), listed(b'f', mode=mode)], wanted)
-        explained(place, f'{mode:o} in a WRITE', [wrote(4, 4), set_to(0o600)],
-                  [set_to(0o600), wrote(4, 4, mode=mode)], wanted)
+        wants(place, f'{mode:o} of an entry', [listed(b'f'), set_to(0o600)],
+              [set_to(0o600), listed(b'f', mode=mode)], wanted)
+        wants(place, f'{mode:o} in a WRITE', [wrote(4, 4), set_to(0o600)],
+              [set_to(0o600), wrote(4, 4, mode=mode)], wanted)
 
 
 def a_change_that_was_sent_again(place: Comparisons) -> None:
@@ -120,7 +123,7 @@ def a_change_that_was_sent_again(place: Comparisons) -> None:
     old, new = got(NAME, 7), got(NAME, 7, mode=0o600)
     for answered, wanted in ((1, 0), (2, 1)):
         change = set_to(0o600, sent=2, answered=answered)
-        explained(place, f'{answered}', [old, change, new], [old, change, old], wanted)
+        wants(place, f'{answered}', [old, change, new], [old, change, old], wanted)
 
 
 def bits_that_a_write_clears(place: Comparisons) -> None:
@@ -129,56 +132,44 @@ def bits_that_a_write_clears(place: Comparisons) -> None:
     before = got(NAME, 7, mode=0o6755)
     for mode, wanted in ((0o755, 0), (0o4755, 0), (0o6755, 0), (0o655, 1), (0o7755, 1)):
         after, write = got(NAME, 7, size=4, mode=mode), wrote(4, 4, 1, mode)
-        explained(place, f'{mode:o}', [first, before, write], [first, write, after], wanted)
+        wants(place, f'{mode:o}', [first, before, write], [first, write, after], wanted)
 
 
 def a_size_that_no_write_left(place: Comparisons) -> None:
     """Without a WRITE that overlaps, a size is what the last one left."""
     writes = [wrote(end, end, client=1) for end in (4, 8, 12)]
     for size, wanted in ((12, 0), (4, 1), (7, 1), (1, 1), (13, 1)):
-        explained(place, f'{size}', [got(NAME, 7), *writes], [*writes, got(NAME, 7, size=size)],
-                  wanted)
+        wants(place, f'{size}', [got(NAME, 7), *writes], [*writes, got(NAME, 7, size=size)],
+              wanted)
     for size, wanted in ((8, 0), (12, 0), (10, 0), (4, 1), (13, 1)):
         slow = [*writes[:2], writes[2]._replace(is_slow=True), got(NAME, 7, size=size)]
-        explained(place, f'{size} meanwhile', [got(NAME, 7), *writes], slow, wanted)
+        wants(place, f'{size} meanwhile', [got(NAME, 7), *writes], slow, wanted)
 
 
 # --- Names ---
 
 def a_listing_that_lacks_a_name(place: Comparisons) -> None:
-    """A name that was made before is listed, also if the other run lists it too early."""
-    late, early = listed(b'f'), listed(b'f', b'z')
-    for what, first, second, wanted in (
-            ('made', [late, make()], [make(), early], 0),
-            ('meanwhile', [make(is_slow=True), late], [make(), early], 0),
-            ('lacks it', [make(is_slow=True), early], [make(), late], 1),
-            ('both are wrong', [early, make()], [make(), late], 1)):
-        explained(place, what, [*first, ROOT], [*second, ROOT], wanted)
+    """A name that was made before is listed, also if the other run lists it too early. Of a LOOKUP
+    the same holds: NOENT before a name is made, or meanwhile, and OK after that."""
+    nothing = Step(LOOKUP, dirop(W, b'z'), failed(NOENT, post_op_attr()))
+    found, slow = looked(b'z', b'handle z', 50, folder=W), make(is_slow=True)
+    for late, early in ((listed(b'f'), listed(b'f', b'z')), (nothing, found)):
+        for what, first, second, wanted in (
+                ('made', [late, make()], [make(), early], 0),
+                ('meanwhile', [slow, late], [make(), early], 0),
+                ('lacks it', [slow, early], [make(), late], 1),
+                ('both are wrong', [early, make()], [make(), late], 1),
+                ('too early', [slow, late], [early, make()], 1)):
+            wants(place, f'{late.procedure} {what}', [*first, ROOT], [*second, ROOT], wanted)
 
 
 def names_that_a_client_gave_to_open_files(place: Comparisons) -> None:
     """An entry that is renamed to a name of a removed file is one object."""
     hidden = b'.nfs%024x' % 9
     rename = Step(RENAME, dirop(W, b'f') + dirop(W, hidden), ok(wcc(), wcc()), client=1)
-
-    def renamed(handle: bytes) -> Step:
-        entries = [messages.entryplus(7, hidden, 1, fattr(1, 7), handle)]
-        return Step(READDIRPLUS, fh(W) + bytes(16) + word(512) + word(4096),
-                    ok(messages.entries(fattr(2, 3), bytes(8), entries, is_end=True)))
     for what, other, wanted in (('renamed', NAME, 0), ('another', b'handle g', 1)):
-        explained(place, what, [listed(b'f'), rename], [rename, renamed(other)], wanted)
-
-
-def a_lookup_that_finds_nothing(place: Comparisons) -> None:
-    """NOENT before a name is made, or meanwhile, and OK after that."""
-    nothing = Step(LOOKUP, dirop(W, b'z'), failed(NOENT, post_op_attr()))
-    found, slow = looked(b'z', b'handle z', 50, folder=W), make(is_slow=True)
-    for what, first, second, wanted in (
-            ('made', [nothing, make()], [make(), found], 0),
-            ('meanwhile', [slow, nothing], [make(), found], 0),
-            ('gone', [slow, found], [make(), nothing], 1),
-            ('too early', [slow, nothing], [found, make()], 1)):
-        explained(place, what, [*first, ROOT], [*second, ROOT], wanted)
+        entry = messages.entryplus(7, hidden, 1, fattr(1, 7), other)
+        wants(place, what, [listed(b'f'), rename], [rename, entries_of(entry)], wanted)
 
 
 def ids_are_replaced_by_items(place: Comparisons) -> None:
@@ -187,10 +178,9 @@ def ids_are_replaced_by_items(place: Comparisons) -> None:
         names = (b'f', first), (b'g', second)
         entries = [messages.entryplus(fileid, name, at, fattr(1, fileid), b'handle ' + name)
                    for at, (name, fileid) in enumerate(((b'f', first), (b'g', wrong)), 1)]
-        found = [looked(name, b'handle ' + name, fileid, folder=W) for name, fileid in names]
-        return [ROOT, FOLDER, *found, *(got(b'handle ' + name, fileid) for name, fileid in names),
-                Step(READDIRPLUS, fh(W) + bytes(16) + word(512) + word(4096),
-                     ok(messages.entries(fattr(2, 3), bytes(8), entries, is_end=True)))]
+        return [ROOT, FOLDER,
+                *(looked(name, b'handle ' + name, fileid, folder=W) for name, fileid in names),
+                *(got(b'handle ' + name, fileid) for name, fileid in names), entries_of(*entries)]
     said = any_order(place, run(10, 11, 11), run(20, 21, 20))
     labels = {one['label'] for found in said.json['findings'] for one in found['differences']}
     place.want('labels', (said.status, {label.split('.')[0] for label in labels}),
@@ -199,22 +189,17 @@ def ids_are_replaced_by_items(place: Comparisons) -> None:
 
 # --- Calls of one run alone ---
 
-def alone(place: Comparisons, what: str, some: Sequence[Step], extra: Step, wanted: int) -> None:
-    """One run has a question that the other does not have."""
-    explained(place, what, some, [*some, extra], wanted)
-
-
 def no_entry_is_an_answer_of_lookup_alone(place: Comparisons) -> None:
     """NOENT of any other question of one run alone is a difference."""
     asked = {GETATTR: b'', ACCESS: word(1), READLINK: b'', READDIR: bytes(16) + word(512),
              FSSTAT: b'', FSINFO: b'', PATHCONF: b''}
     for procedure, more in asked.items():
         results = failed(NOENT, *[post_op_attr()] * (procedure != GETATTR))
-        alone(place, f'{procedure}', END, Step(procedure, fh(NAME) + more, results), 1)
+        wants(place, f'{procedure}', END, [*END, Step(procedure, fh(NAME) + more, results)], 1)
     gone = Step(LOOKUP, dirop(W, b'z'), failed(NOENT, post_op_attr()))
     found = looked(b'z', b'handle z', 50, folder=W)
-    explained(place, 'LOOKUP', [make(), found], [gone, make(), found], 0)
-    explained(place, 'LOOKUP after it', [make(), found], [make(), found, gone], 1)
+    wants(place, 'LOOKUP', [make(), found], [gone, make(), found], 0)
+    wants(place, 'LOOKUP after it', [make(), found], [make(), found, gone], 1)
 
 
 def results_of(procedure: int, handle: bytes, changed: int) -> Step:
@@ -232,21 +217,22 @@ def results_that_no_other_answer_has(place: Comparisons) -> None:
     """Limits, links, rights and times are those of the same question, and each name comes once."""
     for procedure in (FSINFO, PATHCONF, FSSTAT, READLINK):
         for changed, wanted in ((0, 0), (1, 1)):
-            alone(place, f'{procedure} {changed}', [results_of(procedure, NAME, 0), *END],
-                  results_of(procedure, NAME, changed), wanted)
+            some = [results_of(procedure, NAME, 0), *END]
+            wants(place, f'{procedure} {changed}', some,
+                  [*some, results_of(procedure, NAME, changed)], wanted)
     rights = [Step(ACCESS, fh(NAME) + word(asked), ok(post_op_attr(), word(granted)))
               for asked, granted in ((7, 5), (3, 1), (3, 3), (15, 5))]
     for right, wanted in zip(rights, (0, 0, 1, 1)):
-        alone(place, f'{right}', [rights[0], *END], right, wanted)
+        wants(place, f'{right}', [rights[0], *END], [rights[0], *END, right], wanted)
     for attributes in ({'nlink': 9}, {'mode': 0o7777}, {'size': 1}, {'uid': 1}, {'fsid': 9}):
-        alone(place, f'{attributes}', END, got(NAME, 7, **attributes), 1)
+        wants(place, f'{attributes}', END, [*END, got(NAME, 7, **attributes)], 1)
     both = [make(), listed(b'f', b'z'), *END]
     for what, extra, wanted in (
             ('whole', listed(b'f', b'z'), 0), ('twice', listed(b'f', b'z', b'f'), 1),
             ('lacks', listed(b'z'), 1), ('gone', listed(b'f', b'z', b'y'), 1),
             ('part', listed(b'f', is_end=False), 0),
             ('part that lacks', listed(b'z', is_end=False), 1)):
-        alone(place, what, both, extra, wanted)
+        wants(place, what, both, [*both, extra], wanted)
 
 
 def equal_answers_that_a_run_does_not_allow(place: Comparisons) -> None:

@@ -98,48 +98,55 @@ def any_order(place: Comparisons, first: Sequence[Step], second: Sequence[Step])
     return compared(place, first, second, '--order', 'any')
 
 
+def differs(place: Comparisons, what: str, first: Sequence[Step], second: Sequence[Step],
+            *found: str) -> Answer:
+    """Two runs differ in any order, by these findings."""
+    said = any_order(place, first, second)
+    place.want(what, (said.status, said.found), (1, [*found]))
+    return said
+
+
+def explained(place: Comparisons, what: str, first: Sequence[Step], second: Sequence[Step],
+              kind: str = 'explained') -> Answer:
+    """Two runs are the same in any order, which explains one answer."""
+    said = any_order(place, first, second)
+    place.want(what, (said.status, [one['kind'] for one in said.json['left_out']]), (0, [kind]))
+    return said
+
+
 # --- Answers ---
 
 def a_lookup_that_fails(place: Comparisons) -> None:
     """One client, all calls in the same order: no order explains a LOOKUP that fails in one run."""
     for status in (NOENT, IO, ACCES, STALE, SERVERFAULT):
-        said = any_order(place, [*BOTH, F], [*BOTH, not_found(b'f', status)])
-        place.want(f'{status}', (said.status, said.found), (1, ['changed LOOKUP']))
+        differs(place, f'{status}', [*BOTH, F], [*BOTH, not_found(b'f', status)], 'changed LOOKUP')
 
 
 def a_lookup_of_something_else(place: Comparisons) -> None:
     """The handle of another file, another name, another user, a name that was removed."""
     made_both = [ROOT, created(b'f', b'handle f', 7), created(b'g', b'handle g', 8)]
-    other = looked(b'f', b'handle g', 8)
-    said = any_order(place, [*made_both, F, G], [*made_both, other, G])
-    place.want('handle', (said.status, set(said.found)), (1, {'changed LOOKUP'}))
-    for what, first, second in (('name', [*made_both, F], [*made_both, G]),
-                                ('name, before a change', [*BOTH, F, removed(b'h')],
-                                 [*BOTH, G, removed(b'h')])):
-        said = any_order(place, first, second)
-        place.want(what, (said.status, {one.split()[1] for one in said.found}), (1, {'LOOKUP'}))
-    said = any_order(place, [*BOTH, F], [*BOTH, F._replace(user=1)])
-    place.want('user', said.status, 1)
     gone = [*made_both, removed(b'f')]
-    said = any_order(place, [*gone, not_found(b'f')], [*gone, F])
-    place.want('gone', (said.status, said.found), (1, ['changed LOOKUP']))
+    for what, times, first, second in (
+            ('handle', 1, [*made_both, F, G], [*made_both, looked(b'f', b'handle g', 8), G]),
+            ('name', 2, [*made_both, F], [*made_both, G]),
+            ('name, before a change', 2, [*BOTH, F, removed(b'h')], [*BOTH, G, removed(b'h')]),
+            ('user', 1, [*BOTH, F], [*BOTH, F._replace(user=1)]),
+            ('gone', 1, [*gone, not_found(b'f')], [*gone, F])):
+        differs(place, what, first, second, *['changed LOOKUP'] * times)
 
 
 def what_an_order_explains(place: Comparisons) -> None:
     """A name that another client makes before or after it is looked up. The change is named."""
     new = created(b'new', b'handle new', 9, client=1)
-    found = looked(b'new', b'handle new', 9)
-    said = any_order(place, [*BOTH, not_found(b'new'), new, ROOT], [*BOTH, new, found, ROOT])
-    place.want('same', (said.status, said.lines[1].partition(':')[0]),
-               (0, 'same in another order, 1 answer explained by order'))
-    place.want('JSON', (said.json['verdict'], [one['kind'] for one in said.json['left_out']]),
-               ('same in another order', ['explained']))
-    place.want('why', said.json['left_out'][0]['why'],
-               'CREATE ?/new at connection 2 client record 1 of the second run')
-    wrong = found._replace(results=ok(fh(b'handle f'), post_op_attr(fattr(1, 7)), post_op_attr()))
-    for what, answer in (('another file', wrong), ('an error', not_found(b'new', IO))):
-        said = any_order(place, [*BOTH, not_found(b'new'), new, ROOT], [*BOTH, new, answer, ROOT])
-        place.want(what, said.status, 1)
+    found, first = looked(b'new', b'handle new', 9), [*BOTH, not_found(b'new'), new, ROOT]
+    said = explained(place, 'same', first, [*BOTH, new, found, ROOT])
+    place.want('in words', (said.lines[1].partition(':')[0], said.json['verdict'],
+                            said.json['left_out'][0]['why']),
+               ('same in another order, 1 answer explained by order', 'same in another order',
+                'CREATE ?/new at connection 2 client record 1 of the second run'))
+    for what, answer in (('another file', looked(b'new', b'handle f', 7)),
+                         ('an error', not_found(b'new', IO))):
+        place.want(what, any_order(place, first, [*BOTH, new, answer, ROOT]).status, 1)
 
 
 def listed_entries(names: Sequence[bytes], fileid: int = 50) -> Step:
@@ -162,31 +169,26 @@ def a_handle_of_no_call(place: Comparisons) -> None:
                    messages.entryplus(2, b'..', 1, fattr(2, 2), b'handle above')]
         results = ok(messages.entries(fattr(2, 3), bytes(8), entries, is_end=True))
         return Step(READDIRPLUS, fh(b'folder') + bytes(16) + word(512) + word(4096), results)
-    said = any_order(place, [ROOT, FOLDER, F, listed(), NEW], [ROOT, FOLDER, F, NEW, listed(b'z')])
-    place.want('explained', (said.status, [left['kind'] for left in said.json['left_out']]),
-               (0, ['explained']))
+    explained(place, 'listed', [ROOT, FOLDER, F, listed(), NEW],
+              [ROOT, FOLDER, F, NEW, listed(b'z')])
 
 
 def entries_that_an_order_explains(place: Comparisons) -> None:
     """A listing may lack a name that is made meanwhile, and no other."""
-    first = [ROOT, FOLDER, BEFORE, NEW, F]
-    for what, one, other in (('made', first, [ROOT, FOLDER, NEW, AFTER, F]),
-                             ('during', [ROOT, FOLDER, NEW, AFTER, F],
-                              [ROOT, FOLDER, NEW._replace(is_slow=True), BEFORE, F])):
-        said = any_order(place, one, other)
-        place.want(what, (said.status, [left['kind'] for left in said.json['left_out']]),
-                   (0, ['explained']))
+    first, later = [ROOT, FOLDER, BEFORE, NEW, F], [ROOT, FOLDER, NEW, AFTER, F]
+    for what, one, other in (('made', first, later), ('during', later, [
+            ROOT, FOLDER, NEW._replace(is_slow=True), BEFORE, F])):
+        explained(place, what, one, other)
         for words, status in (('any b a', 0), ('strict a b', 1), ('any --extra none a b', 1)):
             place.want(f'{what} {words}', place.compare('--order', *words.split())[0], status)
     for names in ([b'x', b'z'], [b'y', b'x', b'z'], [b'x', b'y', b'z', b'q']):
-        said = any_order(place, first, [ROOT, FOLDER, NEW, listed_entries(names), F])
-        place.want(f'{names}', (said.status, said.found), (1, ['changed READDIR']))
+        differs(place, f'{names}', first, [ROOT, FOLDER, NEW, listed_entries(names), F],
+                'changed READDIR')
     for what, change in (('a change that fails', NEW._replace(results=failed(EXIST, wcc()))),
                          ('another folder', NEW._replace(
                              arguments=dirop(b'other', b'z') + word(0) + sattr()))):
-        said = any_order(place, [ROOT, FOLDER, BEFORE, change, F],
-                         [ROOT, FOLDER, change, AFTER, F])
-        place.want(what, said.status, 1)
+        place.want(what, any_order(place, [ROOT, FOLDER, BEFORE, change, F],
+                                   [ROOT, FOLDER, change, AFTER, F]).status, 1)
 
 
 def what_is_left_out_is_listed(place: Comparisons) -> None:
@@ -217,13 +219,10 @@ def calls_that_fail_alone(place: Comparisons) -> None:
     """Calls that only ask count if they fail, or ask about what is unknown."""
     for status in (SERVERFAULT, IO, STALE):
         more = [Step(GETATTR, fh(b'handle f'), failed(status))] * 3
-        said = any_order(place, BOTH, [*BOTH, *more])
-        place.want(f'{status}', (said.status, said.found), (1, ['only GETATTR'] * 3))
+        differs(place, f'{status}', BOTH, [*BOTH, *more], *['only GETATTR'] * 3)
     bad = Step(GETATTR, fh(b'nobody'), failed(BADHANDLE))
-    said = any_order(place, BOTH, [*BOTH[:3], bad, BOTH[4]])
-    place.want('handle', said.status, 1)
-    said = any_order(place, BOTH, [*BOTH, not_found(b'never')])
-    place.want('name', (said.status, said.found), (1, ['only LOOKUP']))
+    place.want('handle', any_order(place, BOTH, [*BOTH[:3], bad, BOTH[4]]).status, 1)
+    differs(place, 'name', BOTH, [*BOTH, not_found(b'never')], 'only LOOKUP')
 
 
 def calls_that_are_many(place: Comparisons) -> None:
@@ -232,8 +231,7 @@ def calls_that_are_many(place: Comparisons) -> None:
     said = any_order(place, BOTH, [*BOTH, *[more] * 10])
     place.want('ten', (said.status, said.lines[1].partition(':')[0]),
                (0, 'same but for calls left out'))
-    said = any_order(place, BOTH, [*BOTH, *[more] * 11])
-    place.want('eleven', (said.status, said.found), (1, ['only GETATTR'] * 11))
+    said = differs(place, 'eleven', BOTH, [*BOTH, *[more] * 11], *['only GETATTR'] * 11)
     place.want('told', any('GETATTR: 11 more than 10' in line for line in said.lines), True)
 
 
@@ -243,40 +241,37 @@ def access(bits: int, user: int = 1000) -> Step:
 
 def changed_users(place: Comparisons) -> None:
     """Another user of one call, in its place or in another one."""
-    said = any_order(place, [*BOTH, access(1), F, G], [*BOTH, F, G, access(1, user=0)])
-    place.want('elsewhere', (said.status, said.found), (1, ['only ACCESS'] * 2))
-    said = any_order(place, [*BOTH, access(1), access(1)], [*BOTH, access(1), access(1, user=0)])
-    place.want('there', (said.status, said.found), (1, ['changed ACCESS']))
+    differs(place, 'elsewhere', [*BOTH, access(1), F, G], [*BOTH, F, G, access(1, user=0)],
+            *['only ACCESS'] * 2)
+    differs(place, 'there', [*BOTH, access(1), access(1)], [*BOTH, access(1), access(1, user=0)],
+            'changed ACCESS')
 
 
 def ids_that_follow_their_objects(place: Comparisons) -> None:
     """File ids that a server gives out again are no difference, and it is said that they follow."""
-    def run(ids: Sequence[int]) -> list[Step]:
-        names = [b'f%d' % number for number in range(3)]
-        return [ROOT, *(looked(name, b'h' + name, one) for name, one in zip(names, ids)),
-                *(got(b'h' + name, one) for name, one in zip(names, ids))]
+    def run(ids: Sequence[int], last: int | None = None) -> list[Step]:
+        some = [(b'f%d' % number, b'hf%d' % number, one) for number, one in enumerate(ids)]
+        *known, (_, handle, own) = some
+        return [ROOT, *(looked(*one) for one in some), *(got(*one[1:]) for one in known),
+                got(handle, own if last is None else last)]
     said = any_order(place, run([7, 8, 9]), run([7, 8, 7]))
     place.want('ids', (said.status, said.lines[1].partition(':')[0], said.json['verdict']),
                (0, 'same but for ids', 'same but for ids'))
-    wrong = [*run([7, 8, 7])[:-1], got(b'hf2', 8)]
-    said = any_order(place, run([7, 8, 9]), wrong)
-    place.want('a wrong one', (said.status, said.found), (1, ['changed GETATTR']))
+    differs(place, 'a wrong one', run([7, 8, 9]), run([7, 8, 7], 8), 'changed GETATTR')
 
 
 def calls_that_were_sent_again(place: Comparisons) -> None:
     """One that was sent again is one exchange, left out in any order."""
     again = [*BOTH, removed(b'f')._replace(sent=2, answered=2), F]
-    once = [*BOTH, removed(b'f'), F]
+    once, why = [*BOTH, removed(b'f'), F], 'sent once in the first run, 2 times in the second'
     said = compared(place, once, again, '--order', 'strict')
-    place.want('strict', (said.status, said.found), (1, ['sent again REMOVE']))
-    place.want('told', any('sent once in the first run, 2 times in the second' in line
-                           for line in said.lines), True)
-    said = any_order(place, once, again)
-    place.want('any', (said.status, [(one['kind'], one['why']) for one in said.json['left_out']]),
-               (0, [('sent again', 'sent once in the first run, 2 times in the second')]))
-    place.want('both', any_order(place, again, again).status, 0)
+    place.want('strict', (said.status, said.found, any(why in line for line in said.lines)),
+               (1, ['sent again REMOVE'], True))
+    said = explained(place, 'any', once, again, 'sent again')
+    place.want('why', said.json['left_out'][0]['why'], why)
     lost = [*BOTH, removed(b'f')._replace(sent=2), F]
-    place.want('answered once', any_order(place, once, lost).status, 0)
+    for first, second in ((again, again), (once, lost)):
+        place.want('as often, or answered once', any_order(place, first, second).status, 0)
 
 
 def other_replies_to_a_call_sent_again(place: Comparisons) -> None:
