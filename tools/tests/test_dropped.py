@@ -133,8 +133,8 @@ def stray_ends(tools: Tools) -> None:
         for bad, row in ((None, 'ok'), (15, RECORD_16 % 36)):
             told(tools, f'{side} {bad}', with_frames(
                 lambda talk: [talk.frame(side, FIN | ACK)], bad), bad is not None, [row])
-    for what, note in (('left out', f'server: {REPLY} bytes fit nowhere in the stream, and are left '
-                        'out, first frame 25'), ('missing', '')):
+    note = f'server: {REPLY} bytes fit nowhere in the stream, and are left out, first frame 25'
+    for what, note in (('left out', note), ('missing', '')):
         talk = Talk()
         frames = [*talk.opened(), *exchanged(talk, range(10))]
         last = ([*moved(talk, 0, REPLY), talk.frame(1, FIN | ACK), *moved(talk, 0, -REPLY),

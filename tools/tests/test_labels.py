@@ -54,7 +54,7 @@ PARTS = {'?': attr, '!': change, '-': lambda owner: change(owner)[:6], '+': list
 
 
 def labels_in(text: str) -> list[str]:
-    """The labels of a row, in which `~` stands for a space."""
+    """The labels of a row, in which `~` is a space."""
     out = list[str]()
     for one in text.replace('SET', SET).replace('~', '\0').split():
         one = one.replace('\0', ' ')

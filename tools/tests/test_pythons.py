@@ -1,6 +1,7 @@
-"""Tests that the tools run under each Python from 3.9 on, and tell older ones so."""
+"""Tests that the tools run under each Python from 3.9 on, and tell older ones so; and of types."""
 import re
 import shutil
+import unittest
 from pathlib import Path
 
 from tests.shared.running import ended
@@ -57,3 +58,11 @@ def is_told(tools: Tools, python: str) -> None:
         tools.want(f'{name} by {python}', ended([python, '-B', str(TOP / 'tools' / name), '--help'],
                                                 tools.folder).text(),
                    (3, '', f'{name}: needs Python 3.9 or later; this is {full}'))
+
+
+@unittest.skipUnless(shutil.which('mypy'), 'mypy is not there')
+def types_are_right(tools: Tools) -> None:
+    """mypy --strict finds nothing in nfs3tools."""
+    status, out, error = ended(['mypy', '--cache-dir', tools.path('cache')], TOP / 'tools',
+                               limit=None).text()
+    tools.want('mypy', (status, out if status else '', error), (0, '', ''))
