@@ -8,11 +8,10 @@ from examples.messages import (
     guard, hyper, ok, opaque, post_op_attr, sattr, success, wcc, word)
 from examples.packets import Talk, pcap
 
-from .browser import Browser
 from .comparisons import Comparisons, Conversation, Exchange, conversation_of
 from .pages import (
-    HERE, HOSTILE, SHOWN, VISIBLE, WIDTHS, Node, Pages, asked_of_others, broken_links, find,
-    in_chromium, light_of, table_of)
+    HERE, HOSTILE, SHOWN, VISIBLE, WIDTHS, Browser, Node, Pages, asked_of_others, broken_links,
+    find, in_chromium, light_of, table_of)
 from .scripts import CHANGED, EXAMPLES, FIRST, SECOND
 
 GETATTR, SETATTR, LOOKUP, READLINK, READ, WRITE, MKDIR, READDIR, READDIRPLUS = (
