@@ -18,8 +18,8 @@ from ..nfs3tools.judgement.verdict import Verdict, counts_after, is_row, status_
 from ..nfs3tools.recordings.coverage import Allowed
 from ..nfs3tools.reporting.messages import port_numbers
 from .recordings import (
-    enhanced, fragments, fragments_6, in_geneve, in_gre, in_labels, in_session, in_snap, in_vxlan,
-    interface, pcapng, section, udp)
+    fragments, fragments_6, in_geneve, in_gre, in_labels, in_session, in_snap, in_vxlan, pcapng,
+    udp)
 from .scripts import (
     ALL, CALLS, REPLIES, REPLY, Tools, verdicts_on, connection_of, sums, taken_of, whole)
 
@@ -341,17 +341,6 @@ def options_that_are_gone(tools: Tools) -> None:
         status, out, error = tools.tool(*words)
         tools.want(' '.join(words), (status, out, error.count('\n'), instead in error),
                    (2, '', 1, True))
-
-
-def interfaces_that_are_not_read(tools: Tools) -> None:
-    """Frames of a link type that is not read are not checked."""
-    frames = [*map(enhanced, good()), *(enhanced(frame, index=1) for frame in good())]
-    recording = section() + interface() + interface(105) + b''.join(frames)
-    told = 'not checked: 15 frames of the link type 105 are not read; what is in them is not known'
-    verdicts = verdicts_on(tools.program, recording)
-    statuses = [status_of(verdicts, Allowed(not_checked=allowed)) for allowed in (False, True)]
-    tools.want('rows', ([verdict.message for verdict in verdicts], statuses),
-               (['ok', told], [1, 0]))
 
 
 def ports_that_are_chosen(tools: Tools) -> None:

@@ -274,16 +274,6 @@ def comparable(one: dict[str, Any]) -> list[object]:
                                  'user', 'arguments', 'answer')]
 
 
-def with_origins(tools: Tools) -> None:
-    """The exchanges that gave the handles are there, so OUT has the whole path."""
-    recording = FIRST
-    one = next(one for one in listed(tools, recording) if one['procedure'] == 'NFSPROC3_READ')
-    status, lines, _ = cut_out(tools, '--origins', recording,
-                            f'frame {one["frame"]}', 'out.pcap')
-    found = [other for other in listed(tools, 'out.pcap') if comparable(other) == comparable(one)]
-    tools.want('path', (status, [other['path'] for other in found]), (0, [one['path']]))
-
-
 def openings_that_do_not_fit(tools: Tools) -> None:
     """Frames of SYN are left out if they are too far from the records."""
     talk = Talk()

@@ -335,20 +335,6 @@ def calls_of_one_run_with_other_arguments(place: Findings) -> None:
                                 'record 5'])
 
 
-def equal_findings_of_renamed_values(place: Findings) -> None:
-    """Handles that stand for several are folded by what is said."""
-    def links(*handles: bytes) -> Conversation:
-        return conversation_of((15, fh(b'from') + dirop(handle, b'a'), ok(NOTHING, wcc()))
-                               for handle in handles)
-    place.put_both(links(b'1111', b'2222', b'3333', b'4444'),
-                   links(b'5555', b'5555', b'5555', b'6666'))
-    place.wants('two', 1, [
-        '2 calls of NFSPROC3_LINK ?/a, first: connection 1 client record 2 | connection 1 client '
-        'record 2', '  - link.fh=32323232',
-        '  + link.fh=35353535    # elsewhere 35353535 of the second run is 31313131 of the first',
-        'fields that differ, and how often: link.fh of NFSPROC3_LINK 2'])
-
-
 def the_first_twenty(place: Findings) -> None:
     """Findings that say the same count once for the 20 that are printed."""
     files = [(b'%d' % number, 3) for number in range(1, 25)]

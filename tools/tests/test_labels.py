@@ -13,7 +13,6 @@ from ..nfs3tools.exchanges.listing import Message, line_of
 from ..nfs3tools.exchanges.whose import Labels, fields_of
 from ..nfs3tools.comparison.values.classes import Mask, Way, mask_of
 from ..nfs3tools.comparison.verdict.differences import Comparison
-from .comparisons import Conversation
 from .test_findings import FILE, FOLDER, Findings, H, VERIFIER
 
 SETTINGS = sattr(0o644, 1, 2, 3, set_to_client_time(NOW), set_to_client_time(NOW))
@@ -205,31 +204,6 @@ def fields_are_those_of_labels(place: Findings) -> None:
         found = {(message.procedure, field) for message in listed for field in all_fields(message)}
         place.want(f'seed {seed}', [(procedure, field) for procedure, field in found
                                     if field not in fields_of(procedure)], [])
-
-
-def differing_labels(place: Findings) -> None:
-    """What differs has its label, in the order of the listing, and the summary has its field."""
-    def moved(old: int, new: int) -> Conversation:
-        reply = ok(wcc(old, fattr(DIR, 1, 4096)), wcc(9, fattr(DIR, 2, new, nlink=new)))
-        listing = ok(messages.entries(fattr(DIR, 1), bytes(8),
-                                      [messages.entryplus(old, b'a', 0, fattr(REG, 3, new))],
-                                      is_end=True))
-        calls = [call(1, NFS, 3, 14, dirop(b'from', b'a') + dirop(b'to', b'b')),
-                 call(2, NFS, 3, 17, fh(b'from') + bytes(24))]
-        return calls, [success(1, reply), success(2, listing)]
-    place.put_both(moved(5, 6), moved(7, 8))
-    place.wants('labels', 1, [
-        'NFSPROC3_RENAME reply ?/a: connection 1 server record 1 | connection 1 server record 1',
-        '  - from-dir before.size=5', '  + from-dir before.size=7', '  - to-dir after.nlink=6',
-        '  + to-dir after.nlink=8', '  - to-dir after.size=6', '  + to-dir after.size=8',
-        'NFSPROC3_READDIRPLUS reply: connection 1 server record 2 | connection 1 server record 2',
-        '  - entry "a" listed.fileid=5', '  + entry "a" listed.fileid=7', '  - entry "a".size=6',
-        '  + entry "a".size=8',
-        'fields that differ, and how often: from-dir before.size of NFSPROC3_RENAME 1, to-dir '
-        'after.nlink of NFSPROC3_RENAME 1, '
-        'to-dir after.size of NFSPROC3_RENAME 1, entry listed.fileid of NFSPROC3_READDIRPLUS 1, '
-        'entry.size of NFSPROC3_READDIRPLUS 1'],
-        '--mask=-ids')
 
 
 # --- Classes that whose an item is decides, or its value ---

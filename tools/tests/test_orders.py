@@ -55,23 +55,6 @@ def looked_up(*names: bytes) -> Conversation:
                     for name in names)
 
 
-def runs_without_a_common_call(place: Comparisons) -> None:
-    """Names that the other run does not know are differences."""
-    place.put('a', looked_up(b'a0', b'a1', b'a2'))
-    for names in ((b'b0', b'b1'), (b'b0',)):
-        place.put('b', looked_up(*names))
-        for words in (['a', 'b'], ['b', 'a']):
-            status, out, error = place.compare('--order', 'any', *words)
-            place.want(f'{names} {words}', (status, out[1].startswith('differ in any order'),
-                                            error), (1, True, ''))
-    place.put('b', looked_up(b'b0', b'b1', b'b2'))
-    status, out, _ = place.compare('--order', 'any', '--all', 'a', 'b')
-    place.want('as many', (status, out[1], [line for line in out if line.startswith('  ')]), (
-        1, 'differ in any order at connection 1 client record 1', [
-            line for number in range(3) for line in (f'  - name="a{number}"',
-                                                     f'  + name="b{number}"')]))
-
-
 def questions_that_are_changed(place: Comparisons) -> None:
     """A client that asks for a wrong name has changed a call, wherever it asks."""
     names = [b'f%d' % number for number in range(6)]
