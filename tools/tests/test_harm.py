@@ -380,39 +380,34 @@ SHOWN = 'a\\x1b[31m\\x0a\\x5cä\\xff'
 
 def names(tools: Tools) -> None:
     """Names of files are printed as the programs print them, wherever that is."""
-    lost = Talk(701)
-    for name, content in (('.pcap', pcap([*whole(), lost.sent(0, bytes(8))])),
-                          ('.nfs3cap', CAPTURE), ('.text', b'no recording')):
-        with open(os.fsencode(tools.path(HOSTILE + name)), 'wb') as file:
-            file.write(content)
     recording, capture, program = HOSTILE + '.pcap', HOSTILE + '.nfs3cap', [
         '--program', tools.program]
-    rows = [['from_pcap', capture, 'out'], ['from_pcap', HOSTILE, 'out'],
-            ['from_pcap', recording, HOSTILE + '/out'],
-            ['from_pcap', recording, recording], ['where', capture, 'file 8'],
-            ['where', HOSTILE, 'file 8'], ['where', recording, HOSTILE],
-            ['where', recording, 'file 8', HOSTILE], ['compare', *program, recording, capture],
-            ['compare', *program, HOSTILE, capture],
-            ['compare', *program, '--html', recording, capture, capture],
-            ['compare', '--program', HOSTILE, capture, capture],
-            ['verdicts', *program, recording, HOSTILE],
-            ['verdicts', *program, '--junit', recording, capture],
-            ['explain', HOSTILE, 'connection 1 client record 1']]
-    for words in rows:
-        command = [tool(words[0]), *words[1:]]
-        done = ended([os.fsencode(word) for word in command], tools.folder)
-        printed = (done.out + done.error).decode(errors='replace')
-        what = f'{words[0]} {words[-1]!r}'
-        tools.want(what, (re.findall(r'[\x00-\x09\x0b-\x1f]|Traceback', printed),
-                          SHOWN in printed or SHOWN.replace('\\x5c', '\\') in printed),
-                   ([], True))
-    ended([os.fsencode(word) for word in (tool('compare'), *program, '--html', 'page', recording,
-                                          capture)], tools.folder)
-    page = (tools.read('page') or b'').decode()
+    for name, content in ((recording, pcap([*whole(), Talk(701).sent(0, bytes(8))])),
+                          (capture, CAPTURE), (HOSTILE + '.text', b'no recording')):
+        with open(os.fsencode(tools.path(name)), 'wb') as file:
+            file.write(content)
+
+    def printed(name: str, *words: str) -> str:
+        done = ended([os.fsencode(word) for word in (tool(name), *words)], tools.folder)
+        return (done.out + done.error).decode(errors='replace')
+    for words in (['from_pcap', capture, 'out'], ['from_pcap', HOSTILE, 'out'],
+                  ['from_pcap', recording, HOSTILE + '/out'], ['from_pcap', recording, recording],
+                  ['where', capture, 'file 8'], ['where', HOSTILE, 'file 8'],
+                  ['where', recording, HOSTILE], ['where', recording, 'file 8', HOSTILE],
+                  ['compare', *program, recording, capture],
+                  ['compare', *program, HOSTILE, capture],
+                  ['compare', *program, '--html', recording, capture, capture],
+                  ['compare', '--program', HOSTILE, capture, capture],
+                  ['verdicts', *program, recording, HOSTILE],
+                  ['verdicts', *program, '--junit', recording, capture],
+                  ['explain', HOSTILE, 'connection 1 client record 1']):
+        text = printed(*words)
+        tools.want(f'{words[0]} {words[-1]!r}', (
+            re.findall(r'[\x00-\x09\x0b-\x1f]|Traceback', text),
+            SHOWN in text or SHOWN.replace('\\x5c', '\\') in text), ([], True))
+    printed('compare', *program, '--html', 'page', '--json', 'json', recording, capture)
+    page, content = ((tools.read(name) or b'').decode() for name in ('page', 'json'))
     tools.want('the page', (page.count(SHOWN), '\x1b' in page), (4, False))
-    ended([os.fsencode(word) for word in (tool('compare'), *program, '--json', 'json', recording,
-                                          capture)], tools.folder)
-    content = (tools.read('json') or b'').decode()
     tools.want('JSON', (re.findall(r'\\ud[89a-f]', content),
                         [run['name'] for run in json.loads(content)['runs']]),
                ([], [SHOWN + '.pcap', SHOWN + '.nfs3cap']))
