@@ -20,16 +20,22 @@ NAMES = r'^  [-+] (?:[^=]*\.)?(\w+)='
 
 
 def sequences_brought_together(place: Comparisons) -> None:
-    """Pairs are equal, increase on both sides, and are as many as can be."""
+    """Pairs and blocks are equal, increase on both sides, and are as few as what differs asks
+    for."""
     chance = random.Random(5)
     for _ in range(300):
-        first = [chance.randrange(6) for _ in range(chance.randrange(30))]
-        second = [chance.randrange(6) for _ in range(chance.randrange(30))]
-        pairs = aligned(first, second)
-        place.want('equal', [first[at] == second[to] for at, to in pairs], [True] * len(pairs))
-        place.want('in order', pairs, sorted(set(pairs)))
-        place.want('each once', len({to for _, to in pairs}), len(pairs))
-        place.want('seconds in order', [to for _, to in pairs], sorted(to for _, to in pairs))
+        first, second = (array('q', [chance.randrange(6) for _ in range(chance.randrange(90))])
+                         for _ in range(2))
+        pairs, blocks = aligned([*first], [*second]), blocks_of(first, second)
+        place.want('equal', ([first[at] == second[to] for at, to in pairs],
+                             [first[at:at + size] == second[to:to + size] and size > 0
+                              for at, to, size in blocks]),
+                   ([True] * len(pairs), [True] * len(blocks)))
+        place.want('each once, in order', all(
+            at < later and to < other for (at, to), (later, other) in zip(pairs, pairs[1:])), True)
+        place.want('blocks in order', all(
+            one.at + one.size <= after.at and one.to + one.size <= after.to
+            for one, after in zip(blocks, blocks[1:])), True)
     some = list(range(40))
     chance.shuffle(some)
     place.want('all of equal ones', aligned(some, some), [(at, at) for at in range(40)])
@@ -39,18 +45,7 @@ def sequences_brought_together(place: Comparisons) -> None:
 
 
 def sequences_in_blocks(place: Comparisons) -> None:
-    """Blocks are equal, increase on both sides, and are as few as what differs asks for."""
-    chance = random.Random(6)
-    for _ in range(300):
-        first, second = (array('q', [chance.randrange(6) for _ in range(chance.randrange(90))])
-                         for _ in range(2))
-        blocks = blocks_of(first, second)
-        place.want('equal', [first[at:at + size] == second[to:to + size] and size > 0
-                             for at, to, size in blocks], [True] * len(blocks))
-        place.want('in order', [before.at + before.size <= after.at and before.to + before.size
-                                <= after.to
-                                for before, after in zip(blocks, blocks[1:])],
-                   [True] * (len(blocks) - 1 if blocks else 0))
+    """Blocks are as large as can be."""
     many = array('q', range(10_000))
     other = many[:2_000] + array('q', [-1, -2]) + many[2_000:5_000] + many[5_001:9_000] + array(
         'q', [-3]) + many[9_001:]

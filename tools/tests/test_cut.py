@@ -493,32 +493,22 @@ def what_is_refused(tools: Tools) -> None:
     tools.write('a.pcap', pcap(whole()))
     for name in ('old', 'old.pcap'):
         shutil.copy(TOP / 'examples/null.nfs3cap', tools.path(name))
-    before = tools.read('old')
-    for words, status, message in (
-            (('a.pcap', 'file 12: BadMark', 'new'), 2, 'cut: no record: file 12\n'),
-            (('a.pcap', 'connection 1 client record 1', 'a.pcap'), 2,
-             'cut: a.pcap is an input, and is not replaced\n'),
-            (('old', 'connection 1 client record 1', 'a.pcap'), 2,
-             'cut: a.pcap is a recording, and is not replaced\n'),
-            (('old', 'connection 1 client record 1', './old'), 2,
-             'cut: ./old is an input, and is not replaced\n'),
-            (('absent', 'connection 1 client record 1', 'new'), 2,
-             'cut: absent: No such file or directory\n'),
-            (('a.pcap', 'connection 1 client record 1', 'old.pcap'), 2,
-             'cut: old.pcap is a capture, and is not replaced\n'),
-            (('old', 'connection 1 client record 1', 'new.pcap'), 2,
-             'cut: old is a capture, which has no frames\n'),
-            (('a.pcap', 'connection 1 client record 1', 'new.pcapng'), 2,
-             'cut: new.pcapng: OUT may be a .pcap, and no .pcapng\n'),
-            (('--origins', str(TOP / 'examples/bad_bool.nfs3cap'), 'connection 1 client record 1',
-              'old'), 2,
-             f'cut: {TOP}/examples/bad_bool.nfs3cap is refused, so the origins of its handles are '
-             f'not known: {FAULTS["bad_bool"][0]}\n')):
-        tools.want(message, cut_out(tools, *words), (status, [], message))
+    before, record = tools.read('old'), 'connection 1 client record 1'
+    bad = str(TOP / 'examples/bad_bool.nfs3cap')
+    for words, message in (
+            (['a.pcap', 'file 12: BadMark', 'new'], 'no record: file 12'),
+            (['a.pcap', record, 'a.pcap'], 'a.pcap is an input, and is not replaced'),
+            (['old', record, 'a.pcap'], 'a.pcap is a recording, and is not replaced'),
+            (['old', record, './old'], './old is an input, and is not replaced'),
+            (['absent', record, 'new'], 'absent: No such file or directory'),
+            (['a.pcap', record, 'old.pcap'], 'old.pcap is a capture, and is not replaced'),
+            (['old', record, 'new.pcap'], 'old is a capture, which has no frames'),
+            (['a.pcap', record, 'new.pcapng'], 'new.pcapng: OUT may be a .pcap, and no .pcapng'),
+            (['--program', './absent', 'a.pcap', record, 'new'], './absent is missing'),
+            (['--origins', bad, record, 'old'], f'{bad} is refused, so the origins of its handles '
+             f'are not known: {FAULTS["bad_bool"][0]}')):
+        tools.want(message, tools.tool('cut', *words), (2, '', f'cut: {message}\n'))
     tools.want('what is there', (tools.names(), tools.read('old'), tools.read('a.pcap')),
                (['a.pcap', 'old', 'old.pcap'], before, pcap(whole())))
-    status = cut_out(tools, 'a.pcap', 'connection 1 client record 1', 'old')[0]
-    tools.want('an older capture', (status, tools.read('old') != before), (0, True))
-    tools.want('no program', tools.tool('cut', '--program', './absent', 'a.pcap',
-                                        'connection 1 client record 1', 'new'),
-               (2, '', 'cut: ./absent is missing\n'))
+    tools.want('an older capture', (cut_out(tools, 'a.pcap', record, 'old')[0],
+                                    tools.read('old') != before), (0, True))

@@ -424,54 +424,51 @@ def mounted(name: bytes, status: int, data: bytes, more: int = 0) -> Conversatio
     return tuple(map(list, zip(mounting, looking, writing, *null)))
 
 
-def at(side: str, record: int) -> dict[str, object]:
-    return {'position': f'connection 1 {side} record {record}', 'frames': []}
-
-
-def finding(kind: str, procedure: str, path: str | None, *, is_call: bool = True,
-            **more: object) -> dict[str, object]:
-    return {'kind': kind, 'procedure': procedure, 'is_call': is_call, 'path': path,
-            'remark': '', 'differences': [], 'arguments': [], **more}
-
-
 def as_json(place: Findings) -> None:
     """A comparison as an object: verdict, mask, both runs, and each finding."""
     place.put_both(mounted(b'x', 2, b'o' * 40, more=1), mounted(b'x', 13, b'o' * 38))
-    status = {'field': 'status', 'label': 'status', 'first': '2', 'second': '13', 'remark': '',
-              'names': ['NFS3ERR_NOENT', 'NFS3ERR_ACCES'], 'apart': None}
-    data = {'field': 'data', 'label': 'data', 'first': '6f' * 40, 'second': '6f' * 38, 'remark': '',
-            'names': [None, None],
-            'apart': {'at': 38, 'offset': 1_038, 'differing': 0, 'sizes': [40, 38],
-                      'shown': ['..' + '6f' * 8 + ' 6f6f', '..' + '6f' * 8],
-                      'sha256': [None, None]}}
-    counts = {'judged': 1, 'ok': 1, 'refused': 0, 'in part': 0, 'left out': 0, 'without calls': 0,
-              'not checked': 0, 'errors': 0, 'raw': {}}
-    whole = {'connections': 1, 'missing': 0, 'counts': counts, 'not_judged': [], 'left_out': {}}
+
+    def at(side: str, record: int) -> dict[str, object]:
+        return {'position': f'connection 1 {side} record {record}', 'frames': []}
+    one = {'kind': 'changed', 'is_call': True, 'remark': '', 'arguments': []}
+    own = {'remark': '', 'names': [None, None], 'apart': None}
+    findings = [
+        {**one, 'procedure': 'NFSPROC3_LOOKUP', 'is_call': False, 'path': '/m/x', **dict.fromkeys(
+            ('first', 'second'), at('server', 2)), 'differences': [
+                {**own, 'field': 'status', 'label': 'status', 'first': '2', 'second': '13',
+                 'names': ['NFS3ERR_NOENT', 'NFS3ERR_ACCES']}]},
+        {**one, 'procedure': 'NFSPROC3_WRITE', 'path': '/m', **dict.fromkeys(
+            ('first', 'second'), at('client', 3)), 'differences': [
+                {**own, 'field': 'data', 'label': 'data', 'first': '6f' * 40, 'second': '6f' * 38,
+                 'apart': {'at': 38, 'offset': 1_038, 'differing': 0, 'sizes': [40, 38],
+                           'shown': ['..' + '6f' * 8 + ' 6f6f', '..' + '6f' * 8],
+                           'sha256': [None, None]}}]},
+        {**one, 'kind': 'only', 'procedure': 'NFSPROC3_NULL', 'path': None, 'differences': [],
+         'first': at('client', 4), 'second': None}]
+    counts = dict.fromkeys(('refused', 'in part', 'left out', 'without calls', 'not checked',
+                            'errors'), 0)
+    whole = {'connections': 1, 'missing': 0, 'not_judged': [], 'left_out': {},
+             'counts': {'judged': 1, 'ok': 1, 'raw': {}, **counts}}
+    order = dict.fromkeys(('calls', 'replies', 'connections', 'on_another_connection'), 0)
+    fields = [{'procedure': 'NFSPROC3_LOOKUP', 'field': 'status', 'count': 1},
+              {'procedure': 'NFSPROC3_WRITE', 'field': 'data', 'count': 1}]
     wanted: dict[str, Any] = {
-        'version': 1, 'accepted': None, 'verdict': 'differ',
+        'version': 1, 'accepted': None, 'verdict': 'differ', 'same_under': None,
         'position': 'connection 1 server record 2', 'mask': {'times': 'zero', 'ids': 'number'},
-        'same_under': None, 'runs': [{'name': 'a', 'calls': 4, 'only': 1, **whole},
+        'runs': [{'name': 'a', 'calls': 4, 'only': 1, **whole},
                  {'name': 'b', 'calls': 3, 'only': 0, **whole}],
-        'order': {'together': 3, 'calls': 0, 'replies': 0, 'connections': 0,
-                  'on_another_connection': 0},
-        'fields': [{'procedure': 'NFSPROC3_LOOKUP', 'field': 'status', 'count': 1},
-                   {'procedure': 'NFSPROC3_WRITE', 'field': 'data', 'count': 1}],
-        'ignored': [], 'left_out': [], 'findings': [
-            finding('changed', 'NFSPROC3_LOOKUP', '/m/x', is_call=False, first=at('server', 2),
-                    second=at('server', 2), differences=[status]),
-            finding('changed', 'NFSPROC3_WRITE', '/m', first=at('client', 3),
-                    second=at('client', 3), differences=[data]),
-            finding('only', 'NFSPROC3_NULL', None, first=at('client', 4), second=None)]}
-    place.want('status', place.compare('--mask', 'times,ids', '--json', 'out.json', 'a', 'b')[0], 1)
-    place.want('differ', place.json('out.json'), wanted)
-    place.compare('--mask', 'times,ids', '--ignore', '*.status', '--json', 'out.json', 'a', 'b')
-    place.want('left out', place.json('out.json'), {**wanted, 'findings': wanted[
-        'findings'][1:], 'fields': wanted['fields'][1:], 'ignored': wanted['fields'][:1]})
-    place.want('status', place.compare('--mask', 'none', '--json', 'out.json', 'a', 'a')[0], 0)
-    place.want('same', place.json('out.json'), {
-        **wanted, 'verdict': 'same', 'position': None, 'mask': {},
-        'order': {**wanted['order'], 'together': 4},
-        'runs': [{**wanted['runs'][0], 'only': 0}] * 2, 'fields': [], 'findings': []})
+        'order': {'together': 3, **order}, 'fields': fields, 'ignored': [], 'left_out': [],
+        'findings': findings}
+    for words, runs, status, changes in (
+            (['--mask', 'times,ids'], 'ab', 1, {}),
+            (['--mask', 'times,ids', '--ignore', '*.status'], 'ab', 1, {
+                'findings': findings[1:], 'fields': fields[1:], 'ignored': fields[:1]}),
+            (['--mask', 'none'], 'aa', 0, {
+                'verdict': 'same', 'position': None, 'mask': {}, 'fields': [], 'findings': [],
+                'order': {'together': 4, **order},
+                'runs': [{**wanted['runs'][0], 'only': 0}] * 2})):
+        found = place.compare(*words, '--json', 'out.json', *runs)[0]
+        place.want(f'{words}', (found, place.json('out.json')), (status, {**wanted, **changes}))
 
 
 def each_error_names_its_run(place: Findings) -> None:

@@ -124,41 +124,26 @@ def what_is_not_decompressed(tools: Tools) -> None:
 
 
 def times(tools: Tools) -> None:
-    """The times of frames, by the unit and offset of their interface."""
-    frames, second = whole(), 1_000_000_000
+    """The times of frames, by the unit and offset of their interface. One that does not fit 63 bits
+    of nanoseconds is unknown."""
+    frames, second, most, year = whole(), 1_000_000_000, (1 << 63) - 1, 31_536_000
     for what, recording, time in (
-            ('microseconds', pcap(frames), second + 3_000),
-            ('nanoseconds', pcap(frames, magic=NANOSECONDS), second + 3),
-            ('microseconds, big-endian', pcap(frames, order='>'), second + 3_000),
-            ('nanoseconds, big-endian', pcap(frames, order='>', magic=NANOSECONDS), second + 3),
+            *((f'{magic:x} {order}', pcap(frames, order=order, magic=magic), second + 3 * unit)
+              for magic, unit in ((0xa1b2c3d4, 1_000), (NANOSECONDS, 1)) for order in '<>'),
             ('pcapng', pcapng(frames), 3_000), ('pcapng, big-endian', pcapng(frames, '>'), 3_000),
-            ('milliseconds', section() + interface(unit=3)
-             + b''.join(enhanced(frame, 7 << 30) for frame in frames), (7 << 30) * 1_000_000),
-            ('a power of two', section() + interface(unit=0x80 | 10)
-             + b''.join(enhanced(frame, 1_536) for frame in frames), second * 3 // 2),
-            ('an offset', section() + interface(unit=9, offset=5)
-             + b''.join(enhanced(frame, 1) for frame in frames), 5 * second + 1)):
-        noted = taken_of(recording).connections[0].client.frames(0, 1)
-        tools.want(what, [tuple(frame) for frame in noted], [(4, time)])
-
-
-def times_past_63_bits(tools: Tools) -> None:
-    """A time that does not fit 63 bits of nanoseconds is unknown."""
-    frames, most, year = whole(), (1 << 63) - 1, 31_536_000
-    for what, head, number, time in (
-            ('the last that fits', interface(unit=9), most, most),
-            ('one more', interface(unit=9), most + 1, 0),
-            ('all bits', interface(unit=9), (1 << 64) - 1, 0),
-            ('seconds', interface(unit=0), 1 << 40, 0),
-            ('the last seconds', interface(unit=0), 9_223_372_036, 9_223_372_036 * 10 ** 9),
-            ('the first seconds too many', interface(unit=0), 9_223_372_037, 0),
-            ('an offset', interface(unit=9, offset=1 << 62), 1, 0),
-            ('an offset back', interface(unit=9, offset=-(1 << 62)), 1, 0),
-            ('an offset of a year', interface(unit=9, offset=-year), year * 10 ** 9 + 1, 1)):
-        tools.write('a.pcap',
-                    section() + head + b''.join(enhanced(frame, number) for frame in frames))
-        noted = taken_of(tools.read('a.pcap') or b'').connections[0].client.frames(0, 1)
-        tools.want(what, [tuple(frame) for frame in noted], [(4, time)])
+            *((f'unit {unit} offset {offset}, {number}',
+               section() + interface(unit=unit, offset=offset)
+               + b''.join(enhanced(frame, number) for frame in frames), time)
+              for unit, offset, number, time in (
+                  (3, 0, 7 << 30, (7 << 30) * 1_000_000), (0x80 | 10, 0, 1_536, second * 3 // 2),
+                  (9, 5, 1, 5 * second + 1), (9, 0, most, most), (9, 0, most + 1, 0),
+                  (9, 0, (1 << 64) - 1, 0), (0, 0, 1 << 40, 0),
+                  (0, 0, 9_223_372_036, 9_223_372_036 * second), (0, 0, 9_223_372_037, 0),
+                  (9, 1 << 62, 1, 0), (9, -(1 << 62), 1, 0), (9, -year, year * second + 1, 1)))):
+        tools.write('a.pcap', recording)
+        with taken_of(recording) as taken:
+            noted = taken.connections[0].client.frames(0, 1)
+            tools.want(what, [tuple(frame) for frame in noted], [(4, time)])
         found = tools.tool('where', 'a.pcap', 'connection 1 client record 1 byte 0')
         tools.want(what + ', where', (found[0], found[1].splitlines()[1:2]
                                       == ['frame 4, without a time'], found[2]), (0, not time, ''))
@@ -240,10 +225,10 @@ def recordings_that_are_none(tools: Tools) -> None:
             ('three bytes of gzip', gzip.compress(b'x')[:3], 'the compressed file is cut short'),
             ('xz', b'\xfd7zXZ\0\0', 'the compressed file is cut short'),
             ('zstd', b'\x28\xb5\x2f\xfd', ''),
-            ('lz4', b'\x04\x22\x4d\x18', 'it is compressed by lz4'),
-            ('a magic alone', pcap([])[:4], 'its header is cut short')):
-        tools.refused(what, recording, message) if what != 'a magic alone' else tools.want(
-            what, message in (taken_of(recording).damage or ''), True)
+            ('lz4', b'\x04\x22\x4d\x18', 'it is compressed by lz4')):
+        tools.refused(what, recording, message)
+    tools.want('a magic alone',
+               'its header is cut short' in (taken_of(pcap([])[:4]).damage or ''), True)
 
 
 def link_layers(tools: Tools) -> None:

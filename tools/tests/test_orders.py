@@ -33,13 +33,12 @@ def calls_that_only_ask(place: Comparisons) -> None:
     place.put_both(asked_again(4), asked_again(1))
     asked, where = '3 NFSPROC3_GETATTR ?/f', ', first: connection 1 client record '
     out = place.says('left out', 0, 'same but for calls left out', '--order', 'any')
-    place.want('listed', ('; left out: 3 GETATTR of the first run' in out[1],
-                          out[2].startswith(f'left out of the first run: {asked}{where}'),
-                          out[3].endswith('; left out: 3 GETATTR only in the first run')),
-               (True, True, True))
     every = [line for line in place.compare('--order', 'any', '--all', 'a', 'b')[1]
              if line.startswith('left out of the first run: 1 ')]
-    place.want('all', (len(every), len(set(every))), (3, 3))
+    place.want('listed', ('; left out: 3 GETATTR of the first run' in out[1],
+                          out[2].startswith(f'left out of the first run: {asked}{where}'),
+                          out[3].endswith('; left out: 3 GETATTR only in the first run'),
+                          len(every), len({*every})), (True, True, True, 3, 3))
     status, out, _ = place.compare('b', 'a')
     place.want('of the second', (status, '; left out: 3 GETATTR of the second run' in out[1]),
                (1, True))
@@ -71,19 +70,6 @@ def questions_that_are_changed(place: Comparisons) -> None:
     place.want('in another place',
                (status, [line.partition(': ')[0] for line in out if line.startswith('only in')]),
                (1, ['only in the first run', 'only in the second run']))
-
-
-def a_client_without_commit(place: Comparisons) -> None:
-    """COMMIT asks the server to keep what was written: it is not left out."""
-    steps = [(GETATTR, fh(b'a'), ok(fattr(1, 1))),
-             (WRITE, fh(b'a') + hyper(0) + word(1) + word(0) + opaque(b'x'),
-              ok(wcc(), word(1), word(0), b'verifier')),
-             (21, fh(b'a') + hyper(0) + word(0), ok(wcc(), b'verifier'))]
-    place.put_both(conversation_of(steps), conversation_of(steps[:2]))
-    for order in ('any', 'strict'):
-        status, out, _ = place.compare('--order', order, 'a', 'b')
-        place.want(order, (status, out[2].partition(': connection')[0]),
-                   (1, 'only in the first run: NFSPROC3_COMMIT'))
 
 
 def seen_in_the_middle(place: Comparisons) -> None:
@@ -161,28 +147,27 @@ def values_that_stand_for_others(place: Comparisons) -> None:
     """Equal values that correspond to others elsewhere are marked so."""
     def run(*verifiers: bytes) -> Conversation:
         return conversation_of((CREATE, dirop(b'top', b'f%d' % at) + messages.how(2, verifier),
-                         ok(messages.made(None, None, wcc())))
-                        for at, verifier in enumerate(verifiers))
+                                ok(messages.made(None, None, wcc())))
+                               for at, verifier in enumerate(verifiers))
     a, b, c = (letter * 8 for letter in (b'a', b'b', b'c'))
-    place.put_both(run(a, b, b), run(a, c, b))
-    where = 'connection 1 client record %d'
-    status, out, _ = place.compare('a', 'b')
-    place.want('one', (status, out[2:4]), (1, [
-        f'NFSPROC3_CREATE ?/f2: {where % 3} | {where % 3}',
-        f'  = createverf={b.hex()}    # elsewhere {b.hex()} of the first run is {c.hex()} of the '
-        'second']))
-    place.put_both(run(a, b, b, b), run(a, c, b, b))
-    status, out, _ = place.compare('a', 'b')
-    line = ('2 messages have values that are equal in both runs, and that correspond to others '
-            'elsewhere, first: '
-            f'{where % 3} | {where % 3}: createverf of NFSPROC3_CREATE 2')
-    place.want('several', (status, out[2], len(out)), (1, line, 5))
-    status, out, _ = place.compare('--all', 'a', 'b')
-    place.want('all', (status, sum(line.startswith('  = ') for line in out)), (1, 2))
-    for words in (['a', 'b'], ['--all', 'a', 'b'], ['--brief', 'a', 'b']):
-        values = [line.partition('=')[2] for line in place.compare(*words)[1]
-                  if line.startswith(('  - ', '  + '))]
-        place.want('no two equal values', len(values), len(set(values)))
+    where = 'connection 1 client record 3 | connection 1 client record 3'
+    for first, second, lines in (
+            (run(a, b, b), run(a, c, b), [
+                f'NFSPROC3_CREATE ?/f2: {where}',
+                f'  = createverf={b.hex()}    # elsewhere {b.hex()} of the first run is {c.hex()} '
+                'of the second']),
+            (run(a, b, b, b), run(a, c, b, b), [
+                '2 messages have values that are equal in both runs, and that correspond to others '
+                f'elsewhere, first: {where}: createverf of NFSPROC3_CREATE 2'])):
+        place.put_both(first, second)
+        status, out, _ = place.compare('a', 'b')
+        place.want(f'{len(lines)}', (status, out[2:2 + len(lines)]), (1, lines))
+    place.want('several', len(out), 5)
+    for words, number in ((['a', 'b'], 0), (['--all', 'a', 'b'], 2), (['--brief', 'a', 'b'], 0)):
+        out = place.compare(*words)[1]
+        values = [line.partition('=')[2] for line in out if line.startswith(('  - ', '  + '))]
+        place.want(f'{words}', (sum(line.startswith('  = ') for line in out),
+                                len(values) == len({*values})), (number, True))
 
 
 def orders_of_replies(place: Comparisons) -> None:
@@ -249,24 +234,6 @@ def one_call_more_among_alike_ones(place: Comparisons) -> None:
         'only in the second run: NFSPROC3_LOOKUP ?/folder: connection 1 client record 11']))
     place.want('in words', out[-1],
                '18 of 20 calls matched; 2 only in the second run; obj.nlink in 4 replies')
-
-
-def files_that_were_made_again(place: Comparisons) -> None:
-    """Two files that had one name, one after the other, are two, and a rename moves a file."""
-    def run(order: Sequence[int], prefix: bytes) -> Conversation:
-        def made(number: int) -> bytes:
-            return ok(messages.made(prefix + b'%d' % number, None, wcc()))
-        steps = [(CREATE, dirop(b'top', b'x') + word(0) + sattr(), made(1)),
-                 (GETATTR, fh(prefix + b'1'), ok(fattr(1, 1, size=1))),
-                 (REMOVE, dirop(b'top', b'x'), ok(wcc())),
-                 (CREATE, dirop(b'top', b'x') + word(0) + sattr(), made(2)),
-                 (GETATTR, fh(prefix + b'2'), ok(fattr(1, 1, size=1))),
-                 (GETATTR, fh(b'other'), ok(fattr(1, 9)))]
-        return conversation_of(steps[at] for at in order)
-    place.put_both(run((0, 1, 2, 3, 4, 5), b'a'), run((5, 0, 1, 2, 3, 4), b'b'))
-    status, out, _ = place.compare('--order', 'any', 'a', 'b')
-    place.want('again', (status, out[2]),
-               (0, '6 of 6 calls matched; 1 reordered; 1 reply reordered'))
 
 
 def one_name_for_many_files(place: Comparisons) -> None:

@@ -218,19 +218,17 @@ def parts_that_are_none(tools: Tools) -> None:
 def recordings_that_are_compressed(tools: Tools) -> None:
     """What to type names the tool that was called."""
     tools.write('a.lz4', b'\x04\x22\x4d\x18')
-    told = 'it is compressed by %s: decompress it first, as in `%s`'
-    for words, line in (
-            (('from_pcap', 'a.lz4', 'out'), told % ('lz4', 'lz4 -dc FILE | tools/from_pcap - OUT')),
-            (('where', 'a.lz4', 'file 20'),
-             told % ('lz4', 'lz4 -dc FILE | tools/where - POSITION')),
-            (('compare', '--program', tools.program, 'a.lz4', 'a.lz4'),
-             told % ('lz4', 'tools/compare <(lz4 -dc A) <(lz4 -dc B)'))):
-        # (of two recordings the name says which it is)
-        named = f'{words[0]}: {"a.lz4: " if words[0] == "compare" else ""}'
-        tools.want(words[0], tools.tool(*words), (2, '', f'{named}{line}\n'))
-    tools.want('verdicts', verdicts(tools, 'a.lz4')[1][0][-1],
-               told % ('lz4', 'lz4 -dc FILE | tools/verdicts -'))
     os.symlink(TOP / 'tools/where', tools.path('nfs3-where'))
+    told = 'it is compressed by lz4: decompress it first, as in `%s`'
+    # (of two recordings the name says which it is)
+    for words, error in ((['from_pcap', 'a.lz4', 'out'], 'lz4 -dc FILE | tools/from_pcap - OUT'),
+                         (['where', 'a.lz4', 'file 20'], 'lz4 -dc FILE | tools/where - POSITION'),
+                         (['compare', 'a.lz4', 'a.lz4'],
+                          'tools/compare <(lz4 -dc A) <(lz4 -dc B)')):
+        named = f'{words[0]}: {"a.lz4: " if words[0] == "compare" else ""}'
+        tools.want(words[0], tools.tool(*words), (2, '', f'{named}{told % error}\n'))
+    tools.want('verdicts', verdicts(tools, 'a.lz4')[1][0][-1],
+               told % 'lz4 -dc FILE | tools/verdicts -')
     done = ended([tools.path('nfs3-where'), 'a.lz4', 'file 20'], tools.folder)
     tools.want('installed', '`lz4 -dc FILE | nfs3-where - POSITION`' in done.error.decode(), True)
 
@@ -255,13 +253,12 @@ def faults_with_their_frames(tools: Tools) -> None:
     """Wrong recordings are named with their frame, captures without one."""
     for name, (place, frame) in FAULTS.items():
         fault = place.partition(' ')[2].partition(' ')[2]
-        status, rows, last, error = verdicts(tools, str(TOP / 'examples' / (name + '.pcap')))
-        tools.want(name, (status, rows[-1][-1], error), (1, f'{fault}, frame {frame}', ''))
-        tools.want(name + ', the others', all(row[-1] == 'ok' for row in rows[:-1]), True)
-        status, rows, last, error = verdicts(tools, str(TOP / 'examples' / (name + '.nfs3cap')))
-        tools.want(name + ' as a capture', (status, rows[-1][-1], error), (1, fault, ''))
-        answer = tools.run('check', str(TOP / 'examples' / (name + '.nfs3cap')))[2]
-        found = tools.tool('where', str(TOP / 'examples' / (name + '.pcap')), stdin=answer.encode())
+        recording, capture = (str(TOP / f'examples/{name}.{kind}') for kind in ('pcap', 'nfs3cap'))
+        for file, last in ((recording, f'{fault}, frame {frame}'), (capture, fault)):
+            status, rows, _, error = verdicts(tools, file)
+            tools.want(file, (status, rows[-1][-1], error, {row[-1] for row in rows[:-1]} - {'ok'}),
+                       (1, last, '', set()))
+        found = tools.tool('where', recording, stdin=tools.run('check', capture)[2].encode())
         tools.want(name + ' by where', found[1].splitlines()[-1], f'frame.number == {frame}')
 
 
@@ -298,14 +295,13 @@ def rows_of_all_kinds(tools: Tools) -> None:
 
 def rows_of_faults_alone(tools: Tools) -> None:
     """With -q rows of ok are left out."""
-    good, bad = pcap(whole()), (TOP / 'examples/bad_server_record.pcap').read_bytes()
-    for content, faults in ((good, 0), (bad, 1)):
+    for content, faults in ((pcap(whole()), 0),
+                            ((TOP / 'examples/bad_server_record.pcap').read_bytes(), 1)):
         status, rows, last, error = verdicts(tools, '-', stdin=content)
         quiet = tools.tool('verdicts', '-q', '-', stdin=content)
         *lines, counts = [re.split('  +', line) for line in quiet[1].splitlines()]
-        tools.want(f'faults: {faults}', (quiet[0], lines, counts, quiet[2]),
-                   (status, [row for row in rows if row[-1] != 'ok'], re.split('  +', last), error))
-        tools.want(f'rows: {faults}', (len(lines), len(rows) > faults), (faults, True))
+        tools.want(f'faults: {faults}', (quiet[0], lines, counts, quiet[2], len(lines)), (
+            status, [row for row in rows if row[-1] != 'ok'], re.split('  +', last), error, faults))
 
 
 def rows_of_files_that_are_not_whole(tools: Tools) -> None:
