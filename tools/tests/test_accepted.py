@@ -46,25 +46,24 @@ def a_field_is_accepted_by_procedure_path_and_values(place: Comparisons) -> None
     """An entry accepts a finding that fits each of its words."""
     place.put_both(run(1, 1, 1), run(1, 2, 1))
     place.want('without', compared(place), (1, 'differ', []))
-    same, differ = (0, 'same but for 1 accepted: 6 calls in 1 connection', ['1 accepted']), 'differ'
     fitting: list[dict[str, Any]] = [
         {}, {'path': '?/f*'}, {'path': '?/f[01]'}, {'path': '*'},
         {'field': 'obj.nlink', 'is_call': False}, {'procedure': '*'}]
-    for changes in fitting:
-        accepts(place, {**NLINK, **changes})
-        place.want(f'fits {changes}', compared(place, '--accept', 'known'), same)
-    for name in ('first', 'second', 'path'):
-        accepts(place, {key: value for key, value in NLINK.items() if key != name})
-        place.want(f'any {name}', compared(place, '--accept', 'known'), same)
+    without = [{key: value for key, value in NLINK.items() if key != name}
+               for name in ('first', 'second', 'path')]
+    for entry in (*({**NLINK, **changes} for changes in fitting), *without):
+        accepts(place, entry)
+        place.want(f'fits {entry}', compared(place, '--accept', 'known'), (
+            0, 'same but for 1 accepted: 6 calls in 1 connection', ['1 accepted']))
     others: list[dict[str, Any]] = [
         {'path': '?/f0'}, {'path': None}, {'path': '?/F1'}, {'first': '2'}, {'second': '3'},
-        {'second': None}, {'field': 'obj.mode'},
-        {'is_call': True}, {'procedure': 'NFSPROC3_LOOKUP'}]
+        {'second': None}, {'field': 'obj.mode'}, {'is_call': True},
+        {'procedure': 'NFSPROC3_LOOKUP'}]
     for changes in others:
         accepts(place, {**NLINK, **changes})
         status, verdict, lines = compared(place, '--accept', 'known')
         place.want(f'fits not {changes}', (status, verdict, lines[0], len(lines)),
-                   (1, differ, '0 accepted', 2))
+                   (1, 'differ', '0 accepted', 2))
 
 
 def entries_that_fit_nothing_are_named(place: Comparisons) -> None:
@@ -83,14 +82,11 @@ def a_call_of_one_run_alone_is_accepted_by_its_side(place: Comparisons) -> None:
     accepts(place, {**ONLY, 'times': 2})
     place.want('second', compared(place, '--accept', 'known'),
                (0, 'same but for 2 accepted: 4 calls in 1 connection', ['2 accepted']))
-    for what, other in (('times', {}), ('asks', {'asks': ['set.mode=511'], 'times': 2}),
-                        ('status', {'status': '5', 'times': 2})):
-        accepts(place, {**ONLY, **other})
-        place.want(what, compared(place, '--accept', 'known')[:2], (1, 'differ'))
-    accepts(place, {**ONLY, 'only': 'first'})
-    place.want('first', compared(place, '--accept', 'known')[:2], (1, 'differ'))
-    accepts(place, {'procedure': '*', 'field': 'set.mode'})
-    place.want('no field', compared(place, '--accept', 'known')[:2], (1, 'differ'))
+    for entry in (ONLY, {**ONLY, 'asks': ['set.mode=511'], 'times': 2},
+                  {**ONLY, 'status': '5', 'times': 2}, {**ONLY, 'only': 'first'},
+                  {'procedure': '*', 'field': 'set.mode'}):
+        accepts(place, entry)
+        place.want(f'{entry}', compared(place, '--accept', 'known')[:2], (1, 'differ'))
 
 
 def a_call_of_one_run_alone_is_accepted_with_its_answer(place: Comparisons) -> None:
@@ -118,34 +114,30 @@ def a_call_of_one_run_alone_is_accepted_with_its_answer(place: Comparisons) -> N
 def other_orders_stay_what_they_are(place: Comparisons) -> None:
     """An accepted field changes nothing of what an order means."""
     place.put_both(run(1, 1, 1), run(1, 2, 1, names=(2, 1, 0)))
-    accepts(place, NLINK)
     turned = 'same in another order but for 1 accepted: 6 calls; 2 reordered; 2 replies reordered'
-    place.want('by default', compared(place, '--accept', 'known')[:2], (1, turned))
-    place.want('any', compared(place, '--order', 'any', '--accept', 'known')[:2], (0, turned))
-    place.want('strict', compared(place, '--order', 'strict', '--accept', 'known')[:2],
-               (1, 'differ'))
-    every = {'procedure': '*', 'kind': 'moved'}
-    accepts(place, NLINK, every)
+    accepts(place, NLINK)
+    for words, status, verdict in (([], 1, turned), (['--order', 'any'], 0, turned),
+                                   (['--order', 'strict'], 1, 'differ')):
+        place.want(f'{words}', compared(place, *words, '--accept', 'known')[:2], (status, verdict))
+    accepts(place, NLINK, {'procedure': '*', 'kind': 'moved'})
     place.want('late replies', compared(place, '--order', 'strict', '--accept', 'known')[:2],
                (1, 'differ'))
 
 
 def nothing_else_becomes_green(place: Comparisons) -> None:
     """Whole connections and what is no field are never accepted."""
-    everything = [{'procedure': '*', 'field': 'obj.nlink', 'times': 9},
-                  {**ONLY, 'only': 'first', 'times': 9}, {**ONLY, 'times': 9},
-                  {'procedure': '*', 'kind': 'moved', 'times': 9},
-                  {'procedure': '*', 'kind': 'replies', 'first': '0', 'second': '0, 0',
-                   'says': ATTRIBUTES, 'times': 9}]
-    accepts(place, *everything)
+    accepts(place, {'procedure': '*', 'field': 'obj.nlink', 'times': 9},
+            {**ONLY, 'only': 'first', 'times': 9}, {**ONLY, 'times': 9},
+            {'procedure': '*', 'kind': 'moved', 'times': 9},
+            {'procedure': '*', 'kind': 'replies', 'first': '0', 'second': '0, 0',
+             'says': ATTRIBUTES, 'times': 9})
     place.put('a', run(1, 1))
-    place.put('b', run(1, 2), run(1, 1, more=1))
-    place.want('a connection more', compared(place, '--accept', 'known')[0], 1)
-    place.put('b', run(1, 2), ([], []))
-    place.want('an empty one, strict', compared(place, '--order', 'strict', '--accept',
-                                                'known')[:2], (1, 'differ'))
-    place.put_both(run(1), run(2)[:1] + ([],))
-    place.want('no replies', compared(place, '--accept', 'known')[0], 1)
+    for what, second, words in (
+            ('a connection more', [run(1, 2), run(1, 1, more=1)], []),
+            ('an empty one, strict', [run(1, 2), ([], [])], ['--order', 'strict']),
+            ('no replies', [(run(1, 2)[0], [])], [])):
+        place.put('b', *second)
+        place.want(what, compared(place, *words, '--accept', 'known')[0], 1)
 
 
 def lost_and_refused_connections_stay(place: Comparisons) -> None:
