@@ -198,34 +198,31 @@ def named_as_installed(place: Place) -> None:
                (False, True))
 
 
-# What each completion offers: an option of its own, or for the programs a word that only the
-# launcher knows.
-OFFERED = {'nfs3canon': '--version', 'nfs3mask': '--version', 'nfs3-from-pcap': '--port',
-           'nfs3-where': '--port', 'nfs3-verdicts': '--junit', 'nfs3-calls': '--slow',
-           'nfs3-procedures': '--beside', 'nfs3-compare': '--brief', 'nfs3-explain': '--port',
-           'nfs3-cut': '--origins'}
-# What is offered for the last of these words; shells offer files where this is nothing.
-OFFERED_WORDS: dict[str, list[str]] = {
-    'nfs3-compare --mask ti': ['times'],
+# What is offered after these words: an option among others, or just these words. Shells offer files
+# where this is nothing.
+OFFERED: dict[str, str | list[str]] = {
+    'nfs3canon --': '--version', 'nfs3mask --': '--version', 'nfs3-from-pcap --': '--port',
+    'nfs3-where --': '--port', 'nfs3-verdicts --': '--junit', 'nfs3-calls --': '--slow',
+    'nfs3-procedures --': '--beside', 'nfs3-compare --': '--brief', 'nfs3-explain --': '--port',
+    'nfs3-cut --': '--origins', 'nfs3-compare --mask ti': ['times'],
     'nfs3-compare --mask times,cookie': ['times,cookies', 'times,cookieverfs'],
     'nfs3-compare --mask ': ['none', *CLASSES_BY_NAME], 'nfs3-compare --order ': ['any', 'strict'],
     'nfs3-calls --sort ': ['latency', 'time'], 'nfs3-calls --sl': ['--slow'], 'nfs3-compare ': [],
     'nfs3-where ': []}
-# Of each shell the file of a program's completions, and a script that prints what it offers. Its
-# words are the name and the file or folder of completions, and in bash then those of the line; in
-# fish they are the line alone.
-IN_SHELLS = {
-    'bash': ('bash-completion/completions/%s', r'''
-. "$2"; [[ $(complete -p "$1") =~ ' -F '([^ ]+) ]]
-COMP_WORDS=("$1" "${@:3}"); COMP_CWORD=$(($# - 2)); compopt() { :; }
-"${BASH_REMATCH[1]}" "$1" "${COMP_WORDS[COMP_CWORD]}" "${COMP_WORDS[COMP_CWORD - 1]}"
-printf '%s\n' "${COMPREPLY[@]}"'''),
-    'zsh': ('zsh/site-functions/_%s', """fpath=("$2" $fpath); autoload -Uz compinit; compinit -u -D
-service=$1; words=("$1" --); CURRENT=2
+# Of each shell the file of a program's completions, and a command that prints what is offered. Its
+# words are that file, its folder, and the words of the line.
+SHELLS = {
+    'bash': ('bash-completion/completions/%s', ['--norc', '-c', r'''
+. "$1"; [[ $(complete -p "$3") =~ ' -F '([^ ]+) ]]
+COMP_WORDS=("${@:3}"); COMP_CWORD=$(($# - 3)); compopt() { :; }
+"${BASH_REMATCH[1]}" "$3" "${COMP_WORDS[COMP_CWORD]}" "${COMP_WORDS[COMP_CWORD - 1]}"
+printf '%s\n' "${COMPREPLY[@]}"''', 'bash']),
+    'zsh': ('zsh/site-functions/_%s', ['-f', '-c', '''
+fpath=("$2" $fpath); autoload -Uz compinit; compinit -u -D
+service=$3; words=("$3" --); CURRENT=2
 _arguments() { print -l -- $@ }; _describe() { print -l -- ${(P)2} }
-autoload -Uz $_comps[$1]; $_comps[$1]"""),
-    'fish': ('fish/vendor_completions.d/%s.fish', 'complete -C "$argv"')}
-OPTIONS_OF_SHELLS = {'bash': ['--norc'], 'zsh': ['-f'], 'fish': list[str]()}
+autoload -Uz $_comps[$3]; $_comps[$3]''', 'zsh']),
+    'fish': ('fish/vendor_completions.d/%s.fish', ['-c', 'complete -C "$argv[3..-1]"'])}
 
 
 def completions_load(place: Place) -> None:
@@ -233,30 +230,20 @@ def completions_load(place: Place) -> None:
     share = place.installed() / 'share'
     own = ('env', f'PATH={share.parent / "bin"}:{os.environ["PATH"]}', f'XDG_DATA_DIRS={share}',
            f'HOME={place.folder}')
-    for shell, (file, script) in IN_SHELLS.items():
-        if not shutil.which(shell):
-            continue
-
-        def offered(name: str, *given: str) -> list[str]:
-            """The lines that the shell offers."""
-            path = str(share / (file % name))
-            words = {'bash': ['bash', name, path, *given],
-                     'zsh': ['zsh', name, os.path.dirname(path)],
-                     'fish': [' '.join([name, *given])]}
-            status, out, _ = place.command(*own, shell, *OPTIONS_OF_SHELLS[shell], '-c', script,
-                                           *words[shell])
-            place.want(f'{shell}: {name}', status, 0)
-            return out.splitlines()
-        for name, option in OFFERED.items():
-            found = re.findall(r'(?<![\w-])--[a-z][a-z-]*', '\n'.join(offered(name, '--')))
-            place.want(f'{shell}: {name}', option in found or found, True)
-        for line, offer in OFFERED_WORDS.items() if shell != 'zsh' else ():
-            if offer or shell == 'bash':
-                found = [row.split('\t')[0] for row in offered(*line.split(' ')) if row]
-                place.want(f'{shell}: {line}', sorted(found), sorted(offer))
-        for name in PROGRAMS:
-            place.want(f'syntax: {shell}',
-                       place.command(*own, shell, '-n', str(share / (file % name))), (0, '', ''))
+    for shell, (file, command) in SHELLS.items():
+        for line, offer in OFFERED.items() if shutil.which(shell) else ():
+            path = share / (file % line.split()[0])
+            status, out, _ = place.command(*own, shell, *command, str(path), str(path.parent),
+                                           *line.split(' '))
+            rows = [row.split('\t')[0] for row in out.splitlines() if row]
+            options = re.findall(r'(?<![\w-])--[a-z][a-z-]*', out)
+            if isinstance(offer, str):
+                place.want(f'{shell}: {line}', (status, offer in options or out), (0, True))
+            elif shell == 'bash' or shell == 'fish' and offer:
+                place.want(f'{shell}: {line}', (status, sorted(rows)), (0, sorted(offer)))
+        for name in PROGRAMS if shutil.which(shell) else ():
+            place.want(f'syntax: {shell}', place.command(
+                *own, shell, '-n', str(share / (file % name))), (0, '', ''))
 
 
 def under_a_prefix(place: Place) -> None:
