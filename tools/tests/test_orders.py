@@ -15,7 +15,7 @@ from ..nfs3tools.comparison.values.classes import (
     Way, default_mask, following, in_any_order, mask_of)
 from ..nfs3tools.recordings.taken import take
 from ..nfs3tools.shared.programs import Died
-from .comparisons import Comparisons, Conversation, Exchange, conversation_of
+from .comparisons import Comparisons, Conversation, conversation_of
 from .scripts import measured
 
 GETATTR, LOOKUP, WRITE, CREATE, MKDIR, REMOVE = 1, 3, 7, 8, 9, 12
@@ -205,35 +205,6 @@ def connections_by_what_they_ask(place: Comparisons) -> None:
     place.want('in words', found[-1],
                '60 of 61 calls matched; 19 connections reordered; 1 only in the second run; '
                'obj.mode in 1 reply')
-
-
-def one_call_more_among_alike_ones(place: Comparisons) -> None:
-    """What is looked up after it shows it, and has no other turn."""
-    def run(is_made: bool) -> Conversation:
-        def found(folder: bytes, name: bytes, kind: int, nlink: int) -> Exchange:
-            return LOOKUP, dirop(folder, name), ok(
-                fh(name), post_op_attr(fattr(kind, 5, nlink=nlink)), post_op_attr())
-        steps = list[Exchange]()
-        for number in range(9):
-            if is_made and number == 4:
-                steps += [found(b'top', b'folder', 2, 2),
-                          (MKDIR, dirop(b'folder', b'new') + sattr(),
-                           ok(messages.made(b'new', None, wcc())))]
-            steps += [found(b'top', b'folder', 2, 2 + (is_made and number > 3)),
-                      found(b'folder', b'file %d' % number, 1, 1)]
-        return conversation_of(steps)
-    place.put_both(run(False), run(True))
-    made = 'only in the second run: NFSPROC3_MKDIR ?/folder/new: connection 1 client record 10'
-    status, out, _ = place.compare('--order', 'strict', 'a', 'b')
-    found = [line for line in place.compare('--order', 'any', 'a', 'b')[1][2:]
-             if line.startswith('only in')]
-    place.want('any', found, [made])
-    place.want('strict', (status, [line for line in out[2:-2] if line[:2] != '  ']), (1, [
-        made, '4 replies of NFSPROC3_LOOKUP ?/folder, first: connection 1 server record 11 | '
-        'connection 1 server record 13',
-        'only in the second run: NFSPROC3_LOOKUP ?/folder: connection 1 client record 11']))
-    place.want('in words', out[-1],
-               '18 of 20 calls matched; 2 only in the second run; obj.nlink in 4 replies')
 
 
 def one_name_for_many_files(place: Comparisons) -> None:

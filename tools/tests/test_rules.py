@@ -488,15 +488,6 @@ def a_listing_that_lacks_a_name(place: Comparisons) -> None:
             wants(place, f'{late.procedure} {what}', [*first, ROOT], [*second, ROOT], wanted)
 
 
-def names_that_a_client_gave_to_open_files(place: Comparisons) -> None:
-    """An entry that is renamed to a name of a removed file is one object."""
-    hidden = b'.nfs%024x' % 9
-    rename = Step(RENAME, dirop(W, b'f') + dirop(W, hidden), ok(wcc(), wcc()), client=1)
-    for what, other, wanted in (('renamed', NAME, 0), ('another', b'handle g', 1)):
-        entry = messages.entryplus(7, hidden, 1, fattr(1, 7), other)
-        wants(place, what, [listed(b'f'), rename], [rename, entries_of(entry)], wanted)
-
-
 def ids_are_replaced_by_items(place: Comparisons) -> None:
     """The entry with a wrong id is the one that is named."""
     def run(first: int, second: int, wrong: int) -> list[Step]:

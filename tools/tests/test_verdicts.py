@@ -40,48 +40,38 @@ def places(tools: Tools) -> None:
     frames += [again, talk.sent(0, content[:70]), again, talk.sent(0, content[70:]),
                talk.sent(1, ALL[1]), *talk.closed()]
     tools.write('a.pcap', pcap(frames, magic=NANOSECONDS))
-    times = {number: 'frame %d, 1970-01-01 00:00:01.%09d UTC' % (number, number - 1)
-             for number in range(1, 12)}
-    for place, lines in (
-            ('connection 1 client record 1 byte 0', [times[4], 'frame.number == 4']),
-            ('connection 1 client record 2 byte 1: BadEnum', [times[4], 'frame.number == 4']),
-            ('connection 1 client record 2 byte 2', [times[5], 'frame.number == 5']),
-            ('first: connection 1 client record 2 byte 24: Short', [times[7], 'frame.number == 7']),
-            ('second: connection 1 client record 3 byte 39: Short',
-             [times[7], 'frame.number == 7']),
-            ('connection 1 client record 3 byte 40: Short', [times[7], 'frame.number == 7']),
-            ('connection 1 server record 39 byte 23', [times[8], 'frame.number == 8']),
-            ('differ at connection 1 client record 1', [times[4], 'frame.number == 4']),
-            ('differ at connection 1 client record 2',
-             [times[4], times[5], times[7], 'frame.number in {4..5, 7}'])):
-        named = re.sub('^(?:first|second): |^differ at |: \\w+$', '',
-                       place).replace('connection 1 ', '')
-        tools.want(place, where(tools, place), (0, [HEAD % named, *lines], ''))
-    listed = '1 server 7 xid=7 NFSPROC3_NULL mtype=1 reply_stat=0'
-    tools.want(listed, where(tools, listed),
-               (0, [HEAD % 'server record 7', times[8], 'frame.number == 8'], ''))
-    for byte, frame in ((16, 4), (19, 4), (65, 4), (66, 5)):
-        lines = [f'file {byte}', times[frame], f'frame.number == {frame}']
-        tools.want(f'file {byte}', where(tools, f'file {byte}: TooManyBytes'), (0, lines, ''))
-    places_by_standard_input(tools, frames)
-
-
-def places_by_standard_input(tools: Tools, frames: list[bytes]) -> None:
-    """The place, or the recording; and files that have no frames, or are not there."""
+    head = HEAD.replace('connection 1 %s', '%s')
+    for place, numbers, named in (
+            ('connection 1 client record 1 byte 0', [4], ''),
+            ('connection 1 client record 2 byte 1: BadEnum', [4], ''),
+            ('connection 1 client record 2 byte 2', [5], ''),
+            ('first: connection 1 client record 2 byte 24: Short', [7], ''),
+            ('second: connection 1 client record 3 byte 39: Short', [7], ''),
+            ('connection 1 client record 3 byte 40: Short', [7], ''),
+            ('connection 1 server record 39 byte 23', [8], ''),
+            ('differ at connection 1 client record 1', [4], ''),
+            ('differ at connection 1 client record 2', [4, 5, 7], ''),
+            ('1 server 7 xid=7 NFSPROC3_NULL mtype=1 reply_stat=0', [8],
+             'connection 1 server record 7'),
+            *((f'file {byte}: TooManyBytes', [frame], f'file {byte}')
+              for byte, frame in ((16, 4), (19, 4), (65, 4), (66, 5)))):
+        named = named or re.sub('^(?:first|second): |^differ at |: \\w+$', '', place)
+        told = head % named if named[:4] != 'file' else named
+        tools.want(place, where(tools, place), (0, [
+            told, *(f'frame {one}, 1970-01-01 00:00:01.{one - 1:09} UTC' for one in numbers),
+            f'frame.number == {numbers[0]}' if len(numbers) == 1
+            else 'frame.number in {4..5, 7}'], ''))
     answer = tools.tool('where', 'a.pcap',
                         stdin=b'connection 1 client record 1 byte 0: RpcVersion\n')
-    tools.want('a place from standard input', answer[1].splitlines()[-1:], ['frame.number == 4'])
-    answer = tools.tool('where', '-', 'connection 1 client record 1 byte 0', stdin=pcap(frames))
-    tools.want('a recording from standard input', answer[1].splitlines()[-1:],
-               ['frame.number == 4'])
-    for words, message in ((('-',), 'where: POSITION has to be an argument if the recording is '
-                            'standard input\n'),
-                           (('b.nfs3cap', 'file 8'),
-                            'where: b.nfs3cap is a capture, which has no frames\n')):
-        shutil.copy(TOP / 'examples/null.nfs3cap', tools.path('b.nfs3cap'))
-        tools.want(message, tools.tool('where', *words), (2, '', message))
-    tools.want('an absent file', tools.tool('where', 'absent', 'file 8'),
-               (2, '', 'where: absent: No such file or directory\n'))
+    other = tools.tool('where', '-', 'connection 1 client record 1 byte 0', stdin=pcap(frames))
+    tools.want('standard input', [one[1].splitlines()[-1:] for one in (answer, other)],
+               [['frame.number == 4']] * 2)
+    shutil.copy(TOP / 'examples/null.nfs3cap', tools.path('b.nfs3cap'))
+    for words, message in (
+            (['-'], 'POSITION has to be an argument if the recording is standard input'),
+            (['b.nfs3cap', 'file 8'], 'b.nfs3cap is a capture, which has no frames'),
+            (['absent', 'file 8'], 'absent: No such file or directory')):
+        tools.want(message, tools.tool('where', *words), (2, '', f'where: {message}\n'))
 
 
 def places_of_other_recordings(tools: Tools) -> None:
@@ -429,15 +419,15 @@ def parts_without_quotes(tools: Tools) -> None:
     tools.write('run1.pcap', pcap(frames[:13]))
     tools.write('run2.pcap', pcap(frames[13:]))
     tools.write('other.pcap', pcap(talk_in_turns(Talk(701))[13:]))
-    line = 'run1.pcap and %s: these look like parts of one recording; put the pattern in quotes'
+    line = ('run1.pcap and run2.pcap: these look like parts of one recording; put the pattern in '
+            'quotes')
     for tool in ('verdicts', 'procedures', 'calls'):
-        for names, is_told in ((['run1.pcap', 'run2.pcap'], True),
-                               (['run2.pcap', 'run1.pcap'], True), (['run?.pcap'], False),
-                               (['run1.pcap', 'other.pcap'], False),
-                               (['run1.pcap', 'run1.pcap'], False), (['run2.pcap'], False)):
-            _, _, error = tools.tool(tool, *names)
+        for names, is_told in (('run1.pcap run2.pcap', True), ('run2.pcap run1.pcap', True),
+                               ('run?.pcap', False), ('run1.pcap other.pcap', False),
+                               ('run1.pcap run1.pcap', False), ('run2.pcap', False)):
+            _, _, error = tools.tool(tool, *names.split())
             tools.want(f'{tool} {names}', [one for one in error.splitlines() if 'look like' in one],
-                       [line % 'run2.pcap'] * is_told)
+                       [line] * is_told)
 
 
 def talk_in_turns(talk: Talk) -> list[bytes]:
