@@ -61,6 +61,11 @@ def places(tools: Tools) -> None:
             told, *(f'frame {one}, 1970-01-01 00:00:01.{one - 1:09} UTC' for one in numbers),
             f'frame.number == {numbers[0]}' if len(numbers) == 1
             else 'frame.number in {4..5, 7}'], ''))
+    places_by_standard_input(tools, frames)
+
+
+def places_by_standard_input(tools: Tools, frames: list[bytes]) -> None:
+    """The place, or the recording; and files that have no frames, or are not there."""
     answer = tools.tool('where', 'a.pcap',
                         stdin=b'connection 1 client record 1 byte 0: RpcVersion\n')
     other = tools.tool('where', '-', 'connection 1 client record 1 byte 0', stdin=pcap(frames))
