@@ -22,7 +22,7 @@ from ..nfs3tools.commands.verdicts import Judge
 from ..nfs3tools.recordings.selection import Options
 from .recordings import interface, section, simple
 from .scripts import (
-    FIRST, TOP, Tools, in_fragments, of_tshark, sums as sum_line, sums, taken_of, timed, whole)
+    FIRST, TOP, Tools, in_fragments, of_tshark, sums as sum_line, taken_of, timed, whole)
 
 HEADS = ['time', 'ms', 'frame', 'conn', 'call', 'answer']
 ROOT, FOLDER, FILE = b'root', b'folder', b'file'
@@ -422,92 +422,71 @@ def hung() -> bytes:
     return timed(sorted(frames, key=lambda one: one[0]), BEGUN)
 
 
-def rows_of(tools: Tools, *words: str) -> list[list[str]]:
-    """The cells of what tools/calls lists."""
-    status, out, error = tools.tool('calls', *words)
+def cells(tools: Tools, *words: str) -> list[list[str]]:
+    """The cells of the calls that a run lists."""
+    status, lines, error = calls(tools, *words)
     tools.want(f'calls {words}', (status, error), (0, ''))
-    return [re.split('  +', line.strip()) for line in out.splitlines()[1:-2]]
+    return lines[1:-2]
 
 
-def listed_without_a_reply(tools: Tools) -> None:
-    """--no-reply lists how long each waited, and --slow counts that."""
+def calls_that_hang(tools: Tools) -> None:
+    """--no-reply lists how long each waited, and --slow counts that. Their number is the same in
+    each form of output, and changes no status. An equal call on a later connection is sent
+    again."""
     tools.write('a.pcap', hung())
-    wanted = [['2.000000', '1:2', 'GETATTR ?', 'no reply in 7.000 s, answered as 2:1'],
-              ['3.000000', '1:3', 'GETATTR ?', 'no reply in 17.000 s, sent again as 2:2']]
-    found = rows_of(tools, '--no-reply', 'a.pcap')
-    tools.want('--no-reply', [row[:1] + row[3:] for row in found], wanted)
-    for slow, some in (('5s', ['1:2', '1:3', '2:2']), ('15s', ['1:3'])):
-        tools.want(slow, [row[3] for row in rows_of(tools, '--slow', slow, 'a.pcap')], some)
-    tools.want('all', [row[4] for row in rows_of(tools, 'a.pcap')],
-               ['GETATTR ?', 'GETATTR ?', 'GETATTR ?', 'GETATTR ? (again, as 1:2)',
-                'GETATTR ? (again, as 1:3)'])
-
-
-def counted_in_each_form(tools: Tools) -> None:
-    """Their number is the same in each form of output, and changes no status."""
-    tools.write('a.pcap', hung())
+    tools.want('--no-reply', [row[:1] + row[3:] for row in cells(tools, '--no-reply', 'a.pcap')], [
+        ['2.000000', '1:2', 'GETATTR ?', 'no reply in 7.000 s, answered as 2:1'],
+        ['3.000000', '1:3', 'GETATTR ?', 'no reply in 17.000 s, sent again as 2:2']])
+    for words, column, wanted in (
+            (['--slow', '5s'], 3, ['1:2', '1:3', '2:2']), (['--slow', '15s'], 3, ['1:3']),
+            ([], 4, [*['GETATTR ?'] * 3, 'GETATTR ? (again, as 1:2)', 'GETATTR ? (again, as 1:3)']),
+            (['--from', '2', '--to', '3.5'], 3, ['1:2', '1:3']),
+            (['--from', '12:26:42', '--to', '12:26:43.5'], 3, ['1:2', '1:3']),
+            (['--from', '1.5', '--to', '12:26:43'], 3, ['1:2', '1:3'])):
+        tools.want(f'{words}', [row[column] for row in cells(tools, *words, 'a.pcap')], wanted)
+    tools.want('utc', [row[0] for row in cells(tools, '--utc', 'a.pcap')][:2],
+               ['12:26:41.000000', '12:26:42.000000'])
+    tools.want('no time', tools.tool('calls', '--from', '25:00', 'a.pcap')[0], 2)
     status, out, _ = tools.tool('verdicts', '--json', 'x.json', '--html', 'x.html', 'a.pcap')
-    rows = tools.json('x.json')['rows']
+    rows, line = tools.json('x.json')['rows'], sum_line(2, silent=2)
     tools.want('verdicts', (status, out.splitlines()[-1], [row['unanswered'] for row in rows]),
-               (0, sums(2, silent=2), [2, 0]))
+               (0, line, [2, 0]))
     tools.want('page', b'<b>2</b> calls without a reply' in tools.read('x.html'), True)
-    for words in (['procedures', '--total'], ['calls']):
-        tools.want(words[0], sums(2, silent=2) in tools.tool(*words, 'a.pcap')[1], True)
+    tools.want('calls', line in tools.tool('calls', 'a.pcap')[1], True)
+    for words, name, numbers in (([], 'again', [0, 2, 2]), ([], 'unanswered', [2, 0, 2]),
+                                 (['--from', '12:26:42', '--to', '3.5'], 'calls', [2, 0, 2])):
+        _, out, _ = tools.tool('procedures', '--json', 'x.json', *words, 'a.pcap')
+        found = [table['procedures'][-1][name] for table in tools.json('x.json')['tables']]
+        tools.want(name, (found, bool(words) or line in out), (numbers, True))
 
 
-def sent_again_later(tools: Tools) -> None:
-    """An equal call of the same xid and ends on a later connection is sent again."""
-    tools.write('a.pcap', hung())
-    tools.tool('procedures', '--json', 'x.json', 'a.pcap')
-    tables = tools.json('x.json')['tables']
-    tools.want('again', [table['procedures'][-1]['again'] for table in tables], [0, 2, 2])
-    tools.want('no reply', [table['procedures'][-1]['unanswered'] for table in tables], [2, 0, 2])
-    others = [Talk(701, hosts=('192.0.2.9', SERVER)), Talk(701, hosts=('192.0.2.7', '192.0.2.2')),
-              Talk(701)]
-    for other, handle in zip(others, (b'a', b'a', b'b')):
+def sent_again_by_others(tools: Tools) -> None:
+    """A call from elsewhere, to another server, or about another file is none that is sent
+    again."""
+    for other, handle in ((Talk(701, hosts=('192.0.2.9', SERVER)), b'a'),
+                          (Talk(701, hosts=('192.0.2.7', '192.0.2.2')), b'a'), (Talk(701), b'b')):
         first = Talk(700)
         frames = [*first.opened(), first.sent(0, fragment(call(1, NFS, 3, 1, fh(b'a')))),
                   first.frame(0, RST | ACK), *other.opened(),
                   other.sent(0, fragment(call(1, NFS, 3, 1, fh(handle))))]
         tools.write('b.pcap', timed(enumerate(frames), BEGUN))
-        tools.want('none', [row[3] for row in rows_of(tools, '--no-reply', 'b.pcap')],
-                   ['1:1', '2:1'])
-
-
-def windows(tools: Tools) -> None:
-    """--from and --to take seconds, or a time of day; --utc prints that."""
-    tools.write('a.pcap', hung())
-    tools.want('utc', [row[0] for row in rows_of(tools, '--utc', 'a.pcap')][:2],
-               ['12:26:41.000000', '12:26:42.000000'])
-    for words in (['--from', '2', '--to', '3.5'], ['--from', '12:26:42', '--to', '12:26:43.5'],
-                  ['--from', '1.5', '--to', '12:26:43']):
-        tools.want(' '.join(words), [row[3] for row in rows_of(tools, *words, 'a.pcap')],
-                   ['1:2', '1:3'])
-        tools.tool('procedures', *words, '--json', 'x.json', 'a.pcap')
-        tables = tools.json('x.json')['tables']
-        tools.want('procedures', tables[-1]['procedures'][-1]['calls'], 2)
-    tools.want('no time', tools.tool('calls', '--from', '25:00', 'a.pcap')[0], 2)
+        tools.want('none', [row[3] for row in cells(tools, '--no-reply', 'b.pcap')], ['1:1', '2:1'])
 
 
 def renamed() -> bytes:
     """A file that is made in a folder, and renamed twice; then the folder is."""
-    talk = Talk()
-    none = wcc()
-    asked = [
-        (MOUNT, 1, opaque(b'/x'), word(0) + fh(ROOT) + word(1) + word(1)),
-        (NFS, LOOKUP, dirop(ROOT, b'd'), ok(fh(FOLDER), word(0), word(0))),
-        (NFS, CREATE, dirop(FOLDER, b'tmp') + word(0) + bytes(24),
-         ok(word(1), fh(FILE), word(0), none)),
-        (NFS, GETATTR, fh(FILE), word(70)),
-        (NFS, RENAME, dirop(FOLDER, b'tmp') + dirop(FOLDER, b'final'), ok(none, none)),
-        (NFS, GETATTR, fh(FILE), word(70)),
-        (NFS, RENAME, dirop(ROOT, b'd') + dirop(ROOT, b'e'), ok(none, none)),
-        (NFS, GETATTR, fh(FILE), word(70))]
-    frames = talk.opened()
-    for xid, (program, procedure, arguments, results) in enumerate(asked):
-        frames.append(talk.sent(0, fragment(call(xid, program, 3, procedure, arguments))))
-        frames.append(talk.sent(1, fragment(success(xid, results))))
-    return timed(enumerate(frames), BEGUN)
+    talk, none = Talk(), wcc()
+    got = GETATTR, fh(FILE), word(70)
+    steps = [
+        (LOOKUP, dirop(ROOT, b'd'), ok(fh(FOLDER), word(0), word(0))),
+        (CREATE, dirop(FOLDER, b'tmp') + word(0) + bytes(24),
+         ok(word(1), fh(FILE), word(0), none)), got,
+        (RENAME, dirop(FOLDER, b'tmp') + dirop(FOLDER, b'final'), ok(none, none)), got,
+        (RENAME, dirop(ROOT, b'd') + dirop(ROOT, b'e'), ok(none, none)), got]
+    order = [(side, body) for xid, (procedure, arguments, results) in enumerate(steps)
+             for side, body in enumerate((asked(xid, procedure, arguments), success(xid, results)))]
+    return timed(enumerate([*mounted(Talk(702, service=20048)), *talk.opened(),
+                            *talked(talk, order)]), BEGUN)
 
 
 def names_at_the_time(tools: Tools) -> None:
@@ -516,15 +495,14 @@ def names_at_the_time(tools: Tools) -> None:
     tools.want('from_pcap', tools.tool('from_pcap', 'a.pcap', 'a.nfs3cap')[0], 0)
     wanted = ['/x/d/tmp', '/x/d/final', '/x/e/final']
     for name in ('a.pcap', 'a.nfs3cap'):
-        found = rows_of(tools, '--procedure', 'GETATTR', name)
-        tools.want(name, [row[-2].split()[-1] for row in found], wanted)
+        tools.want(name, [row[-2].split()[-1] for row in cells(tools, '--procedure', 'GETATTR',
+                                                               name)], wanted)
     for pattern in ('tmp', 'final', '*/d/final', '/x/d/tmp'):
-        found = rows_of(tools, '--path', pattern, '--procedure', 'GETATTR', 'a.pcap')
-        tools.want(pattern, len(found), 3)
-    tools.want('made', rows_of(tools, '--path', 'final', 'a.pcap')[0][4:6],
-               ['CREATE', '/x/d/tmp UNCHECKED'])
-    out = tools.tool('calls', '--json', '--procedure', 'GETATTR', 'a.pcap')[1]
-    tools.want('JSON', [(one['path'], one['other_names']) for one in json.loads(out)['calls']],
+        found = cells(tools, '--path', pattern, 'a.pcap')
+        tools.want(pattern, [row[4].split()[0] for row in found].count('GETATTR'), 3)
+        tools.want('made', ' '.join(found[0][4:6]).split(), ['CREATE', '/x/d/tmp', 'UNCHECKED'])
+    tools.want('JSON', [(one['path'], one['other_names']) for one in objects(
+        tools, '--procedure', 'GETATTR', 'a.pcap')],
                [(path, [other for other in wanted if other != path]) for path in wanted])
     told = tools.tool('calls', '--user', 'root', 'a.pcap')[2]
     tools.want('--user', 'no uid: root (a number, as `id -u` prints it)' in told, True)
