@@ -112,36 +112,34 @@ def counts_by_hand(tools: Tools) -> None:
     frames, rows = one_of_each(Talk())
     tools.write('a.pcap', pcap(frames + whole(port=701)))
     status, tables, error = procedures(tools, 'a.pcap')
+    raw = '1 PORTMAP DUMP, 1 PORTMAP GETPORT'
     titles = [f'a.pcap: connection 1: {ENDS}: ok',
               f'a.pcap: connection 2: {ENDS.replace("700", "701")}: ok',
-              'a.pcap in all: ' + sum_line(2, raw='1 PORTMAP DUMP, 1 PORTMAP GETPORT', silent=1)]
-    tools.want('titles', (status, list(tables), error), (0, titles, ''))
-    tools.want('heads', [table[0] for table in tables.values()], [HEADS] * 3)
-    tools.want('the first', tables[titles[0]][1:-1], [row.cells() for row in rows])
+              'a.pcap in all: ' + sum_line(2, raw=raw, silent=1)]
+    tools.want('titles', (status, list(tables), error, [table[0] for table in tables.values()]),
+               (0, titles, '', [HEADS] * 3))
     calls, replies = (sum(row.bytes[side] for row in rows) for side in range(2))
     errors = {'NFS3ERR_STALE': 2, 'AUTH_BADCRED': 1, 'MNT3ERR_ACCES': 1, 'NFS3ERR_NOENT': 1,
               'PROC_UNAVAIL': 1, 'RPC_MISMATCH': 1}
     # The latencies of all are 2, 2, 1, 2, 1, 1 and 1: their sum is 10, and 1.43 is the average.
-    tools.want('its sum', tables[titles[0]][-1],
-               Row('in all', (9, 1, 8, 1), (calls, replies), (1, 2, 2, 1, 10), '1:1 frame 4',
-                   errors).cells())
+    every = Row('in all', (9, 1, 8, 1), (calls, replies), (1, 2, 2, 1, 10), '1:1 frame 4', errors)
+    tools.want('the first', tables[titles[0]][1:], [row.cells() for row in (*rows, every)])
     # The 39 NULL calls are in the frames 24 to 28, and their replies in the frames 29 to 33.
     # (the first has the xid and the bytes of a call of the first connection)
+    second, both = ([cells[:5] for cells in tables[title][1:]] for title in titles[1:])
     numbers = ['39', '1', '39', '0']
-    tools.want('the second', [cells[:5] for cells in tables[titles[1]][1:]],
-               [['NFSPROC3_NULL', *numbers], ['in all', *numbers]])
-    sums = [cells[:5] for cells in tables[titles[2]][1:]]
-    tools.want('in all', (sums[0], sums[1:-1], sums[-1]),
-               (['NFSPROC3_NULL', '40', '1', '39', '1'], [row.cells()[:5] for row in rows[1:]],
-                ['in all', '48', '2', '47', '1']))
+    tools.want('the second', second, [['NFSPROC3_NULL', *numbers], ['in all', *numbers]])
+    tools.want('in all', both, [['NFSPROC3_NULL', '40', '1', '39', '1'],
+                                *(row.cells()[:5] for row in rows[1:]),
+                                ['in all', '48', '2', '47', '1']])
     status, tables, _ = procedures(tools, '--total', 'a.pcap')
     tools.want('--total', (status, list(tables)), (0, titles[2:]))
     status, tables, _ = procedures(tools, '--total', 'a.pcap', '-', stdin=pcap(whole()))
     last = tables[list(tables)[-1]]
-    tools.want('two recordings', (list(tables)[-1], [cells[1] for cells in last][-1],
+    tools.want('two recordings', (list(tables)[-1], last[-1][1],
                                   [cells[LONGEST] for cells in last[1:3]]),
-               ('all recordings: ' + sum_line(3, raw='1 PORTMAP DUMP, 1 PORTMAP GETPORT', silent=1),
-                '87', ['a.pcap 2:1 frame 24', 'a.pcap 1:1 frame 4']))
+               ('all recordings: ' + sum_line(3, raw=raw, silent=1), '87',
+                ['a.pcap 2:1 frame 24', 'a.pcap 1:1 frame 4']))
 
 
 def ranks_of_latencies(tools: Tools) -> None:
@@ -262,25 +260,23 @@ def side_by_side(tools: Tools) -> None:
     # without the last raw call, and with 39 NULL calls
     tools.write('b.pcap', pcap([*frames[:-2], *whole(port=701)]))
     status, out, error = tools.tool('procedures', '--beside', 'a.pcap', 'b.pcap')
-    lines = out.splitlines()
-    sums = ['A: a.pcap: ' + sum_line(1, raw='1 PORTMAP DUMP, 1 PORTMAP GETPORT', silent=1),
-            'B: b.pcap: ' + sum_line(2, raw='1 PORTMAP GETPORT', silent=1)]
-    tools.want('heads', (status, lines[:2], error), (0, sums, ''))
-    cells = [re.split('  +', line.strip()) for line in lines[2:]]
+    tools.want('heads', (status, out.splitlines()[:2], error), (0, [
+        'A: a.pcap: ' + sum_line(1, raw='1 PORTMAP DUMP, 1 PORTMAP GETPORT', silent=1),
+        'B: b.pcap: ' + sum_line(2, raw='1 PORTMAP GETPORT', silent=1)], ''))
+    cells = [re.split('  +', line.strip()) for line in out.splitlines()[2:]]
     tools.want('rows', [row[0] for row in cells], ['procedure', *(row.procedure for row in rows),
                                                    'in all'])
     null, *others, last, same, _ = cells[1:]
-    nulls = 39 * size(call(1, NFS, 3, 0))
-    grown = f'{rows[0].bytes[0]} -> {rows[0].bytes[0] + nulls} (+3900 %)'
-    tools.want('what grew', null[:7], ['NFSPROC3_NULL', '1 -> 40', '0 -> 1', '0 -> 39', '1', grown,
-                                       f'0 -> {39 * size(success(1))}'])
-    tools.want('what is new', null[7].startswith('- -> 0.00'), True)
+    own, nulls, gone = rows[0].bytes[0], 39 * size(call(1, NFS, 3, 0)), rows[-2]
+    tools.want('what grew', (null[:7], null[7].startswith('- -> 0.00')), (
+        ['NFSPROC3_NULL', '1 -> 40', '0 -> 1', '0 -> 39', '1', f'{own} -> {own + nulls} (+3900 %)',
+         f'0 -> {39 * size(success(1))}'], True))
     tools.want('what is the same', [*others, same],
                [row.cells_beside() for row in [*rows[1:-2], rows[-1]]])
-    gone = rows[-2]
-    fewer = [f'{number} -> 0 (-100 %)' for number in gone.bytes]
-    tools.want('what is gone', last, [gone.procedure, '1 -> 0', '0', '1 -> 0', '0', *fewer,
-                                      *['0.001 -> -'] * 5, 'RPC_MISMATCH 1 -> 0'])
+    tools.want('what is gone', last, [
+        gone.procedure, '1 -> 0', '0', '1 -> 0', '0',
+        *(f'{number} -> 0 (-100 %)' for number in gone.bytes), *['0.001 -> -'] * 5,
+        'RPC_MISMATCH 1 -> 0'])
     tools.write('c.pcap', pcap(whole()[:4] + whole()[5:]))
     status, out, _ = tools.tool('procedures', '--beside', 'a.pcap', 'c.pcap')
     tools.want('in part', (status, out.splitlines()[1]),
@@ -291,33 +287,28 @@ def side_by_side(tools: Tools) -> None:
 
 def files_for_others(tools: Tools) -> None:
     """CSV has the rows of the tables, JSON the verdicts, too."""
-    name = 'a,"b"\n.pcap'
     frames, rows = one_of_each(Talk())
-    tools.write(name, pcap(frames))
-    status, _, error = tools.tool('procedures', '--csv', 'x.csv', '--json', 'x.json', name)
-    tools.want('status', (status, error), (0, ''))
+    tools.write('a,"b"\n.pcap', pcap(frames))
+    status, _, error = tools.tool('procedures', '--csv', 'x.csv', '--json', 'x.json',
+                                  'a,"b"\n.pcap')
     found = list(csv.DictReader(io.StringIO((tools.read('x.csv') or b'').decode())))
-    tools.want('whose', [(row['recording'], row['connection'], row['client'], row['procedure'])
-                         for row in found], [
-                             ('a,"b"\\x0a.pcap', connection, client, row.procedure)
-                             for connection, client in (('1', '192.0.2.7:700'), ('', ''))
-                             for row in rows])
-    tools.want('a row',
-               {key: value for key, value in found[1].items()
-                if key not in ('recording', 'connection', 'client', 'procedure')},
-               {'server': '192.0.2.1:2049', 'calls': '4', 'again': '1', 'replies': '4',
-                'unanswered': '0', 'call_bytes': str(rows[1].bytes[0]),
-                'reply_bytes': str(rows[1].bytes[1]),
-                'errors': 'NFS3ERR_STALE=2 AUTH_BADCRED=1', 'latencies': '3',
-                'median_ns': '2000', 'p99_ns': '2000', 'most_ns': '2000',
-                'mean_ns': '1667', 'sum_ns': '5000',
-                'most_position': 'connection 1 client record 1', 'most_frame': '4',
-                'negative': '0'})
+    whose = 'recording', 'connection', 'client', 'procedure'
+    tools.want('whose', (status, error, [tuple(row[name] for name in whose) for row in found]),
+               (0, '', [('a,"b"\\x0a.pcap', connection, client, row.procedure)
+                        for connection, client in (('1', '192.0.2.7:700'), ('', ''))
+                        for row in rows]))
+    calls, replies = rows[1].bytes
+    tools.want('a row', ' '.join(f'{key}={value}' for key, value in found[1].items()
+                                 if key not in whose),
+               f'server=192.0.2.1:2049 calls=4 again=1 replies=4 unanswered=0 call_bytes={calls} '
+               f'reply_bytes={replies} errors=NFS3ERR_STALE=2 AUTH_BADCRED=1 latencies=3 '
+               'median_ns=2000 p99_ns=2000 most_ns=2000 mean_ns=1667 sum_ns=5000 '
+               'most_position=connection 1 client record 1 most_frame=4 negative=0')
     written = tools.json('x.json')
-    tools.want('JSON', [verdict['state'] for verdict in written['verdicts']], ['ok'])
-    tools.want('its tables', [table['connection'] for table in written['tables']], [1, None])
-    tools.want('its errors', written['tables'][0]['procedures'][1]['errors'],
-               {'NFS3ERR_STALE': 2, 'AUTH_BADCRED': 1})
+    tools.want('JSON', ([verdict['state'] for verdict in written['verdicts']],
+                        [table['connection'] for table in written['tables']],
+                        written['tables'][0]['procedures'][1]['errors']),
+               (['ok'], [1, None], {'NFS3ERR_STALE': 2, 'AUTH_BADCRED': 1}))
 
 
 def many_calls(tools: Tools) -> None:
