@@ -57,12 +57,10 @@ def records_of_a_frame(tools: Tools) -> None:
     tools.write('a.pcap', pcap([*whole(port=699), *whole()]))
     places = [f'connection 1 client record {record}' for record in OF_FRAME_5]
     status, lines, error = tool(tools, 'where', 'a.pcap', 'frame 5')
-    tools.want('where',
-               (status,
-                [line.partition(': ')[0] for line in lines if line.startswith('connection')],
-                error), (0, places, ''))
-    filters = ['frame.number in {4..5}', *['frame.number == 5'] * 7, 'frame.number in {5..6}']
-    tools.want('filters', [line for line in lines if line.startswith('frame.number')], filters)
+    tools.want('where', (status, [line.partition(': ')[0] for line in lines
+                                  if not line.startswith('frame ')], error), (0, [
+        one for both in zip(places, ['frame.number in {4..5}', *['frame.number == 5'] * 7,
+                                     'frame.number in {5..6}']) for one in both], ''))
     status, lines, error = tool(tools, 'explain', 'a.pcap', 'frame 5')
     tools.want('explain',
                (status, [line.partition(': call')[0] for line in lines if ': call' in line],
@@ -73,11 +71,10 @@ def records_of_a_frame(tools: Tools) -> None:
                [line.partition(': ')[0] for line in lines if line.startswith('connection')],
                [f'connection 2 server record {record}' for record in range(32, 40)])
     status, lines, error = cut_out(tools, 'a.pcap', 'frame 5', 'out')
-    tools.want('cut', (status, lines[-1], error),
-               (0, 'ok connections=1 calls=9 replies=9 handles=0', ''))
-    tools.want('OUT', tools.read('out'), packed((stream(CALLS[7:16]), stream(REPLIES[7:16]))))
-    answer = tools.tool('where', 'a.pcap', stdin=b'frame 5\n')
-    tools.want('standard input', answer[0], 0)
+    tools.want('cut', (status, lines[-1], error, tools.read('out')),
+               (0, 'ok connections=1 calls=9 replies=9 handles=0', '',
+                packed((stream(CALLS[7:16]), stream(REPLIES[7:16])))))
+    tools.want('standard input', tools.tool('where', 'a.pcap', stdin=b'frame 5\n')[0], 0)
 
 
 def frames_without_a_record(tools: Tools) -> None:
@@ -87,15 +84,15 @@ def frames_without_a_record(tools: Tools) -> None:
               talk.frame(0, ACK, ALL[0], ahead=-len(ALL[0])), talk.sent(1, ALL[1])]
     tools.write('a.pcap', pcap(frames))
     shutil.copy(TOP / 'examples/null.nfs3cap', tools.path('b'))
-    for number in (0, 1, 5, 7, 10 ** 17):
-        for name, *out in (('where',), ('explain',), ('cut', 'out'), ('cut', 'out.pcap')):
-            told = (f'{name}: frame {number} carries no bytes of a record, or only bytes that '
-                    'another frame had brought before\n')
+    none = 'carries no bytes of a record, or only bytes that another frame had brought before'
+    for name, *out in (('where',), ('explain',), ('cut', 'out'), ('cut', 'out.pcap')):
+        for number in (0, 1, 5, 7, 10 ** 17):
             tools.want(f'{name} frame {number}',
-                       tool(tools, name, 'a.pcap', f'frame {number}', *out), (1, [], told))
-    for name, *out in (('where',), ('explain',), ('cut', 'out')):
-        tools.want(name + ' of a capture', tool(tools, name, 'b', 'frame 1', *out),
-                   (2, [], f'{name}: b is a capture, which has no frames\n'))
+                       tool(tools, name, 'a.pcap', f'frame {number}', *out),
+                       (1, [], f'{name}: frame {number} {none}\n'))
+        if out != ['out.pcap']:
+            tools.want(name + ' of a capture', tool(tools, name, 'b', 'frame 1', *out),
+                       (2, [], f'{name}: b is a capture, which has no frames\n'))
     tools.want('OUT', (tools.exists('out'), tools.exists('out.pcap')), (False, False))
 
 
@@ -192,32 +189,27 @@ def frames_of_the_records(tools: Tools) -> None:
 
 def parts_and_pcapng(tools: Tools) -> None:
     """Frames are numbered through all parts; pcapng has units of its own."""
-    frames = whole()
+    frames, place = whole(), 'connection 1 client record 20'
     tools.write('run.pcap0', pcap(frames[:6]))
     tools.write('run.pcap1', pcap(frames)[:24] + pcap(frames)[len(pcap(frames[:6])):])
-    tools.want('parts', cut_out(tools, 'run.pcap*', 'connection 1 client record 20',
-                             'out.pcap')[0], 0)
+    tools.write('a.pcapng', section() + interface(unit=9) + b''.join(
+        enhanced(frame, 10 ** 9 + number) for number, frame in enumerate(frames)))
     # Record 20 begins at byte 836 of the calls and 532 of the replies: the third frame of each
     # side, 6 and 11.
     parts = parts_of(frames, {6: (148, 192), 11: (94, 122)})
-    tools.want('OUT of parts', tools.read('out.pcap') == extract(parts, [1, 2, 6, 11]), True)
-    nano = section() + interface(unit=9) + b''.join(enhanced(frame, 10 ** 9 + number)
-                                                    for number, frame in enumerate(frames))
-    tools.write('a.pcapng', nano)
-    tools.want('pcapng', cut_out(tools, 'a.pcapng', 'connection 1 client record 20',
-                              'a.pcap')[0], 0)
-    tools.want('OUT of pcapng', tools.read('a.pcap') == extract(parts, [1, 2, 6, 11], unit=1),
-               True)
+    for name, unit in (('run.pcap*', 1_000), ('a.pcapng', 1)):
+        tools.want(name, (cut_out(tools, name, place, f'out{unit}.pcap')[0], tools.read(
+            f'out{unit}.pcap')), (0, extract(parts, [1, 2, 6, 11], unit=unit)))
     second = Talk(701)
     others = [frame[14:] for frame in (*second.opened(), second.sent(0, fragment(CALLS[0])),
                                        second.sent(1, fragment(REPLIES[0])))]
     blocks = [*map(enhanced, frames), *(enhanced(cooked(frame), index=1) for frame in others[::2]),
               *(enhanced(ethernet(frame)) for frame in others[1::2])]
     tools.write('b.pcapng', section() + interface() + interface(113) + b''.join(blocks))
-    status, lines, error = cut_out(tools, 'b.pcapng', 'connection 2 client record 1', 'b.pcap')
-    tools.want('two link types', (status, lines, error),
-               (2, [], 'cut: the frames have the link types 1, 113, and a pcap has one\n'))
-    tools.want('no OUT', tools.exists('b.pcap'), False)
+    tools.want('two link types', (
+        cut_out(tools, 'b.pcapng', 'connection 2 client record 1', 'b.pcap'),
+        tools.exists('b.pcap')), ((
+            2, [], 'cut: the frames have the link types 1, 113, and a pcap has one\n'), False))
     tools.want('one of them',
                cut_out(tools, 'b.pcapng', 'connection 1 client record 1', 'b.pcap')[0], 0)
 
@@ -348,30 +340,25 @@ ONE = 'ok connections=1 calls=1 replies=1 handles=0'
 def exchanges(tools: Tools) -> None:
     """A call with its reply, by each kind of place, of a recording and of captures."""
     tools.write('a.pcap', pcap([*Talk(699).opened(), *whole(), *whole(port=701)]))
+    one, two = (CALLS, REPLIES), (CALLS[:3], REPLIES[:3])
+    tools.write('1', capture(one, two))
+    tools.write('2', interleaved(in_turn(*one), in_turn(*two)))
     # The calls are in the frames 7 to 11, and the replies in 12 to 16, each with a fifth of the
     # bytes. The 9th record is in the second.
-    first, second = (f'connection 1 {side} record 1: connection %d {side} record 9, frame %d'
-                     for side in ('client', 'server'))
-    lines = {1: [first % (1, 8), second % (1, 13), ONE],
-             2: [first % (2, 23), second % (2, 28), ONE]}
-    wanted = packed((stream(CALLS[8:9]), stream(REPLIES[8:9])))
-    for place, connection in (('connection 1 client record 9', 1),
-                              ('connection 1 server record 9 byte 7: BadEnum', 1),
-                              ('2 client 9 xid=9 NFSPROC3_NULL', 2),
-                              ('first: connection 2 server record 9', 2),
-                              ('differ at connection 2 client record 9', 2)):
-        tools.want(place, cut_out(tools, 'a.pcap', place, 'out'), (0, lines[connection], ''))
-        tools.want('OUT of ' + place, tools.read('out'), wanted)
-    one, two = (CALLS, REPLIES), (CALLS[:3], REPLIES[:3])
-    for name, content in (('1', capture(one, two)),
-                          ('2', interleaved(in_turn(*one), in_turn(*two)))):
-        tools.write(name, content)
-        told = [f'connection 1 {side} record 1: connection 2 {side} record 3'
-                for side in ('client', 'server')]
-        tools.want('version ' + name, cut_out(tools, name, 'connection 2 server record 3', 'out'),
-                   (0, [*told, ONE], ''))
-        tools.want('OUT of version ' + name, tools.read('out'),
-                   packed((stream(CALLS[2:3]), stream(REPLIES[2:3]))))
+    for name, place, connection, record, frames in (
+            ('a.pcap', 'connection 1 client record 9', 1, 9, (8, 13)),
+            ('a.pcap', 'connection 1 server record 9 byte 7: BadEnum', 1, 9, (8, 13)),
+            ('a.pcap', '2 client 9 xid=9 NFSPROC3_NULL', 2, 9, (23, 28)),
+            ('a.pcap', 'first: connection 2 server record 9', 2, 9, (23, 28)),
+            ('a.pcap', 'differ at connection 2 client record 9', 2, 9, (23, 28)),
+            ('1', 'connection 2 server record 3', 2, 3, ()),
+            ('2', 'connection 2 server record 3', 2, 3, ())):
+        lines = [f'connection 1 {side} record 1: connection {connection} {side} record {record}'
+                 + (f', frame {frames[at]}' if frames else '')
+                 for at, side in enumerate(('client', 'server'))]
+        tools.want(f'{name} {place}', (cut_out(tools, name, place, 'out'), tools.read('out')), (
+            (0, [*lines, ONE], ''),
+            packed((stream(CALLS[record - 1:record]), stream(REPLIES[record - 1:record])))))
 
 
 def on_standard_output(tools: Tools) -> None:
@@ -396,16 +383,15 @@ def all_with_the_xid(tools: Tools) -> None:
     talk = Talk()
     tools.write('a.pcap', pcap([*talk.opened(), talk.sent(0, calls), talk.sent(1, replies),
                                 *talk.closed()]))
-    wanted = packed((stream(CALLS[1:2]) + in_fragments(CALLS[1], 9),
-                     in_fragments(REPLIES[1], 5) + stream(REPLIES[1:2])))
-    for place in ('client record 2', 'client record 3', 'server record 2', 'server record 5'):
+    both = (stream(CALLS[1:2]) + in_fragments(CALLS[1], 9),
+            in_fragments(REPLIES[1], 5) + stream(REPLIES[1:2]))
+    for place, number, wanted in (
+            *((place, (2, 2), both) for place in ('client record 2', 'client record 3',
+                                                  'server record 2', 'server record 5')),
+            ('client record 6', (1, 0), (stream(CALLS[4:5]), b''))):
         status, lines, _ = cut_out(tools, 'a.pcap', 'connection 1 ' + place, 'out')
-        tools.want(place, (status, lines[-1], tools.read('out')),
-                   (0, 'ok connections=1 calls=2 replies=2 handles=0', wanted))
-    status, lines, _ = cut_out(tools, 'a.pcap', 'connection 1 client record 6', 'out')
-    line = 'ok connections=1 calls=1 replies=0 handles=0'
-    tools.want('no reply', (status, lines[1:], tools.read('out')),
-               (0, [line], packed((stream(CALLS[4:5]), b''))))
+        tools.want(place, (status, lines[-1], tools.read('out')), (
+            0, 'ok connections=1 calls=%d replies=%d handles=0' % number, packed(wanted)))
 
 
 def faults(tools: Tools) -> None:
