@@ -114,17 +114,17 @@ def runs_of(page: Node) -> dict[str, list[str]]:
 def head_and_counts(place: Compared) -> None:
     """The verdict, both runs and what is masked, with the frames of tshark."""
     page = place.page(FIRST, CHANGED)
-    place.want('words', page.texts('h1'), ['The runs differ'])
     about, = page.all('details', 'about')
-    place.want('folded', ('open' in about.attributes, about.texts('summary')),
-               (False, ['About these runs']))
-    place.want('printed', about.texts('code')[0], 'differ at connection 2 server record 2')
-    place.want('in words', '103 of 103 calls matched; rtmax in 1 reply; rtpref in 1 reply; '
-               'wtmax in 1 reply; wtpref in 1 reply.' in about.texts('p'), True)
+    place.want('words', (page.texts('h1'), 'open' in about.attributes, about.texts('summary')),
+               (['The runs differ'], False, ['About these runs']))
+    place.want('said', (about.texts('code')[0], '103 of 103 calls matched; rtmax in 1 reply; rtpref '
+                        'in 1 reply; wtmax in 1 reply; wtpref in 1 reply.' in about.texts('p'),
+                        'times=zero, stamps=zero' in page.all('dl')[0].text()),
+               ('differ at connection 2 server record 2', True, True))
     place.want('all of it', [len(page.all(tag)) - len(about.all(tag)) for tag in ('table', 'dl')],
                [1, 0])
-    place.want('masked', 'times=zero, stamps=zero' in page.all('dl')[0].text(), True)
-    place.want('runs', table_of(about.all('table', 'runs')[0])[:7], [
+    runs = table_of(about.all('table', 'runs')[0])
+    place.want('runs', runs[:7], [
         ['', '- first run', '+ second run'], ['name', FIRST, CHANGED],
         ['file', '63,396 bytes', '63,396 bytes'],
         ['first frame', '2026-11-24 10:22:02.527555000 UTC, frame 4',
@@ -132,9 +132,8 @@ def head_and_counts(place: Compared) -> None:
         ['last frame', '2026-11-24 10:22:02.534426000 UTC, frame 223',
          '2026-11-24 10:22:29.156347000 UTC, frame 223'],
         ['calls', '103', '103'], ['connections', '3', '3']])
-    place.want('no losses', runs_of(page).keys() & {'missing', 'calls left out',
-                                                    'only in this run'},
-               set())
+    place.want('no losses', {row[0] for row in runs} & {'missing', 'calls left out',
+                                                        'only in this run'}, set())
 
 
 def what_does_not_count(place: Compared) -> None:
@@ -145,20 +144,19 @@ def what_does_not_count(place: Compared) -> None:
                          '--ignore=*.mode')
     runs = runs_of(page)
     place.want('left out', (runs['calls left out'], 'only in this run' in runs,
-                            'first frame' in runs),
-               (['1 GETATTR', 'nothing'], False, False))
-    place.want('ignored', '*.mode: obj.mode of NFSPROC3_GETATTR 2.' in page.all('dl')[0].text(),
-               True)
-    place.want('all is ignored', 'All fields that differ are ignored.' in page.text(), True)
-    place.want('marks', [one for one in rows_and_gaps(page) if one[0] == '≠'], ['≠ 4 4', '≠ 5 5'])
+                            'first frame' in runs), (['1 GETATTR', 'nothing'], False, False))
+    place.want('ignored', (
+        '*.mode: obj.mode of NFSPROC3_GETATTR 2.' in page.all('dl')[0].text(),
+        'All fields that differ are ignored.' in page.text(),
+        [one for one in rows_and_gaps(page) if one[0] == '≠']), (True, True, ['≠ 4 4', '≠ 5 5']))
     talk = Talk()
     frames = [*talk.opened(), *(talk.sent(side, fragment(NULLS[side][at]))
                                 for at in range(4) for side in (0, 1))]
     place.write('lossy', pcap([*frames[:-1], *talk.closed()]))
     page = place.page('--allow-losses', 'lossy', 'lossy')
-    place.want('missing', runs_of(page)['missing'], ['28 bytes', '28 bytes'])
-    place.want('in part', [(one.text(), one.classes) for one in page.all('h1')],
-               [('The runs are the same in part', ['part'])])
+    place.want('missing', (runs_of(page)['missing'],
+                           [(one.text(), one.classes) for one in page.all('h1')]),
+               (['28 bytes'] * 2, [('The runs are the same in part', ['part'])]))
     place.put('c', gets([1]))
     place.want('a capture has no times',
                runs_of(place.page('c', 'lossy'))['first frame'][0], 'no frames')
@@ -283,15 +281,13 @@ def differences_that_say_the_same(place: Compared) -> None:
     """They are one, with 300 positions. What one run alone has is said with its arguments."""
     page = place.page_of(asked([0o640] * 400), asked([0o600] * 352 + [0o640] * 48))
     article, = page.all('article')
-    place.want('many', article.texts('h3'),
-               ['1 352 replies of NFSPROC3_GETATTR /m/f0, the first of 352 paths'])
     others, position = article.texts('li'), 'connection 1 server record %d'
-    place.want('others', (len(others), others[0], others[-1]), (
+    place.want('many', (article.texts('h3'), page.texts('h2')[1], article.texts('summary'),
+                        article.texts('p')[-1], len(others), others[0], others[-1]), (
+        ['1 352 replies of NFSPROC3_GETATTR /m/f0, the first of 352 paths'],
+        '1 difference in 352 messages', ['351 positions more'], '.. and 51 more',
         300, f'/m/f1: {position % 5} | {position % 5}',
         f'/m/f300: {position % 603} | {position % 603}'))
-    place.want('more', (article.texts('summary'), article.texts('p')[-1]),
-               (['351 positions more'], '.. and 51 more'))
-    place.want('how many', page.texts('h2')[1], '1 difference in 352 messages')
     calls, replies = asked([1])
     more = conversation_of([(GETATTR, fh(b'0'), ok(fattr(1, 2, 0, 1)))], 9)
     page = place.page_of((calls, replies), (calls + more[0], replies + more[1]), '--extra=none')
@@ -344,30 +340,29 @@ def fields_of_calls(place: Compared) -> None:
     place.want('folded', [one.attributes.get('open') for row in rows
                           for one in (row, *row.all('details', 'head'))], [None] * 15)
     arguments, head, reply, _ = fields_of(rows[2])
-    place.want('call', (arguments, head[0], head[-1]),
-               (['fh=66696c65'], 'mtype=0 (CALL)', 'verf_body='))
-    place.want('reply', [line for line in reply if line.startswith(('obj.mode', 'obj.size'))],
-               ['obj.size=2'])
-    place.want('first', changes_of(rows[2]), ['- obj.mode=0640 (416)', '+ obj.mode=0600 (384)'])
+    place.want('call', (arguments, head[0], head[-1],
+                        [line for line in reply if line.startswith(('obj.mode', 'obj.size'))]),
+               (['fh=66696c65'], 'mtype=0 (CALL)', 'verf_body=', ['obj.size=2']))
     parts = [node.attributes.get('class') for node in rows[2].nodes()
              if node.tag in ('div', 'details') and node.classes]
-    place.want('order', parts, ['fields', 'head', 'fields', 'change', 'minus', 'plus', 'fields',
-                                'head', 'fields'])
-    place.want('link', [one.attributes['href'] for one in rows[2].all('a')], ['#f1'])
-    for what, second, wanted in (
-            ('values that are cut', link(b'x' * 1_100 + b'y' + b'x' * 99), [
+    place.want('order', (parts, [one.attributes['href'] for one in rows[2].all('a')]), (
+        ['fields', 'head', 'fields', 'change', 'minus', 'plus', 'fields', 'head', 'fields'],
+        ['#f1']))
+    cut, failed_one, added = (
+        place.page_of(*both).all('details', 'row') for both in (
+            (link(b'x' * 1_200), link(b'x' * 1_100 + b'y' + b'x' * 99)),
+            (link(b'x' * 1_200), link(b'x', ACCES)), (worked(SENTENCE), worked(SENTENCE, 30))))
+    more = [row for row in added if row.text().startswith('+')]
+    for what, some, wanted in (
+            ('first', [rows[2]], ['- obj.mode=0640 (416)', '+ obj.mode=0600 (384)']),
+            ('values that are cut', cut, [
                 f'- path=.."{16 * "x"}"..',
                 f'+ path=.."{8 * "x"}y{7 * "x"}".. # 1 of 1,200 bytes differs, at byte 1100']),
-            ('other layouts', link(b'x', ACCES), [
-                '- status=0 (NFS3_OK)', '+ status=13 (NFS3ERR_ACCES)'])):
-        row, = place.page_of(link(b'x' * 1_200), second).all('details', 'row')
-        place.want(what, changes_of(row), wanted)
-    row, = [one for one in place.page_of(worked(SENTENCE),
-                                         worked(SENTENCE, 30)).all('details', 'row')
-            if one.text().startswith('+')]
-    place.want('of one run',
-               (changes_of(row), [line for line in fields_of(row)[0] if 'mode' in line]),
-               (['+ set.mode=0640 (416)'], ['+\u00a0set_mode=1 (TRUE)']))
+            ('other layouts', failed_one, ['- status=0 (NFS3_OK)', '+ status=13 (NFS3ERR_ACCES)']),
+            ('of one run', more, ['+ set.mode=0640 (416)'])):
+        place.want(what, [changes_of(row) for row in some], [wanted])
+    place.want('its fields', [line for line in fields_of(more[0])[0] if 'mode' in line],
+               ['+\u00a0set_mode=1 (TRUE)'])
 
 
 def long_messages(place: Compared) -> None:
