@@ -7,7 +7,7 @@ from array import array
 
 from examples import messages
 from examples.messages import (
-    NFS, NFSACL, auth_sys, call, dirop, fattr, fh, hyper, ok, post_op_attr, success, wcc, word)
+    NFS, auth_sys, call, dirop, fattr, fh, hyper, ok, post_op_attr, success, wcc, word)
 from examples.packets import Talk, pcap
 
 from ..nfs3tools.comparison.exchanges.matching import aligned, blocks_of, increasing
@@ -219,36 +219,6 @@ def entries_of_one_name(place: Comparisons) -> None:
     wants('the first of two', 'entry.fileid', '  - entry "b".fileid=3', '  + entry "b".fileid=2')
     place.put('a', run((2, b'b'), (1, b'a'), (2, b'b')))
     wants('order', 'entry', '  - entry="b"', '  + entry="a"    # the entries come in another order')
-
-
-def files_by_their_paths(place: Comparisons) -> None:
-    """Of calls that are equal but for the file, those of one path are matched."""
-    def asked(made: Made, *files: int) -> list[tuple[int, bytes, bytes]]:
-        found = [(3, fh(made.handles[0]) + messages.opaque(FILES[file]),
-                  ok(fh(made.handles[file]), post_op_attr(), post_op_attr()))
-                 for file in (1, 2)]
-        return found + [(1, fh(made.handles[file]), ok(made.attributes(file))) for file in files]
-    first, second = Made(19), Made(20)
-    place.put_both(first.conversation(asked(first, 1)), second.conversation(asked(second, 2, 1)))
-    lines = place.compare('--order', 'strict', 'a', 'b')[1][2:]
-    place.want('the other file', lines[:1],
-               ['only in the second run: NFSPROC3_GETATTR ?/y: connection 1 client record 3'])
-
-
-def raw_messages(place: Comparisons) -> None:
-    """Handles in raw messages are those of the other run, of any length."""
-    def with_acl(made: Made, rest: bytes) -> Conversation:
-        calls, replies = made.conversation()
-        acl = call(made.xids[15], NFSACL, 3, 1, fh(made.handles[1]) + rest)
-        return [*calls, acl], [*replies, success(made.xids[15], word(0))]
-    first, second = Made(9), Made(10)
-    second.handles[1] = second.handles[1][:5]
-    place.put_both(with_acl(first, word(1)), with_acl(second, word(2)))
-    lines = place.compare('a', 'b')[1][2:]
-    place.want('raw', [line[:9] for line in lines[1:3]], ['  - rest=', '  + rest='])
-    place.put('b', with_acl(second, word(1)))
-    lines = place.compare('a', 'b')[1][2:]
-    place.want('handles', [line for line in lines if 'rest' in line], [])
 
 
 # --- Cost ---

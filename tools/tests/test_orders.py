@@ -6,7 +6,7 @@ from collections.abc import Sequence
 
 from examples import messages
 from examples.messages import (
-    MOUNT, NFS, call, dirop, fattr, fh, hyper, ok, opaque, post_op_attr, sattr, success, wcc, word)
+    NFS, call, dirop, fattr, fh, hyper, ok, opaque, post_op_attr, sattr, success, wcc, word)
 from examples.packets import Talk, pcap
 from tests.shared.traffic import Names, Traffic
 
@@ -52,24 +52,6 @@ def looked_up(*names: bytes) -> Conversation:
     """LOOKUPs in one folder, of names that are not there."""
     return conversation_of((LOOKUP, dirop(b'top', name), messages.failed(2, post_op_attr()))
                     for name in names)
-
-
-def questions_that_are_changed(place: Comparisons) -> None:
-    """A client that asks for a wrong name has changed a call, wherever it asks."""
-    names = [b'f%d' % number for number in range(6)]
-    def others(wrong: bytes, at: int = 3) -> list[bytes]:
-        return [*names[:at], wrong, *names[at + 1:]]
-    place.put_both(looked_up(*names), looked_up(*others(b'wrong')))
-    status, out, _ = place.compare('--order', 'any', 'a', 'b')
-    place.want('another name', (status, out[1:5]), (1, [
-        'differ in any order at connection 1 client record 4',
-        'NFSPROC3_LOOKUP ?/f3: connection 1 client record 4 | connection 1 client record 4',
-        '  - name="f3"', '  + name="wrong"']))
-    place.put('b', looked_up(*names[:3], *names[4:], b'wrong'))
-    status, out, _ = place.compare('--order', 'any', 'a', 'b')
-    place.want('in another place',
-               (status, [line.partition(': ')[0] for line in out if line.startswith('only in')]),
-               (1, ['only in the first run', 'only in the second run']))
 
 
 def seen_in_the_middle(place: Comparisons) -> None:
@@ -183,28 +165,6 @@ def orders_of_replies(place: Comparisons) -> None:
     place.wants('strictly', 1,
                 ['connection 1', '  1 of 7 replies of the connection come in another order',
                  line], '--order', 'strict')
-
-
-def connections_by_what_they_ask(place: Comparisons) -> None:
-    """Connections are matched by their calls, in any order."""
-    def connection(name: bytes, mode: int) -> Conversation:
-        return ([call(1, MOUNT, 3, 1, opaque(b'/')), call(2, NFS, 3, LOOKUP, dirop(b'top', name)),
-                 call(3, NFS, 3, GETATTR, fh(name))],
-                [success(1, ok(fh(b'top'), word(0))),
-                 success(2, ok(fh(name), post_op_attr(), post_op_attr())),
-                 success(3, ok(fattr(1, 5, mode=mode)))])
-    names = [b'file %d' % number for number in range(20)]
-    place.put('a', *(connection(name, 0o644) for name in names))
-    place.put('b', ([call(1, NFS, 3, 0)], [success(1)]),
-              *(connection(name, 0o600 if name == names[3] else 0o644) for name in names[::-1]))
-    status, out, _ = place.compare('--order', 'strict', 'a', 'b')
-    found = [line for line in out[2:] if line[0] != ' ']
-    place.want('strict', (status, found[:2]), (1, [
-        'NFSPROC3_GETATTR reply /file 3: connection 4 server record 3 | connection 18 server '
-        'record 3', 'only in the second run: connection 1']))
-    place.want('in words', found[-1],
-               '60 of 61 calls matched; 19 connections reordered; 1 only in the second run; '
-               'obj.mode in 1 reply')
 
 
 def one_name_for_many_files(place: Comparisons) -> None:

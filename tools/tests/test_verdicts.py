@@ -184,8 +184,7 @@ def parts_that_are_none(tools: Tools) -> None:
     status, _, _, error = verdicts(tools, 'half.pcap2')
     tools.want('a part alone', (status, error.splitlines()[0]), (1, (
         'half.pcap2: it begins in the middle of 1 connection: if it is a part of a recording, as '
-        'of `tcpdump -C`, name all parts in its '
-        "place, as 'half.pcap*'")))
+        "of `tcpdump -C`, name all parts in its place, as 'half.pcap*'")))
     for number, frame in enumerate(whole()):  # all at one time
         tools.write(f'equal{number or ""}', pcap([frame]))
     tools.want('equal times', [row[-1] for row in verdicts(tools, 'equal*')[1]], ['ok'])
@@ -195,11 +194,10 @@ def parts_that_are_none(tools: Tools) -> None:
     tools.write('run.pcap3', pcap([]))
     tools.write('run.pcap.html', b'<!doctype html>')
     tools.write('run.pcap.txt', b'')
-    told = [f'run.pcap*: run.pcap.{name} is no recording, and is skipped'
-            for name in ('html', 'txt')]
     found = verdicts(tools, '--html', 'run.pcap.html', 'run.pcap*')
     tools.want('a page beside them', ([row[-1] for row in found[1]], found[3].splitlines()),
-               (['ok'] * 2, told))
+               (['ok'] * 2, [f'run.pcap*: run.pcap.{name} is no recording, and is skipped'
+                             for name in ('html', 'txt')]))
     answer = tools.tool('where', 'run.pcap*', 'connection 1 client record 8')
     tools.want('where', (answer[0], answer[1].splitlines()[-1]),
                (0, 'run.pcap1: frame.number in {4..5}'))
@@ -265,24 +263,19 @@ def rows_of_all_kinds(tools: Tools) -> None:
         frames += connection_of(calls, replies, port=number)
     tools.write('a.pcap', pcap(frames))
     fault = 'server record 2 byte 0: NoCall, frame %d'
-    wanted = [['a.pcap', '1', '192.0.2.7:700', '192.0.2.1:2049', '39', '39', 'ok'],
-              ['a.pcap', '2', '192.0.2.7:701', '192.0.2.1:2049', '2', '3', fault % 20],
-              ['a.pcap', '3', '192.0.2.7:702', '192.0.2.1:2049', '1', '1', 'ok'],
-              ['a.pcap', '4', '192.0.2.7:703', '192.0.2.1:2049', '2', '3', fault % 34]]
-    tools.want('four connections', verdicts(tools, 'a.pcap'), (1, wanted, sums(2, 0, 2), ''))
-    tools.want('one at a time', verdicts(tools, '-j', '1', 'a.pcap'),
-               (1, wanted, sums(2, 0, 2), ''))
-    tools.want('standard input', verdicts(tools, '-', stdin=pcap(frames))[1],
-               [['-', *row[1:]] for row in wanted])
+    wanted = [[str(number), f'192.0.2.7:{699 + number}', '192.0.2.1:2049', *more]
+              for number, more in enumerate((['39', '39', 'ok'], ['2', '3', fault % 20],
+                                             ['1', '1', 'ok'], ['2', '3', fault % 34]), 1)]
+    for words, stdin in ((['a.pcap'], None), (['-j', '1', 'a.pcap'], None), (['-'], pcap(frames))):
+        tools.want(f'{words}', verdicts(tools, *words, stdin=stdin), (
+            1, [[words[-1], *row] for row in wanted], sums(2, 0, 2), ''))
     tools.write('b.pcap', pcap(whole()))
-    shutil.copy(TOP / 'examples/two_connections.nfs3cap', tools.path('c.nfs3cap'))
-    shutil.copy(TOP / 'examples/interleaved.nfs3cap', tools.path('d.nfs3cap'))
-    status, rows, last, error = verdicts(tools, 'b.pcap', 'c.nfs3cap', 'd.nfs3cap')
-    tools.want('all ok', (status, [[row[0], *row[-3:]] for row in rows], last, error),
-               (0, [['b.pcap', '39', '39', 'ok'], *([['c.nfs3cap', '1', '1', 'ok']] * 2),
-                    ['d.nfs3cap', '7', '7', 'ok'],
-                    ['d.nfs3cap', '51', '51', 'ok'], ['d.nfs3cap', '2', '2', 'ok']],
-                sums(6, raw='1 NFSACL GETACL'), ''))
+    for name, example in (('c', 'two_connections'), ('d', 'interleaved')):
+        shutil.copy(TOP / f'examples/{example}.nfs3cap', tools.path(name))
+    status, rows, last, error = verdicts(tools, 'b.pcap', 'c', 'd')
+    tools.want('all ok', (status, [' '.join([row[0], *row[-3:]]) for row in rows], last, error),
+               (0, ['b.pcap 39 39 ok', 'c 1 1 ok', 'c 1 1 ok', 'd 7 7 ok', 'd 51 51 ok',
+                    'd 2 2 ok'], sums(6, raw='1 NFSACL GETACL'), ''))
     tools.want('no program', tools.tool('verdicts', '--program', './absent', 'b.pcap'),
                (2, '', 'verdicts: ./absent is missing\n'))
     tools.want('no processes', tools.tool('verdicts', '-j', '0', 'b.pcap')[0], 2)
