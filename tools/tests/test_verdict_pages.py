@@ -115,10 +115,9 @@ def tables_as_printed(tools: Written) -> None:
     _, out, page = tools.page('verdicts', FIRST, *BAD)
     wrong, valid = map(table_of, page.all('div', 'cards'))
     rows, printed = [*wrong, *valid[1:]], rows_printed(out)[:-1]
-    is_ok = [row for row in printed if row[6] == 'ok']
-    tools.want('verdicts', rows, [*(row for row in printed if row not in is_ok), *is_ok])
     heads = [cell.attributes['data-head'] for cell in page.all('tr', 'row')[0].all('td')]
-    tools.want('heads', heads, rows[0])
+    printed.sort(key=lambda row: row[6] == 'ok')
+    tools.want('verdicts', (rows, heads), (printed, rows[0]))
     for words in (['--sort', 'calls', FIRST], ['--total', FIRST], ['--beside', FIRST, CONCURRENT]):
         _, out, page = tools.page('procedures', *words)
         # (numbers have separators there)
@@ -128,10 +127,8 @@ def tables_as_printed(tools: Written) -> None:
                                            for row in found), sorted(printed))
         if words[0] == '--sort':
             numbers = [int(row[1].replace(',', '')) for row in table_of(page.all('table')[0])[1:-1]]
-            tools.want('sorted', numbers, sorted(numbers, reverse=True))
-            tools.want('folded',
-                       [one.attributes.get('open') for one in page.all('details', 'others')],
-                       [None])
+            folded = [one.attributes.get('open') for one in page.all('details', 'others')]
+            tools.want('sorted', (numbers, folded), (sorted(numbers, reverse=True), [None]))
     _, _, page = tools.page('procedures', FIRST, CONCURRENT)
     names = [node.attributes['id'] for node in page.nodes() if 'id' in node.attributes]
     tools.want('names of elements', sorted(names), sorted(set(names)))
@@ -190,26 +187,25 @@ def dots_of_calls(tools: Written) -> None:
                    sorted((row['connection'], row['record']) for row in rows))
         for row in rows:
             form, _, _, words = found[row['connection'], row['record']]
-            latency = f'{int(row["latency_ns"]) / 1_000_000:.3f} ms'
             tools.want(f'{name}: {row}', (form, words[3:5], words[0].endswith(row['answer']),
                                           row['path'] in words[0]),
-                       ('bad' if row['is_error'] == 'True' else 'good', [row['frame'], latency],
+                       ('bad' if row['is_error'] == 'True' else 'good', [
+                           row['frame'], f'{int(row["latency_ns"]) / 1_000_000:.3f} ms'],
                         True, True))
     heights = sorted((float(dot[3][5]), dot[2]) for dot in dots)
     tools.want('slower is higher', [height for _, height in heights],
                sorted((height for _, height in heights), reverse=True))
-    (low, bottom), (high, top) = heights[0], heights[-1]
-    middle, height = heights[len(heights) // 2]
+    (low, bottom), (high, top), (middle, height) = (heights[at] for at in (0, -1, len(dots) // 2))
     part = math.log(middle / low) / math.log(high / low)
     tools.want('log scale', abs(bottom - part * (bottom - top) - height) < 1.5, True)
     talk = Talk()
     frames = [*talk.opened(), *exchange(talk, calls=CALLS[:3], replies=REPLIES[:2])]
-    for name, form, more in (('open.pcap', 'open', []), ('closed.pcap', 'bad', talk.closed())):
-        tools.write(name, pcap([*frames, *more]))
-        dots = dots_of(tools.page('verdicts', name)[2])
-        tools.want(name, ([dot[0] for dot in dots], dots[-1][3][4]),
-                   (['good', 'good', form], 'no latency'))
-        tools.want(f'{name}: above', dots[-1][2] < min(dot[2] for dot in dots[:2]), True)
+    for form, more in (('open', []), ('bad', talk.closed())):
+        tools.write('a.pcap', pcap([*frames, *more]))
+        dots = dots_of(tools.page('verdicts', 'a.pcap')[2])
+        tools.want(form, ([dot[0] for dot in dots], dots[-1][3][4],
+                          dots[-1][2] < min(dot[2] for dot in dots[:2])),
+                   (['good', 'good', form], 'no latency', True))
     _, _, page = tools.page('procedures', str(EXAMPLES / 'every_procedure.nfs3cap'))
     said = re.findall(r'\d+ calls have no time, and are not drawn\.', page.text())
     tools.want('a capture', (len(page.all('svg', 'line')), len(said)), (0, 1))
