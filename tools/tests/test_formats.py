@@ -29,30 +29,30 @@ def recordings_of_all_kinds(tools: Tools) -> None:
     """Both orders and units of pcap, all packets of pcapng, and gzip."""
     frames = whole()
     for order in '<>':
-        tools.taken('pcap ' + order, pcap(frames, order=order), [ALL])
-        tools.taken('nanoseconds ' + order, pcap(frames, order=order, magic=NANOSECONDS), [ALL])
-        tools.taken('pcapng ' + order, pcapng(frames, order), [ALL])
-        tools.taken('packets without times ' + order,
-                    section(order) + interface(order=order)
-                    + b''.join(simple(frame, order) for frame in frames), [ALL])
-        tools.taken('obsolete packets ' + order,
-                    section(order) + interface(order=order)
-                    + b''.join(obsolete(frame, order=order) for frame in frames), [ALL])
-    tools.taken('two sections', pcapng(frames[:6]) + pcapng(frames[6:], '>'), [ALL])
+        head = section(order) + interface(order=order)
+        for what, recording in (
+                ('pcap', pcap(frames, order=order)), ('pcapng', pcapng(frames, order)),
+                ('nanoseconds', pcap(frames, order=order, magic=NANOSECONDS)),
+                ('packets without times', head + b''.join(simple(one, order) for one in frames)),
+                ('obsolete packets', head + b''.join(obsolete(one, order=order)
+                                                     for one in frames))):
+            tools.taken(f'{what} {order}', recording, [ALL])
     raw = [frame[14:] for frame in frames]
     several = section() + interface() + interface(101) + interface(113)
     mixed = (enhanced([frame, raw[at], cooked(raw[at])][at % 3], at, at % 3)
              for at, frame in enumerate(frames))
-    tools.taken('three interfaces', several + b''.join(mixed), [ALL])
-    tools.taken('the interfaces of the second section',
-                several + b''.join(enhanced(frame, 0, 0) for frame in frames[:6])
-                + section() + interface(101)
-                + b''.join(enhanced(content, 0, 0) for content in raw[6:]), [ALL])
-    packed_twice = gzip.compress(pcap(frames)[:300]) + gzip.compress(pcap(frames)[300:])
-    tools.taken('gzip', gzip.compress(pcap(frames)), [ALL])
-    tools.taken('gzip of pcapng', gzip.compress(pcapng(frames)), [ALL])
-    tools.taken('gzip in two members', packed_twice, [ALL])
-    tools.taken('zeros after gzip', gzip.compress(pcap(frames)) + bytes(512), [ALL])
+    one, two = (b''.join(enhanced(frame, 0, 0) for frame in some) for some in (frames[:6], raw[6:]))
+    for what, recording in (
+            ('two sections', pcapng(frames[:6]) + pcapng(frames[6:], '>')),
+            ('three interfaces', several + b''.join(mixed)),
+            ('the interfaces of the second section',
+             several + one + section() + interface(101) + two),
+            ('gzip', gzip.compress(pcap(frames))),
+            ('gzip of pcapng', gzip.compress(pcapng(frames))),
+            ('gzip in two members',
+             gzip.compress(pcap(frames)[:300]) + gzip.compress(pcap(frames)[300:])),
+            ('zeros after gzip', gzip.compress(pcap(frames)) + bytes(512))):
+        tools.taken(what, recording, [ALL])
 
 
 PACKERS: dict[str, typing.Callable[[bytes], bytes]] = {'gzip': gzip.compress, 'xz': lzma.compress,
@@ -233,26 +233,22 @@ def recordings_that_are_none(tools: Tools) -> None:
 
 def link_layers(tools: Tools) -> None:
     for hosts in ((CLIENT, SERVER), ('2001:db8::7', '2001:db8::1')):
-        frames = whole(hosts=hosts)
+        frames, kind = whole(hosts=hosts), 0x86dd if ':' in hosts[0] else 0x0800
         raw = [frame[14:] for frame in frames]
-        tags = [ethernet(content, [(0x88a8, 9), (0x8100, 7)]) for content in raw]
-        tools.taken('Ethernet', pcap(frames), [ALL])
-        tools.taken('a VLAN', pcap(whole(hosts=hosts, vlan=7)), [ALL])
-        tools.taken('a VLAN in a VLAN', pcap(tags), [ALL])
-        tools.taken('padding', pcap([frame.ljust(60, b'\xee') for frame in frames]), [ALL])
-        tools.taken('cooked', pcap(map(cooked, raw), link=113), [ALL])
-        tools.taken('cooked, version 2', pcap(map(cooked_2, raw), link=276), [ALL])
-        tools.taken('cooked, with a VLAN',
-                    pcap((cooked(content)[:14]
-                          + struct.pack('>HHH', 0x8100, 7, 0x86dd if ':' in hosts[0] else 0x0800)
-                          + content for content in raw), link=113), [ALL])
-        tools.taken('loopback', pcap(map(loopback, raw), link=0), [ALL])
-        tools.taken('loopback of another machine',
-                    pcap((loopback(content, '>') for content in raw), link=0), [ALL])
-        tools.taken('loopback in the order of the network',
-                    pcap((loopback(content, '>') for content in raw), link=108), [ALL])
-        for link in (12, 14, 101, 228 if ':' not in hosts[0] else 229):
-            tools.taken('raw IP %d' % link, pcap(raw, link=link), [ALL])
+        tagged = [cooked(content)[:14] + struct.pack('>HHH', 0x8100, 7, kind) + content
+                  for content in raw]
+        for what, some, link in (
+                ('Ethernet', frames, 1), ('a VLAN', whole(hosts=hosts, vlan=7), 1),
+                ('a VLAN in a VLAN', [ethernet(content, [(0x88a8, 9), (0x8100, 7)])
+                                      for content in raw], 1),
+                ('padding', [frame.ljust(60, b'\xee') for frame in frames], 1),
+                ('cooked', map(cooked, raw), 113), ('cooked, version 2', map(cooked_2, raw), 276),
+                ('cooked, with a VLAN', tagged, 113), ('loopback', map(loopback, raw), 0),
+                *((f'loopback in the other order, {link}',
+                   [loopback(content, '>') for content in raw], link) for link in (0, 108)),
+                *((f'raw IP {link}', raw, link)
+                  for link in (12, 14, 101, 229 if ':' in hosts[0] else 228))):
+            tools.taken(what, pcap(some, link=link), [ALL])
     lines = tools.taken('another link type', pcap(frames, link=147), [])
     tools.want('another link type', lines,
                ['not checked: 15 frames of the link type 147 are not read; what is in them is not '
@@ -266,36 +262,27 @@ def link_layers(tools: Tools) -> None:
 
 def internet_layers(tools: Tools) -> None:
     """Options and extension headers, fragments in any order, lengths of 0, and those that lie."""
-    talk = Talk()
-    v4 = [ethernet(b'\x46' + content[1:2] + struct.pack('>H', len(content) + 4) + content[4:20]
-                   + b'\1\1\1\0' + content[20:])
-          for content in (frame[14:] for frame in whole())]
-    tools.taken('options of IPv4', pcap(v4), [ALL])
-    talk = Talk()
-    with_options = [ethernet(talk.datagram(0, SYN, options=b'\2\4\5\xb4')), *whole()[1:3]]
-    talk.next[0] += 1
-    talk.next[1] += 1
+    talk, v4, v6 = Talk(), whole(), whole(hosts=('2001:db8::7', '2001:db8::1'))
+    headers = [(0, bytes(8)), (60, b'\0\1' + bytes(14)), (43, bytes(8)), (51, b'\0\1' + bytes(10))]
+    for what, frames in (
+            ('options of IPv4', [
+                ethernet(b'\x46' + content[1:2] + struct.pack('>H', len(content) + 4)
+                         + content[4:20] + b'\1\1\1\0' + content[20:])
+                for content in (frame[14:] for frame in v4)]),
+            ('total length 0', [frame[:16] + b'\0\0' + frame[18:] for frame in v4]),
+            ('payload length 0', [frame[:18] + b'\0\0' + frame[20:] for frame in v6]),
+            ('extension headers', [ethernet(extended(frame[14:], headers)) for frame in v6]),
+            ('an atomic fragment', [ethernet(extended(frame[14:], [(44, bytes(8))]))
+                                    for frame in v6])):
+        tools.taken(what, pcap(frames), [ALL])
+    with_options = [ethernet(talk.datagram(0, SYN, options=b'\2\4\5\xb4')), *v4[1:3]]
+    talk.next = [number + 1 for number in talk.next]
     content = ethernet(talk.datagram(0, ACK, ALL[0], options=b'\1\1\x08\x0a' + bytes(8)))
     tools.taken('options of TCP', pcap([*with_options, content]), [(ALL[0], b'')])
-    no_lengths = [frame[:16] + b'\0\0' + frame[18:] for frame in whole()]
-    tools.taken('total length 0', pcap(no_lengths), [ALL])
-    frames = whole(hosts=('2001:db8::7', '2001:db8::1'))
-    tools.taken('payload length 0', pcap([frame[:18] + b'\0\0' + frame[20:] for frame in frames]),
-                [ALL])
-    headers = [(0, bytes(8)), (60, b'\0\1' + bytes(14)), (43, bytes(8)), (51, b'\0\1' + bytes(10))]
-    tools.taken('extension headers',
-                pcap(ethernet(extended(frame[14:], headers)) for frame in frames), [ALL])
-    tools.taken('an atomic fragment', pcap(ethernet(extended(frame[14:], [(44, bytes(8))]))
-                                           for frame in frames), [ALL])
-    lying = whole()
-    lying[4] = lying[4][:16] + b'\xff\xff' + lying[4][18:]
-    told = ('in part: 1 frame to or from port 2049 is not taken, since its headers are not whole '
-            'or do not fit its length')
-    tools.want('a header that lies', tools.taken('a header that lies', pcap(lying + whole()[4:5]),
-                                                 [ALL])[-1], told)
-    lying[4] = whole()[4][:46] + b'\xf0' + whole()[4][47:58]
-    tools.want('a TCP header that lies',
-               tools.taken('a TCP header that lies', pcap(lying + whole()[4:5]), [ALL])[-1], told)
+    for lying in (v4[4][:16] + b'\xff\xff' + v4[4][18:], v4[4][:46] + b'\xf0' + v4[4][47:58]):
+        lines = tools.taken('a header that lies', pcap([*v4[:4], lying, *v4[5:], v4[4]]), [ALL])
+        tools.want('a header that lies', lines[-1], 'in part: 1 frame to or from port 2049 is not '
+                   'taken, since its headers are not whole or do not fit its length')
 
 
 # --- Damaged at random ---

@@ -5,7 +5,6 @@ import random
 import struct
 import subprocess
 import sys
-import typing
 
 from examples import messages
 from examples.messages import NFS, call, success
@@ -35,18 +34,17 @@ def datagrams_in_fragments(tools: Tools) -> None:
                         (fragments_6, whole(hosts=('2001:db8::7', '2001:db8::1')))):
         pieces = [[ethernet(piece) for piece in cut(frame[14:], 64, number)]
                   for number, frame in enumerate(frames)]
-        in_order = [piece for each in pieces for piece in each]
-        tools.taken('fragments', pcap(in_order), [ALL])
-        tools.taken('the last fragment first',
-                    pcap(piece for each in pieces for piece in each[::-1]), [ALL])
-        tools.taken('fragments twice', pcap(piece for each in pieces for piece in each * 2), [ALL])
+        in_order = list(itertools.chain(*pieces))
         turns = [piece for pair in itertools.zip_longest(*pieces[3:5]) for piece in pair if piece]
-        tools.taken('fragments of two datagrams in turn',
-                    pcap([*in_order[:3], *turns,
-                          *(piece for each in pieces[5:] for piece in each)]), [ALL])
         changed = pieces[3][1][:-8] + b'\xee' * 8
-        tools.taken('the first fragment counts', pcap(in_order[:5] + [changed] + in_order[5:]),
-                    [ALL])
+        for what, some in (
+                ('fragments', in_order),
+                ('the last fragment first', [piece for each in pieces for piece in each[::-1]]),
+                ('fragments twice', [piece for each in pieces for piece in each * 2]),
+                ('fragments of two datagrams in turn',
+                 [*in_order[:3], *turns, *itertools.chain(*pieces[5:])]),
+                ('the first fragment counts', in_order[:5] + [changed] + in_order[5:])):
+            tools.taken(what, pcap(some), [ALL])
         at = in_order.index(pieces[4][1])
         lines = tools.taken('a fragment is lost', pcap(in_order[:at] + in_order[at + 1:]),
                             [AROUND_A_GAP])
@@ -158,26 +156,21 @@ def beginnings_and_ends(tools: Tools) -> None:
 
 
 def who_is_the_client(tools: Tools) -> None:
-    def told(recording: bytes, **options: typing.Any) -> str:
-        return tools.taken('client', recording, [ALL], **options)[0].partition(': client ')[2]
-    client, server = CLIENT + ':700 ', SERVER + ':2049 '
-    tools.want('SYN', told(pcap(whole())), client + 'by the SYN' + SIZES)
-    tools.want('the answer to a SYN', told(pcap(whole()[1:])), client + 'by the SYN' + SIZES)
-    tools.want('a SYN without its answer', told(pcap([whole()[0], *whole()[2:]])),
-               client + 'by the SYN' + SIZES)
+    client, server = CLIENT + ':700 by ', SERVER + ':2049 by '
     swapped = whole(port=2049, service=700, hosts=(SERVER, CLIENT))
-    tools.want('SYN before ports', told(pcap(swapped)), server + 'by the SYN' + SIZES)
-    for service in (2049, 900):
-        replies_first = whole(service=service)[8:] + whole(service=service)[3:8]
-        tools.want('calls', told(pcap(replies_first)), client + 'by its calls' + SIZES)
-    tools.want('calls before ports', told(pcap(swapped[3:])), server + 'by its calls' + SIZES)
+    for frames, told in (
+            (whole(), client + 'the SYN'), (whole()[1:], client + 'the SYN'),
+            ([whole()[0], *whole()[2:]], client + 'the SYN'), (swapped, server + 'the SYN'),
+            *((whole(service=service)[8:] + whole(service=service)[3:8], client + 'its calls')
+              for service in (2049, 900)), (swapped[3:], server + 'its calls')):
+        lines = tools.taken(told, pcap(frames), [ALL])
+        tools.want('client', lines[0].partition(': client ')[2], told + SIZES)
     for talk, ends in ((Talk(), '192.0.2.1:2049 and 192.0.2.7:700'),
                        (Talk(port=111, service=900), '192.0.2.1:900 and 192.0.2.7:111')):
         lines = tools.taken('no calls', pcap(exchange(talk, calls=[])), [])
         tools.want('no calls', lines, [f'left out: {ends}: no position was found from which its '
                                        'records follow one another'])
-    garbage = [Talk(service=900).frame(0, ACK, stream(REPLIES))]
-    tools.taken('replies alone', pcap(garbage), [])
+    tools.taken('replies alone', pcap([Talk(service=900).frame(0, ACK, stream(REPLIES))]), [])
 
 
 # --- Missing bytes ---
