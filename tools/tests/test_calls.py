@@ -294,26 +294,27 @@ def words_that_are_refused(tools: Tools) -> None:
 
 def times_and_frames(tools: Tools) -> None:
     """A call is at the frame that completed it; time counts from the first frame."""
-    talk, answer = Talk(), fragment(success(1, ok(DIRECTORY)))
-    arp = bytes(12) + b'\x08\x06' + bytes(28)
-    frames, sent = [arp, *talk.opened()], in_fragments(asked(1, GETATTR, fh(ROOT)), 30)
-    pieces = [talk.frame(0, ACK, sent[at:end], ahead=at) for at,
-              end in ((0, 20), (60, 999), (20, 60))]
-    frames += [*pieces, talk.frame(1, ACK, answer)]
-    tools.write('a.pcap', pcap(frames))
-    tools.want('frames', calls(tools, 'a.pcap')[1][1],
-               ['0.000006', '0.001', '7', '1:1', 'GETATTR ?', 'OK DIR 1777 size 4096'])
-    one = objects(tools, 'a.pcap')[0]
-    tools.want('JSON', (one['time_ns'], one['latency_ns'], one['frame'], one['replies']), (
-        1_000_006_000, 1_000, 7, [{'record': 1, 'frame': 8, 'answer': 'OK DIR 1777 size 4096'}]))
-    tools.write('b.pcap', section() + interface() + b''.join(map(simple, frames)))
-    tools.want('frames without times', calls(tools, 'b.pcap')[1][1][:3], ['-', '-', '7'])
+    talk, answer = Talk(), 'OK DIR 1777 size 4096'
+    frames, sent = [bytes(12) + b'\x08\x06' + bytes(28), *talk.opened()], in_fragments(
+        asked(1, GETATTR, fh(ROOT)), 30)
+    frames += [talk.frame(0, ACK, sent[at:end], ahead=at)
+               for at, end in ((0, 20), (60, 999), (20, 60))]
+    frames.append(talk.frame(1, ACK, fragment(success(1, ok(DIRECTORY)))))
     recording = pcap(frames)
     at = len(recording) - len(frames[-1]) - 12  # where the microseconds of the last frame are
-    tools.write('c.pcap', recording[:at] + bytes(4) + recording[at + 4:])
-    status, lines, error = calls(tools, 'c.pcap')
-    tools.want('a clock that goes back', (status, lines[1][:3], error), (
-        0, ['0.000006', '-0.006', '7'], 'c.pcap: the clock went back: 1 latency is negative\n'))
+    for content, cells_before, told in (
+            (recording, ['0.000006', '0.001', '7'], ''),
+            (section() + interface() + b''.join(map(simple, frames)), ['-', '-', '7'], ''),
+            (recording[:at] + bytes(4) + recording[at + 4:], ['0.000006', '-0.006', '7'],
+             'a.pcap: the clock went back: 1 latency is negative\n')):
+        tools.write('a.pcap', content)
+        status, lines, error = calls(tools, 'a.pcap')
+        tools.want(f'{cells_before}', (status, lines[1], error),
+                   (0, [*cells_before, '1:1', 'GETATTR ?', answer], told))
+    tools.write('a.pcap', recording)
+    one = objects(tools, 'a.pcap')[0]
+    tools.want('JSON', (one['time_ns'], one['latency_ns'], one['frame'], one['replies']),
+               (1_000_006_000, 1_000, 7, [{'record': 1, 'frame': 8, 'answer': answer}]))
 
 
 def captures_have_no_times(tools: Tools) -> None:
@@ -321,13 +322,13 @@ def captures_have_no_times(tools: Tools) -> None:
     for name in ('ganesha_a', 'concurrent_a'):
         recording = str(TOP / f'examples/{name}.pcap')
         tools.want('from_pcap', tools.tool('from_pcap', recording, 'a.nfs3cap')[0], 0)
-        lines = sorted(line[3:] for line in calls(tools, recording)[1][1:-2])
-        found = calls(tools, 'a.nfs3cap')[1]
-        tools.want(name, sorted(line[3:] for line in found[1:-2]), lines)
-        tools.want('dashes', {cell for line in found[1:-2] for cell in line[:3]}, {'-'})
+        lines, found = (calls(tools, file)[1][1:-2] for file in (recording, 'a.nfs3cap'))
+        tools.want(name, (sorted(line[3:] for line in found), {
+            cell for line in found for cell in line[:3]}),
+            (sorted(line[3:] for line in lines), {'-'}))
     for words, told in ((['--slow', '1s'], 'no latency is known, so --slow lists nothing'),
-                        (['--client',
-                          '192.0.2.7'], 'a capture has no addresses, so --client lists nothing')):
+                        (['--client', '192.0.2.7'],
+                         'a capture has no addresses, so --client lists nothing')):
         status, lines, error = calls(tools, *words, 'a.nfs3cap')
         tools.want(words[0], (status, len(lines), error), (0, 3, f'a.nfs3cap: {told}\n'))
 
@@ -335,26 +336,20 @@ def captures_have_no_times(tools: Tools) -> None:
 def forms_for_programs(tools: Tools) -> None:
     """CSV has the values of JSON, in the same order, of several recordings."""
     tools.write('a,\n.pcap', pcap(mounted(Talk(service=20048))))
-    words = ['--errors', 'a,\n.pcap', FIRST]
-    for chosen in (words, words[1:]):
+    for chosen, number in ((['--errors', 'a,\n.pcap', FIRST], 1), (['a,\n.pcap', FIRST], 104)):
         status, out, error = tools.tool('calls', '--csv', *chosen)
-        tools.want('CSV', (status, error), (0, sum_line(4) + '\n'))
         rows = list(csv.DictReader(io.StringIO(out)))
-        tools.want('rows', len(rows), 1 if '--errors' in chosen else 104)
-        as_text = [{key: '' if value is None else str(len(value)) if key == 'replies'
-                    else ' '.join(value) if key == 'other_names'
-                    else str(value) for key, value in one.items()}
-                   for one in objects(tools, *chosen)]
-        tools.want('JSON', rows, as_text)
-    tools.want('a row',
-               {key: rows[0][key] for key in ('recording', 'connection', 'record',
-                                              'client', 'procedure', 'path', 'answer', 'is_error')},
-               {'recording': 'a,\\x0a.pcap', 'connection': '1', 'record': '1',
-                'client': '192.0.2.7:700', 'procedure': 'MOUNTPROC3_MNT', 'path': '/x',
-                'answer': 'OK', 'is_error': 'False'})
+        tools.want('CSV', (status, error, len(rows)), (0, sum_line(4) + '\n', number))
+        tools.want('JSON', rows, [
+            {key: '' if value is None else str(len(value)) if key == 'replies'
+             else ' '.join(value) if key == 'other_names' else str(value)
+             for key, value in one.items()} for one in objects(tools, *chosen)])
+    tools.want('a row', [rows[0][key] for key in ('recording', 'connection', 'record', 'client',
+                                                  'procedure', 'path', 'answer', 'is_error')],
+               ['a,\\x0a.pcap', '1', '1', '192.0.2.7:700', 'MOUNTPROC3_MNT', '/x', 'OK', 'False'])
     status, lines, _ = calls(tools, 'a,\n.pcap', '-', stdin=pcap(whole()))
-    tools.want('several', (status, [line[0] for line in lines[::2]][:1], ['-:'] in lines,
-                           lines[-2]), (0, ['a,\\x0a.pcap:'], True, ['40 exchanges']))
+    tools.want('several', (status, lines[0], ['-:'] in lines, lines[-2]),
+               (0, ['a,\\x0a.pcap:'], True, ['40 exchanges']))
 
 
 def long_names(tools: Tools) -> None:

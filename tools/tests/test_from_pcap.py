@@ -208,29 +208,30 @@ def what_is_left_out(tools: Tools) -> None:
 def bytes_are_missing(tools: Tools) -> None:
     """A stream goes on at the next record, without replies to calls that are missing."""
     frames, calls, replies = whole(), *ALL
-    torn = (BEHIND_A_GAP - BEFORE_A_GAP) * CALL - FIFTH
-    tools.told('a gap in the calls', pcap(frames[:4] + frames[5:]), [AROUND_A_GAP],
-               [told_of_gap('client', FIFTH, FIFTH, 5) + torn_records(torn),
-                replies_left_out(BEHIND_A_GAP - BEFORE_A_GAP)])
-    most = 4 * FIFTH // CALL
-    tools.told('the last call is lost', pcap(frames[:7] + frames[8:]),
-               [(calls[:most * CALL], replies[:most * REPLY])],
-               [told_of_gap('client', len(calls) - 4 * FIFTH, 4 * FIFTH, 8)
-                + torn_records(4 * FIFTH - most * CALL), replies_left_out(len(REPLIES) - most)])
-    first = -(-FIFTH // CALL)
-    tools.told('the first call is lost', pcap(frames[:3] + frames[4:]),
-               [(calls[first * CALL:], replies[first * REPLY:])],
-               [told_of_gap('client', FIFTH, 0, 4) + torn_records(first * CALL - FIFTH),
-                replies_left_out(first)])
+    torn, most, first = (BEHIND_A_GAP - BEFORE_A_GAP) * CALL - FIFTH, 4 * FIFTH // CALL, -(
+        -FIFTH // CALL)
     before, behind = FIFTH_OF_REPLIES // REPLY, -(-2 * FIFTH_OF_REPLIES // REPLY)
-    tools.told('a gap in the replies', pcap(frames[:9] + frames[10:]),
-               [(calls, replies[:before * REPLY] + replies[behind * REPLY:])],
-               [told_of_gap('server', FIFTH_OF_REPLIES, FIFTH_OF_REPLIES, 10)
-                + torn_records((behind - before) * REPLY - FIFTH_OF_REPLIES)])
-    tools.told('the last reply is lost, as FIN shows', pcap(frames[:12] + frames[-1:]),
-               [(calls, replies[:4 * FIFTH_OF_REPLIES // REPLY * REPLY])],
-               [told_of_gap('server', len(replies) - 4 * FIFTH_OF_REPLIES, 4 * FIFTH_OF_REPLIES, 13)
-                + torn_records(4 * FIFTH_OF_REPLIES % REPLY)])
+    last = 4 * FIFTH_OF_REPLIES
+    for what, some, streams_there, *told in (
+            ('a gap in the calls', frames[:4] + frames[5:], AROUND_A_GAP,
+             told_of_gap('client', FIFTH, FIFTH, 5) + torn_records(torn),
+             replies_left_out(BEHIND_A_GAP - BEFORE_A_GAP)),
+            ('the last call is lost', frames[:7] + frames[8:],
+             (calls[:most * CALL], replies[:most * REPLY]),
+             told_of_gap('client', len(calls) - 4 * FIFTH, 4 * FIFTH, 8)
+             + torn_records(4 * FIFTH - most * CALL), replies_left_out(len(REPLIES) - most)),
+            ('the first call is lost', frames[:3] + frames[4:],
+             (calls[first * CALL:], replies[first * REPLY:]),
+             told_of_gap('client', FIFTH, 0, 4) + torn_records(first * CALL - FIFTH),
+             replies_left_out(first)),
+            ('a gap in the replies', frames[:9] + frames[10:],
+             (calls, replies[:before * REPLY] + replies[behind * REPLY:]),
+             told_of_gap('server', FIFTH_OF_REPLIES, FIFTH_OF_REPLIES, 10)
+             + torn_records((behind - before) * REPLY - FIFTH_OF_REPLIES)),
+            ('the last reply is lost, as FIN shows', frames[:12] + frames[-1:],
+             (calls, replies[:last // REPLY * REPLY]),
+             told_of_gap('server', len(replies) - last, last, 13) + torn_records(last % REPLY))):
+        tools.told(what, pcap(some), [streams_there], told)
 
 
 def several_gaps(tools: Tools) -> None:
@@ -301,20 +302,17 @@ def beginnings_that_are_missing(tools: Tools) -> None:
     """Each stream begins at the first record from which records follow one another."""
     calls, replies = ALL
     for cut in (0, 1, 3, 4, 8, 43, 44, 45, 430):
-        talk = Talk()
-        skipped = -cut % CALL
-        rest = (cut + CALL - 1) // CALL
-        frames = [talk.sent(0, calls[cut:]), talk.sent(1, replies)]
-        told = ([left_out_before('client', skipped)] if skipped
-                else []) + ([replies_left_out(rest)] if rest else [])
-        tools.told(f'cut after {cut}', pcap(frames),
-                   [(calls[rest * CALL:], replies[rest * REPLY:])], told)
+        talk, skipped, rest = Talk(), -cut % CALL, (cut + CALL - 1) // CALL
+        told = [left_out_before('client', skipped)] * (skipped > 0)
+        tools.told(f'cut after {cut}', pcap([talk.sent(0, calls[cut:]), talk.sent(1, replies)]),
+                   [(calls[rest * CALL:], replies[rest * REPLY:])],
+                   told + [replies_left_out(rest)] * (rest > 0))
     for cut in (0, 1, 5, 27, 28):
-        talk = Talk()
-        frames = [talk.sent(0, calls), talk.sent(1, replies[cut:])]
-        skipped = -cut % REPLY
-        tools.told(f'replies cut after {cut}', pcap(frames), [(calls, replies[cut + skipped:])],
-                   [left_out_before('server', skipped)] if skipped else [])
+        talk, skipped = Talk(), -cut % REPLY
+        tools.told(f'replies cut after {cut}',
+                   pcap([talk.sent(0, calls), talk.sent(1, replies[cut:])]),
+                   [(calls, replies[cut + skipped:])],
+                   [left_out_before('server', skipped)] * (skipped > 0))
     talk = Talk()
     frames = [talk.sent(0, b'\0'), talk.sent(0, calls), talk.sent(1, replies)]
     tools.told('a keep-alive first', pcap(frames), [ALL], [left_out_before('client', 1)])
@@ -327,15 +325,13 @@ def beginnings_that_are_missing(tools: Tools) -> None:
               *talk.closed()]
     tools.told('a record that FIN cuts', pcap(frames), [(calls[:-3], replies[:-REPLY])], [])
     tools.told('a whole recording', pcap(whole()), [ALL], [])
-    talk = Talk()
     writing = stream([call(77, NFS, 3, 7, messages.fh(b'abcde') + messages.hyper(0)
                            + messages.word(99) + messages.opaque(bytes(99)))])
     two = stream(CALLS[:2])
     for content in (writing[:90], two + b'\x80\0\0\x99' + b'x' * 28, two + b'x' * 99,
                     two + bytes(3) + two + b'x' * 99):
-        tools.taken('no run of records',
-                    pcap([Talk().sent(0, content),
-                          *Talk(first=(1_000 + len(content), 5_000)).closed()]), [])
+        ends = Talk(first=(1_000 + len(content), 5_000)).closed()
+        tools.taken('no run of records', pcap([Talk().sent(0, content), *ends]), [])
 
 
 def faults_stay(tools: Tools) -> None:
