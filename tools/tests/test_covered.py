@@ -38,15 +38,31 @@ ENDS = '192.0.2.7:%d and 192.0.2.1:%d: '
 
 
 class Case(typing.NamedTuple):
-    """A recording beside a good one: its rows, its counts, and the statuses as ALLOWING has it."""
+    """A recording beside a good one: its rows, the counts that these do not show, the options of a
+    run, what is raw, and the statuses as ALLOWING has it, if not those of the rows."""
     what: str
     frames: list[bytes]
-    states: list[str]
     messages: list[str]
-    counts: dict[str, int]
-    statuses: tuple[int, int, int]
+    more: dict[str, int] = {}
     words: list[str] = []
     raw: str = ''
+    statuses: tuple[int, int, int] | None = None
+
+    @property
+    def states(self) -> list[str]:
+        """The states of the rows: what is none of these is refused."""
+        return [next((state for begin, state in STATES.items() if message.startswith(begin)),
+                     'ok' if message == 'ok' else 'refused') for message in self.messages]
+
+    @property
+    def counts(self) -> dict[str, int]:
+        counted = Counter(state.replace(' ', '_') for state in self.states)
+        return {**counted, **self.more}
+
+    @property
+    def wanted_statuses(self) -> tuple[int, int, int]:
+        of_states = [STATUSES[state] for state in self.states]
+        return self.statuses or max(of_states, default=GOOD)
 
 
 def talked(calls: list[bytes], replies: list[bytes], service: int = 2049) -> list[bytes]:
@@ -66,7 +82,11 @@ NAMES = {'ok': 'ok', 'refused': 'refused', 'in_part': 'in part', 'left_out': 'le
          'bare': 'without calls', 'not_checked': 'not checked', 'errors': 'errors',
          'silent': 'without reply'}
 ALLOWING = ([], ['--allow-losses'], ['--allow-not-checked'])  # in the order of a case's statuses
-LOSSES, NOT_CHECKED, NEITHER, GOOD = (1, 0, 1), (1, 1, 0), (1, 1, 1), (0, 0, 0)
+NEITHER, GOOD = (1, 1, 1), (0, 0, 0)
+STATES = {'ok in part': 'in part', 'in part': 'in part', 'left out': 'left out',
+          'not checked': 'not checked'}
+STATUSES = {'ok': GOOD, 'in part': (1, 0, 1), 'left out': (1, 0, 1), 'not checked': (1, 1, 0),
+            'refused': NEITHER}
 LOST = whole(port=701)[:4] + whole(port=701)[5:]
 COMPOUNDS = [call(number, NFS, 4, 1, bytes(40)) for number in range(20)]
 ANSWERS = [success(number, bytes(8)) for number in range(20)]
@@ -121,129 +141,97 @@ def spoilt(piece: bytes, places: int = 0) -> bytes:
     return piece[:2] + size + piece[4:6] + place.to_bytes(2, 'big') + piece[8:-1] + b'\xee'
 
 
+PART = 'ok in part: 39 calls, '
+OTHER_CONTENT, INSIDE = PART + '1 frame with other content', 'the recording ends inside a record'
+ACKNOWLEDGED = ('left out: ' + ENDS % (701, 2049)
+                + '3,300,000 bytes acknowledged and not recorded')
+NO_CALLS = {'left_out': 1, 'bare': 1}
+IN_TUNNELS = (('GTP-U', 2152, 2152), ('L2TP', 1701, 1701), ('L2TP', 1701, 50_000),
+              ('ESP in UDP', 4500, 4500), ('Teredo', 50_000, 3544))
 CASES = [
-    Case('a good one', whole(port=701), ['ok'], ['ok'], {'ok': 1}, GOOD),
-    Case('begun before the recording', whole(port=701)[3:], ['in part'],
-         ['ok in part: 39 calls, its beginning is not in the recording'], {'in_part': 1}, LOSSES),
-    Case('a lost frame', LOST, ['in part'], ['ok in part: 30 calls, 344 bytes missing'],
-         {'in_part': 1}, LOSSES),
-    Case('it ends inside a record', cut_at_its_end(None), ['in part'],
-         ['ok in part: 39 calls, the recording ends inside a record'],
-         {'in_part': 1, 'silent': 1}, LOSSES),
-    Case('the other end closes', cut_at_its_end(FIN | ACK, 0), ['in part'],
-         ['ok in part: 39 calls, the recording ends inside a record'],
-         {'in_part': 1, 'silent': 1}, LOSSES),
-    Case('the other end resets', cut_at_its_end(RST, 0), ['in part'],
-         ['ok in part: 39 calls, the other end reset it inside a record'],
-         {'in_part': 1, 'silent': 1}, LOSSES),
-    Case('its sender closes', cut_at_its_end(FIN | ACK), ['refused'],
-         [f'server record 39 byte {REPLY - 9 - 4}: RecordCut, frame 20'],
-         {'refused': 1}, NEITHER),
-    Case('its sender resets', cut_at_its_end(RST), ['refused'],
-         [f'server record 39 byte {REPLY - 9 - 4}: RecordCut, frame 20'],
-         {'refused': 1}, NEITHER),
-    Case('NFS version 4', talked(COMPOUNDS, ANSWERS), ['not checked'],
-         ['not checked: 20 of 20 calls (NFS version 4)'],
-         {'not_checked': 1}, NOT_CHECKED),
+    Case('a good one', whole(port=701), ['ok']),
+    Case('begun before the recording', whole(port=701)[3:],
+         [PART + 'its beginning is not in the recording']),
+    Case('a lost frame', LOST, ['ok in part: 30 calls, 344 bytes missing']),
+    Case('it ends inside a record', cut_at_its_end(None), [PART + INSIDE], {'silent': 1}),
+    Case('the other end closes', cut_at_its_end(FIN | ACK, 0), [PART + INSIDE], {'silent': 1}),
+    Case('the other end resets', cut_at_its_end(RST, 0),
+         [PART + 'the other end reset it inside a record'], {'silent': 1}),
+    *[Case(f'its sender ends it by {flags}', cut_at_its_end(flags),
+           [f'server record 39 byte {REPLY - 9 - 4}: RecordCut, frame 20'])
+      for flags in (FIN | ACK, RST)],
+    Case('NFS version 4', talked(COMPOUNDS, ANSWERS),
+         ['not checked: 20 of 20 calls (NFS version 4)']),
     Case('version 4 beside 3', talked([*COMPOUNDS, *CALLS[20:]], [*ANSWERS, *REPLIES[20:]]),
-         ['not checked'],
-         ['not checked: 20 of 39 calls (NFS version 4)'], {'not_checked': 1}, NOT_CHECKED),
+         ['not checked: 20 of 39 calls (NFS version 4)']),
     Case('other versions', talked([call(1, MOUNT, 1, 1, bytes(8)), call(2, NFS, 2, 4, bytes(36)),
-                                   call(3, NFS, 2, 4, bytes(36)),
-                                   call(4, NFS, 3, 22)], []), ['not checked'],
+                                   call(3, NFS, 2, 4, bytes(36)), call(4, NFS, 3, 22)], []),
          ['not checked: 4 of 4 calls (2 NFS version 2, 1 MOUNT version 1, 1 NFS version 3 '
-          'procedure 22)'], {'not_checked': 1, 'silent': 4}, NOT_CHECKED),
+          'procedure 22)'], {'silent': 4}),
     Case('version 4, and bytes are missing',
-         talked(COMPOUNDS, ANSWERS)[:4] + talked(COMPOUNDS, ANSWERS)[5:], ['not checked'],
-         ['not checked: 20 of 20 calls (NFS version 4)'], {'not_checked': 1, 'silent': 20},
-         NEITHER),
-    Case('no typed call', talked([call(1, NFSACL, 3, 1, fh(b'a'))], []), ['not checked'],
-         ['not checked: no call of NFS or MOUNT version 3 (1 NFSACL GETACL)'],
-         {'not_checked': 1, 'silent': 1}, NOT_CHECKED, raw='1 NFSACL GETACL'),
+         talked(COMPOUNDS, ANSWERS)[:4] + talked(COMPOUNDS, ANSWERS)[5:],
+         ['not checked: 20 of 20 calls (NFS version 4)'], {'silent': 20}, statuses=NEITHER),
+    Case('no typed call', talked([call(1, NFSACL, 3, 1, fh(b'a'))], []),
+         ['not checked: no call of NFS or MOUNT version 3 (1 NFSACL GETACL)'], {'silent': 1},
+         raw='1 NFSACL GETACL'),
     Case('calls of others beside typed ones',
          talked([*CALLS, *(call(50 + at, NFSACL, 3, 1, fh(b'a')) for at in range(7))], REPLIES),
-         ['ok'], ['ok'], {'ok': 1, 'silent': 7}, GOOD, raw='7 NFSACL GETACL'),
+         ['ok'], {'silent': 7}, raw='7 NFSACL GETACL'),
     Case('the port mapper', talked([call(1, PORTMAP, 2, 3, bytes(16)), call(2, PORTMAP, 4, 3),
                                     call(3, PORTMAP, 2, 99)], [], service=111), ['ok'],
-         ['ok'], {'ok': 1, 'silent': 3}, GOOD,
+         {'silent': 3},
          raw='1 PORTMAP GETADDR, 1 PORTMAP GETPORT, 1 PORTMAP version 2 procedure 99'),
-    Case('datagrams of UDP', datagrams(102), ['left out'],
-         ['left out: 102 UDP datagrams to or from port 2049 are not taken'],
-         {'left_out': 1}, LOSSES),
-    Case('datagrams of UDP in fragments',
-         [ethernet(piece) for number in range(2)
-          for piece in fragments(datagram(CLIENT, SERVER, udp(800, 20_048, bytes(99)), 17), 32,
-                                 number)],
-         ['left out'], ['left out: 2 UDP datagrams to or from port 20048 are not taken'],
-         {'left_out': 1}, LOSSES),
-    Case('datagrams of UDP in fragments of IPv6',
-         [ethernet(piece) for number in range(2) for piece in fragments_6(
-             datagram(CLIENT_6, SERVER_6, udp(800, 2049, b'x' * 99), 17), 32, number)],
-         ['left out'], ['left out: 2 UDP datagrams to or from port 2049 are not taken'],
-         {'left_out': 1}, LOSSES),
-    Case('datagrams of others', datagrams(4, 53) + datagrams(4, 111), [], [], {}, GOOD),
-    Case('no payload', Talk(701).opened(), [], [], {'left_out': 1, 'bare': 1}, GOOD),
-    Case('no RPC', http(80), [], [], {'left_out': 1, 'bare': 1}, GOOD),
-    Case('no RPC, begun before', http(80, False), [], [], {'left_out': 1, 'bare': 1}, GOOD),
-    Case('no RPC at a port of NFS', http(2049), ['refused'],
-         ['client record 1 byte 0: RecordTooLong, frame 19'], {'refused': 1}, NEITHER),
-    Case('no RPC at a port that was chosen', http(80), ['refused'],
-         ['client record 1 byte 0: RecordTooLong, frame 19'], {'refused': 1}, NEITHER,
-         ['--port', '80,2049']),
-    Case('acknowledgements alone', acknowledging(), ['left out'],
-         ['left out: ' + ENDS % (701, 2049) + '3,300,000 bytes acknowledged and not recorded'],
-         {'left_out': 1}, LOSSES),
-    Case('the same at another port', acknowledging(service=80), [], [], {'left_out': 1, 'bare': 1},
-         GOOD),
-    Case('one acknowledgement beyond', acknowledging(2, (0, 1)), [], [],
-         {'left_out': 1, 'bare': 1}, GOOD),
+    Case('datagrams of UDP', datagrams(102),
+         ['left out: 102 UDP datagrams to or from port 2049 are not taken']),
+    *[Case('datagrams of UDP in fragments',
+           [ethernet(piece) for number in range(2) for piece in cut_up(
+               datagram(*hosts, udp(800, port, bytes(99)), 17), 32, number)],
+           [f'left out: 2 UDP datagrams to or from port {port} are not taken'])
+      for cut_up, hosts, port in ((fragments, (CLIENT, SERVER), 20_048),
+                                  (fragments_6, (CLIENT_6, SERVER_6), 2049))],
+    Case('datagrams of others', datagrams(4, 53) + datagrams(4, 111), []),
+    Case('no payload', Talk(701).opened(), [], NO_CALLS),
+    Case('no RPC', http(80), [], NO_CALLS),
+    Case('no RPC, begun before', http(80, False), [], NO_CALLS),
+    Case('no RPC at a port of NFS', http(2049),
+         ['client record 1 byte 0: RecordTooLong, frame 19']),
+    Case('no RPC at a port that was chosen', http(80),
+         ['client record 1 byte 0: RecordTooLong, frame 19'], words=['--port', '80,2049']),
+    Case('acknowledgements alone', acknowledging(), [ACKNOWLEDGED]),
+    Case('the same at another port', acknowledging(service=80), [], NO_CALLS),
+    Case('one acknowledgement beyond', acknowledging(2, (0, 1)), [], NO_CALLS),
     Case('frames that lack their payload, with their lengths', acknowledging(payload=bytes(99)),
-         ['left out', 'in part'],
-         ['left out: ' + ENDS % (701, 2049) + '3,300,000 bytes acknowledged and not recorded',
-          UNREAD % ('8 frames to or from port 2049 are', 'their', 'their')],
-         {'left_out': 1, 'in_part': 1}, LOSSES),
+         [ACKNOWLEDGED, UNREAD % ('8 frames to or from port 2049 are', 'their', 'their')]),
     Case('a last frame that is shortened',
          [*talked(CALLS, REPLIES)[:4], talked(CALLS, REPLIES)[4][:60]],
-         ['ok', 'in part'], ['ok', UNREAD % ('1 frame to or from port 2049 is', 'its', 'its')],
-         {'in_part': 1, 'ok': 1, 'silent': 39}, LOSSES),
-    Case('a frame without its ports', [whole(port=701)[3][:37]], ['in part'],
-         [UNREAD % ('1 frame is', 'its', 'its')], {'in_part': 1}, LOSSES),
-    Case('a frame without its header of IP', [whole(port=701)[3][:30]], ['in part'],
-         [UNREAD % ('1 frame is', 'its', 'its')], {'in_part': 1}, LOSSES),
+         ['ok', UNREAD % ('1 frame to or from port 2049 is', 'its', 'its')], {'silent': 39}),
+    *[Case(f'a frame of {size} bytes', [whole(port=701)[3][:size]],
+           [UNREAD % ('1 frame is', 'its', 'its')])
+      for size in (37, 30)],  # (without its ports, and without its header of IP)
     Case('the kind of another version of IP',
-         [frame[:14] + b'\x55' + frame[15:] for frame in whole(port=701)[3:5]], ['not checked'],
-         ['not checked: 2 frames of an unknown version of IP are not read; '
-          'what is in them is not known'], {'not_checked': 1}, NOT_CHECKED),
-    Case('LLC and SNAP', [in_snap(frame[14:]) for frame in whole(port=701)], ['not checked'],
-         ['not checked: 15 frames of LLC/SNAP are not read; what is in them is not known'],
-         {'not_checked': 1}, NOT_CHECKED),
-    Case('a spanning tree', [bytes(12) + b'\0\x26\x42\x42\3' + bytes(35)], [], [], {}, GOOD),
-    Case('PPP of itself', [bytes(12) + struct.pack('>HBBHHH', 0x8864, 0x11, 0, 1, 10, 0xc021)
-                           + bytes(8)],
-         [], [], {}, GOOD),
+         [frame[:14] + b'\x55' + frame[15:] for frame in whole(port=701)[3:5]],
+         ['not checked: 2 frames of an unknown version of IP are not read; what is in them is not '
+          'known']),
+    Case('LLC and SNAP', [in_snap(frame[14:]) for frame in whole(port=701)],
+         ['not checked: 15 frames of LLC/SNAP are not read; what is in them is not known']),
+    Case('a spanning tree', [bytes(12) + b'\0\x26\x42\x42\3' + bytes(35)], []),
+    Case('PPP of itself',
+         [bytes(12) + struct.pack('>HBBHHH', 0x8864, 0x11, 0, 1, 10, 0xc021) + bytes(8)], []),
     *[Case(f'{name} in UDP', [ethernet(datagram(CLIENT, SERVER, udp(*ports, bytes(60)), 17))],
-           ['not checked'],
-           [f'not checked: 1 frame of {name} is not read; what is in it is not known'],
-           {'not_checked': 1}, NOT_CHECKED)
-      for name, ports in (('GTP-U', (2152, 2152)), ('L2TP', (1701, 1701)), ('L2TP', (1701, 50_000)),
-                          ('ESP in UDP', (4500, 4500)), ('Teredo', (50_000, 3544)))],
+           [f'not checked: 1 frame of {name} is not read; what is in it is not known'])
+      for name, *ports in IN_TUNNELS],
     Case('a fragment twice with other bytes',
-         fragmented(lambda one: [one[0], one[1], spoilt(one[1]), *one[2:]]),
-         ['in part'], ['ok in part: 39 calls, 1 frame with other content'], {'in_part': 1}, LOSSES),
+         fragmented(lambda one: [one[0], one[1], spoilt(one[1]), *one[2:]]), [OTHER_CONTENT]),
     Case('a fragment twice with other bytes, the last first',
-         fragmented(lambda one: [*one[:0:-1], spoilt(one[1]), one[0]]), ['in part'],
-         ['ok in part: 39 calls, 1 frame with other content'], {'in_part': 1}, LOSSES),
+         fragmented(lambda one: [*one[:0:-1], spoilt(one[1]), one[0]]), [OTHER_CONTENT]),
     Case('fragments that overlap with other bytes',
-         fragmented(lambda one: [one[0], spoilt(one[1][:28], -1), *one[1:]]), ['in part'],
-         ['ok in part: 39 calls, 1 frame with other content'], {'in_part': 1}, LOSSES),
+         fragmented(lambda one: [one[0], spoilt(one[1][:28], -1), *one[1:]]), [OTHER_CONTENT]),
     Case('a fragment beyond the last',
          fragmented(lambda one: [one[0], *one[2:], spoilt(one[1] + bytes(1_000)), one[1]]),
-         ['in part'], ['ok in part: 39 calls, 1 frame with other content'], {'in_part': 1}, LOSSES),
-    Case('fragments twice with the same bytes', fragmented(lambda one: [*one, *one]), ['ok'],
-         ['ok'], {'ok': 1}, GOOD),
+         [OTHER_CONTENT]),
+    Case('fragments twice with the same bytes', fragmented(lambda one: [*one, *one]), ['ok']),
     Case('a fault at another port', talked(CALLS, [*REPLIES[:-1], success(99)], service=900),
-         ['refused'], ['server record 39 byte 0: NoCall, frame 20'], {'refused': 1}, NEITHER),
-]
+         ['server record 39 byte 0: NoCall, frame 20'])]
 
 
 def good() -> list[bytes]:
@@ -275,7 +263,7 @@ def words_of_all_kinds(tools: Tools) -> None:
         statuses = tuple(status_of(verdicts, allowed)
                          for allowed in (Allowed(), Allowed(losses=True),
                                          Allowed(not_checked=True)))
-        tools.want(f'{case.what}, the status', statuses, case.statuses)
+        tools.want(f'{case.what}, the status', statuses, case.wanted_statuses)
         tools.want(f'{case.what}, all allowed', status_of(verdicts, Allowed(True, True)),
                    int('refused' in case.states))
 
