@@ -69,7 +69,6 @@ class Told(NamedTuple):
     procedure: int
     arguments: bytes
     results: bytes
-    path: str
     words: str
     answer: str
 
@@ -78,58 +77,57 @@ ATTRIBUTES, NO_WCC = fattr(1, 5, size=12, mode=0o640), wcc()
 DIRECTORY = fattr(2, 6, size=4096, mode=0o1777)
 SETTING = sattr(size=3, atime=SET_TO_SERVER_TIME, mtime=set_to_client_time(nfstime(9, 500)))
 EXCHANGES = [
-    Told(NULL, b'', b'', '', '', 'OK'),
-    Told(GETATTR, fh(ROOT), ok(DIRECTORY), '/x', '', 'OK DIR 1777 size 4096'),
-    Told(MKDIR, dirop(ROOT, b'd') + sattr(mode=0o755), ok(made(FOLDER, None, NO_WCC)), '/x/d',
-         '0755', 'OK'),
+    Told(NULL, b'', b'', '', 'OK'),
+    Told(GETATTR, fh(ROOT), ok(DIRECTORY), '/x', 'OK DIR 1777 size 4096'),
+    Told(MKDIR, dirop(ROOT, b'd') + sattr(mode=0o755), ok(made(FOLDER, None, NO_WCC)), '/x/d 0755',
+         'OK'),
     Told(CREATE, dirop(FOLDER, b'f') + how(1, sattr(mode=0o644, uid=7, gid=8, size=0)),
-         ok(made(FILE, None, NO_WCC)), '/x/d/f', 'GUARDED 0644 uid 7 gid 8 size 0', 'OK'),
-    Told(CREATE, dirop(FOLDER, b'f') + how(2, bytes(8)), failed(17, NO_WCC), '/x/d/f', 'EXCLUSIVE',
+         ok(made(FILE, None, NO_WCC)), '/x/d/f GUARDED 0644 uid 7 gid 8 size 0', 'OK'),
+    Told(CREATE, dirop(FOLDER, b'f') + how(2, bytes(8)), failed(17, NO_WCC), '/x/d/f EXCLUSIVE',
          'NFS3ERR_EXIST'),
-    Told(CREATE, dirop(FOLDER, b'f') + how(0, sattr()), failed(13, NO_WCC), '/x/d/f', 'UNCHECKED',
+    Told(CREATE, dirop(FOLDER, b'f') + how(0, sattr()), failed(13, NO_WCC), '/x/d/f UNCHECKED',
          'NFS3ERR_ACCES'),
-    Told(SETATTR, fh(FILE) + SETTING + guard(nfstime(1)), ok(NO_WCC), '/x/d/f',
-         'size 3 atime of the server mtime 9.000000500 guarded', 'OK'),
-    Told(SETATTR, fh(FILE) + sattr() + guard(), failed(10002, NO_WCC), '/x/d/f', '',
+    Told(SETATTR, fh(FILE) + SETTING + guard(nfstime(1)), ok(NO_WCC),
+         '/x/d/f size 3 atime of the server mtime 9.000000500 guarded', 'OK'),
+    Told(SETATTR, fh(FILE) + sattr() + guard(), failed(10002, NO_WCC), '/x/d/f',
          'NFS3ERR_NOT_SYNC'),
-    Told(LOOKUP, dirop(FOLDER, b'none'), failed(2, post_op_attr()), '/x/d/none', '',
-         'NFS3ERR_NOENT'),
-    Told(ACCESS, fh(FILE) + word(0x15), ok(post_op_attr(ATTRIBUTES), word(5)), '/x/d/f',
-         'READ|MODIFY|DELETE', 'OK READ|MODIFY'),
-    Told(READLINK, fh(FILE), ok(post_op_attr(), opaque(b'to it')), '/x/d/f', '', 'OK to it'),
+    Told(LOOKUP, dirop(FOLDER, b'none'), failed(2, post_op_attr()), '/x/d/none', 'NFS3ERR_NOENT'),
+    Told(ACCESS, fh(FILE) + word(0x15), ok(post_op_attr(ATTRIBUTES), word(5)),
+         '/x/d/f READ|MODIFY|DELETE', 'OK READ|MODIFY'),
+    Told(READLINK, fh(FILE), ok(post_op_attr(), opaque(b'to it')), '/x/d/f', 'OK to it'),
     Told(READ, fh(FILE) + hyper(8192) + word(4096),
-         ok(post_op_attr(ATTRIBUTES), word(3), word(1), opaque(b'abc')), '/x/d/f', '8192+4096',
+         ok(post_op_attr(ATTRIBUTES), word(3), word(1), opaque(b'abc')), '/x/d/f 8192+4096',
          'OK 3 eof'),
     Told(READ, fh(FILE) + hyper(0) + word(3), ok(post_op_attr(), word(3), word(0), opaque(b'abc')),
-         '/x/d/f', '0+3', 'OK 3'),
+         '/x/d/f 0+3', 'OK 3'),
     Told(WRITE, fh(FILE) + hyper(1 << 40) + word(4) + word(0) + opaque(b'abcd'),
-         ok(NO_WCC, word(4), word(2), bytes(8)), '/x/d/f', '1099511627776+4 UNSTABLE',
+         ok(NO_WCC, word(4), word(2), bytes(8)), '/x/d/f 1099511627776+4 UNSTABLE',
          'OK 4 FILE_SYNC'),
     Told(SYMLINK, dirop(ROOT, b'l') + sattr(mode=0o777) + opaque(b'../to'),
-         ok(made(b'link', None, NO_WCC)), '/x/l', '-> ../to 0777', 'OK'),
+         ok(made(b'link', None, NO_WCC)), '/x/l -> ../to 0777', 'OK'),
     Told(MKNOD, dirop(ROOT, b'n') + word(4) + sattr(mode=0o600) + word(1) + word(3),
-         failed(1, NO_WCC), '/x/n', 'CHR 1:3 0600', 'NFS3ERR_PERM'),
-    Told(MKNOD, dirop(ROOT, b'n') + word(7) + sattr(), failed(10004, NO_WCC), '/x/n', 'FIFO',
+         failed(1, NO_WCC), '/x/n CHR 1:3 0600', 'NFS3ERR_PERM'),
+    Told(MKNOD, dirop(ROOT, b'n') + word(7) + sattr(), failed(10004, NO_WCC), '/x/n FIFO',
          'NFS3ERR_NOTSUPP'),
-    Told(REMOVE, dirop(FOLDER, b'f'), ok(NO_WCC), '/x/d/f', '', 'OK'),
-    Told(RMDIR, dirop(ROOT, b'd'), failed(66, NO_WCC), '/x/d', '', 'NFS3ERR_NOTEMPTY'),
-    Told(RENAME, dirop(FOLDER, b'f') + dirop(ROOT, b'g'), ok(NO_WCC, NO_WCC), '/x/d/f -> /x/g', '',
+    Told(REMOVE, dirop(FOLDER, b'f'), ok(NO_WCC), '/x/d/f', 'OK'),
+    Told(RMDIR, dirop(ROOT, b'd'), failed(66, NO_WCC), '/x/d', 'NFS3ERR_NOTEMPTY'),
+    Told(RENAME, dirop(FOLDER, b'f') + dirop(ROOT, b'g'), ok(NO_WCC, NO_WCC), '/x/d/f -> /x/g',
          'OK'),
-    Told(LINK, fh(FILE) + dirop(ROOT, b'h'), ok(post_op_attr(), NO_WCC), '/x/g -> /x/h', '', 'OK'),
+    Told(LINK, fh(FILE) + dirop(ROOT, b'h'), ok(post_op_attr(), NO_WCC), '/x/g -> /x/h', 'OK'),
     Told(READDIR, fh(FOLDER) + hyper(7) + bytes(8) + word(512),
-         ok(entries(None, bytes(8), [entry(1, b'.', 1), entry(2, b'..', 2)], True)), '/x/d',
-         'cookie 7 count 512', 'OK 2 entries eof'),
+         ok(entries(None, bytes(8), [entry(1, b'.', 1), entry(2, b'..', 2)], True)),
+         '/x/d cookie 7 count 512', 'OK 2 entries eof'),
     Told(READDIRPLUS, fh(FOLDER) + hyper(0) + bytes(8) + word(512) + word(4096),
-         ok(entries(None, bytes(8), [entryplus(1, b'seen', 1, None, b'seen')], False)), '/x/d',
-         'cookie 0 count 512/4096', 'OK 1 entry'),
-    Told(GETATTR, fh(b'seen'), failed(70), '/x/d/seen', '', 'NFS3ERR_STALE'),
-    Told(GETATTR, fh(b'other'), failed(10001), '?', '', 'NFS3ERR_BADHANDLE'),
+         ok(entries(None, bytes(8), [entryplus(1, b'seen', 1, None, b'seen')], False)),
+         '/x/d cookie 0 count 512/4096', 'OK 1 entry'),
+    Told(GETATTR, fh(b'seen'), failed(70), '/x/d/seen', 'NFS3ERR_STALE'),
+    Told(GETATTR, fh(b'other'), failed(10001), '?', 'NFS3ERR_BADHANDLE'),
     Told(LOOKUP, dirop(b'other', b'\xc3\xa4 "'), failed(2, post_op_attr()), '?/\\xc3\\xa4 \\x22',
-         '', 'NFS3ERR_NOENT'),
-    Told(FSSTAT, fh(ROOT), failed(5, post_op_attr()), '/x', '', 'NFS3ERR_IO'),
-    Told(FSINFO, fh(ROOT), failed(10006, post_op_attr()), '/x', '', 'NFS3ERR_SERVERFAULT'),
-    Told(PATHCONF, fh(ROOT), failed(10008, post_op_attr()), '/x', '', 'NFS3ERR_JUKEBOX'),
-    Told(COMMIT, fh(FILE) + hyper(0) + word(5), ok(NO_WCC, bytes(8)), '/x/g', '0+5', 'OK')]
+         'NFS3ERR_NOENT'),
+    Told(FSSTAT, fh(ROOT), failed(5, post_op_attr()), '/x', 'NFS3ERR_IO'),
+    Told(FSINFO, fh(ROOT), failed(10006, post_op_attr()), '/x', 'NFS3ERR_SERVERFAULT'),
+    Told(PATHCONF, fh(ROOT), failed(10008, post_op_attr()), '/x', 'NFS3ERR_JUKEBOX'),
+    Told(COMMIT, fh(FILE) + hyper(0) + word(5), ok(NO_WCC, bytes(8)), '/x/g 0+5', 'OK')]
 
 
 def every_procedure(tools: Tools) -> None:
@@ -150,8 +148,7 @@ def every_procedure(tools: Tools) -> None:
     for number, (told, line) in enumerate(zip(EXCHANGES, lines[2:-2])):
         frame = 11 + 2 * number
         wanted = [f'{(frame - 1) / 1e6:.6f}', '0.001', str(frame), f'2:{number + 1}',
-                  NAMES[told.procedure], *told.path.split(), *told.words.split(),
-                  *told.answer.split()]
+                  NAMES[told.procedure], *told.words.split(), *told.answer.split()]
         tools.want(NAMES[told.procedure], line.split(), wanted)
     columns = {line.rindex(told.answer) for told, line in zip(EXCHANGES, lines[2:-2])}
     tools.want('the column of the answers', columns, {lines[0].index('answer')})
