@@ -181,67 +181,55 @@ NOT_DONE, DONE = b''.join(map(word, (1, 0, 0, 0, 5))), success(0)[4:]
 
 
 class Number(NamedTuple):
-    """Two calls of a procedure, perhaps with results, and an item that has these values in them."""
+    """Two calls of a procedure, perhaps with replies, and an item with its values in them."""
     procedure: int
-    calls: tuple[bytes, bytes]
-    results: tuple[bytes, bytes] | None
-    name: str
-    values: tuple[str, str]
+    calls: Sequence[bytes]
+    replies: Sequence[bytes]
+    said: str
     program: int = NFS
 
 
-def of_results(procedure: int, arguments: bytes, results: Sequence[bytes], name: str, *values: str,
-               program: int = NFS) -> Number:
-    one, other = results
-    return Number(procedure, (arguments,) * 2, (DONE + one, DONE + other), name,
-                  (values[0], values[1]), program)
+def done(*results: bytes) -> list[bytes]:
+    return [DONE + one for one in results]
 
 
-def of_calls(procedure: int, one: bytes, other: bytes, name: str, *values: str) -> Number:
-    return Number(procedure, (one, other), None, name, (values[0], values[1]))
-
-
-def of_heads(one: bytes, other: bytes, name: str, *values: str) -> Number:
-    return Number(0, (b'', b''), (one, other), name, (values[0], values[1]))
-
-
+SAME, FILES, EXPORTS = [ASKED] * 2, [fh(H)] * 2, [opaque(b'/a')] * 2
 NUMBERS = [
-    of_results(3, ASKED, [failed(NOENT, NOTHING), failed(10_008, NOTHING)],
-               'status', '2 (NFS3ERR_NOENT)', '10008 (NFS3ERR_JUKEBOX)'),
-    of_results(3, ASKED, [failed(13, NOTHING), ok(fh(H), NOTHING, NOTHING)],
-               'status', '13 (NFS3ERR_ACCES)', '0 (NFS3_OK)'),
-    of_results(1, opaque(b'/a'), [failed(13), failed(10_006)],
-               'status', '13 (MNT3ERR_ACCES)', '10006 (MNT3ERR_SERVERFAULT)', program=MOUNT),
-    of_results(1, opaque(b'/a'), MOUNTED, 'flavor', '1 (AUTH_SYS)', '6 (RPCSEC_GSS)',
-               program=MOUNT),
-    of_results(1, fh(b'type'), [ok(fattr(REG, 1)), ok(fattr(messages.SOCK, 1))],
-               'obj.type', '1 (NF3REG)', '6 (NF3SOCK)'),
-    of_results(1, fh(b'mode'), [ok(fattr(REG, 1, mode=mode)) for mode in (0o4755, 0)],
-               'obj.mode', '4755 (2541)', '0000 (0)'),
-    of_calls(9, ASKED + sattr(0o755), ASKED + sattr(0o700), 'set.mode', '0755 (493)', '0700 (448)'),
-    of_calls(9, ASKED + sattr(), ASKED + sattr(atime=word(1)),
-             'set_atime', '0 (DONT_CHANGE)', '1 (SET_TO_SERVER_TIME)'),
-    of_calls(9, ASKED + sattr(), ASKED + sattr(uid=1), 'set_uid', '0 (FALSE)', '1 (TRUE)'),
-    of_calls(7, fh(H) + bytes(20), fh(H) + bytes(12) + word(2) + bytes(4),
-             'stable', '0 (UNSTABLE)', '2 (FILE_SYNC)'),
-    of_results(7, fh(H) + bytes(20), STORED, 'committed', '1 (DATA_SYNC)', '0 (UNSTABLE)'),
-    of_calls(8, ASKED + how(0, sattr()), ASKED + how(1, sattr()),
-             'how', '0 (UNCHECKED)', '1 (GUARDED)'),
-    of_results(6, fh(H) + bytes(12),
-               [ok(NOTHING, word(0), word(is_end), word(0)) for is_end in (0, 1)],
-               'eof', '0 (FALSE)', '1 (TRUE)'),
-    of_results(12, ASKED, [ok(wcc(1)), ok(wcc())], 'dir.before', '1 (TRUE)', '0 (FALSE)'),
-    of_calls(4, fh(H) + word(31), fh(H) + word(0),
-             'access', '31 (READ|LOOKUP|MODIFY|EXTEND|DELETE)', '0 (none)'),
-    of_results(4, fh(H) + word(0), [ok(NOTHING, word(bits)) for bits in (0x23, 0x141)],
-               'access', '35 (READ|LOOKUP|EXECUTE)', '321 (READ|0x140)'),
-    of_results(19, fh(H), [ok(NOTHING, bytes(44), word(bits)) for bits in (27, 1)],
-               'properties', '27 (LINK|SYMLINK|HOMOGENEOUS|CANSETTIME)', '1 (LINK)'),
-    of_results(1, fh(b'links'), [ok(fattr(REG, 1, nlink=nlink)) for nlink in (2, 1)], 'obj.nlink',
-               '2', '1'),
-    of_heads(DONE, DENIED[1], 'reply_stat', '0 (MSG_ACCEPTED)', '1 (MSG_DENIED)'),
-    of_heads(DONE, NOT_DONE, 'accept_stat', '0 (SUCCESS)', '5 (SYSTEM_ERR)'),
-    of_heads(*DENIED, 'auth_stat', '1 (AUTH_BADCRED)', '13 (RPCSEC_GSS_CREDPROBLEM)')]
+    Number(3, SAME, done(failed(NOENT, NOTHING), failed(10_008, NOTHING)),
+           'status: 2 (NFS3ERR_NOENT), 10008 (NFS3ERR_JUKEBOX)'),
+    Number(3, SAME, done(failed(13, NOTHING), ok(fh(H), NOTHING, NOTHING)),
+           'status: 13 (NFS3ERR_ACCES), 0 (NFS3_OK)'),
+    Number(1, EXPORTS, done(failed(13), failed(10_006)),
+           'status: 13 (MNT3ERR_ACCES), 10006 (MNT3ERR_SERVERFAULT)', MOUNT),
+    Number(1, EXPORTS, done(*MOUNTED), 'flavor: 1 (AUTH_SYS), 6 (RPCSEC_GSS)', MOUNT),
+    Number(1, [fh(b'type')] * 2, done(ok(fattr(REG, 1)), ok(fattr(messages.SOCK, 1))),
+           'obj.type: 1 (NF3REG), 6 (NF3SOCK)'),
+    Number(1, [fh(b'mode')] * 2, done(*(ok(fattr(REG, 1, mode=mode)) for mode in (0o4755, 0))),
+           'obj.mode: 4755 (2541), 0000 (0)'),
+    Number(9, [ASKED + sattr(0o755), ASKED + sattr(0o700)], [], 'set.mode: 0755 (493), 0700 (448)'),
+    Number(9, [ASKED + sattr(), ASKED + sattr(atime=word(1))], [],
+           'set_atime: 0 (DONT_CHANGE), 1 (SET_TO_SERVER_TIME)'),
+    Number(9, [ASKED + sattr(), ASKED + sattr(uid=1)], [], 'set_uid: 0 (FALSE), 1 (TRUE)'),
+    Number(7, [fh(H) + bytes(20), fh(H) + bytes(12) + word(2) + bytes(4)], [],
+           'stable: 0 (UNSTABLE), 2 (FILE_SYNC)'),
+    Number(7, [fh(H) + bytes(20)] * 2, done(*STORED), 'committed: 1 (DATA_SYNC), 0 (UNSTABLE)'),
+    Number(8, [ASKED + how(0, sattr()), ASKED + how(1, sattr())], [],
+           'how: 0 (UNCHECKED), 1 (GUARDED)'),
+    Number(6, [fh(H) + bytes(12)] * 2,
+           done(*(ok(NOTHING, word(0), word(is_end), word(0)) for is_end in (0, 1))),
+           'eof: 0 (FALSE), 1 (TRUE)'),
+    Number(12, SAME, done(ok(wcc(1)), ok(wcc())), 'dir.before: 1 (TRUE), 0 (FALSE)'),
+    Number(4, [fh(H) + word(31), fh(H) + word(0)], [],
+           'access: 31 (READ|LOOKUP|MODIFY|EXTEND|DELETE), 0 (none)'),
+    Number(4, [fh(H) + word(0)] * 2, done(*(ok(NOTHING, word(bits)) for bits in (0x23, 0x141))),
+           'access: 35 (READ|LOOKUP|EXECUTE), 321 (READ|0x140)'),
+    Number(19, FILES, done(*(ok(NOTHING, bytes(44), word(bits)) for bits in (27, 1))),
+           'properties: 27 (LINK|SYMLINK|HOMOGENEOUS|CANSETTIME), 1 (LINK)'),
+    Number(1, [fh(b'links')] * 2, done(*(ok(fattr(REG, 1, nlink=nlink)) for nlink in (2, 1))),
+           'obj.nlink: 2, 1'),
+    Number(0, [b'', b''], [DONE, DENIED[1]], 'reply_stat: 0 (MSG_ACCEPTED), 1 (MSG_DENIED)'),
+    Number(0, [b'', b''], [DONE, NOT_DONE], 'accept_stat: 0 (SUCCESS), 5 (SYSTEM_ERR)'),
+    Number(0, [b'', b''], DENIED, 'auth_stat: 1 (AUTH_BADCRED), 13 (RPCSEC_GSS_CREDPROBLEM)')]
 
 
 def names_of_numbers(place: Findings) -> None:
@@ -251,13 +239,14 @@ def names_of_numbers(place: Findings) -> None:
         for xid, one in enumerate(NUMBERS):
             calls += [call(2 * xid, NFS, 3, 3, dirop(H, b'row %d' % xid)),
                       call(2 * xid + 1, one.program, 3, one.procedure, one.calls[side])]
-            replies += [] if one.results is None else [word(2 * xid + 1) + one.results[side]]
+            replies += [word(2 * xid + 1) + reply for reply in one.replies[side:side + 1]]
         place.put(run, (calls, replies))
-    names = {one.name for one in NUMBERS}
+    said = [one.said.partition(': ')[::2] for one in NUMBERS]
     found = [line[2:] for line in place.compare('--all', 'a', 'b')[1]
-             if line.startswith('  ') and line[4:].partition('=')[0] in names]
-    place.want('values', sorted(found), sorted(f'{sign} {one.name}={value}' for one in NUMBERS
-                                 for sign, value in zip('-+', one.values)))
+             if line.startswith('  ') and line[4:].partition('=')[0] in dict(said)]
+    place.want('values', sorted(found), sorted(
+        f'{sign} {name}={value}' for name, values in said
+        for sign, value in zip('-+', values.split(', '))))
 
 
 # --- Findings that say the same ---
