@@ -8,7 +8,7 @@ from examples.packets import pcap
 
 from .comparisons import Comparisons
 from .scripts import EXAMPLES, FIRST, SECOND, TOP, Tools, whole, write_faulty
-from .test_accepted import NLINK, accepts, run
+from .test_compare import NLINK, accepts, run
 
 RUNS = [FIRST, SECOND]
 def validator_knows_its_keywords(tools: Tools) -> None:

@@ -26,7 +26,7 @@ from ..nfs3tools.shared.progress import Progress
 from ..nfs3tools.shared.screens import Colour, Screen, Styled, table_lines
 from .comparisons import Comparisons
 from .scripts import TOP, Tools, connection_of, sums, whole
-from .test_accepted import run
+from .test_compare import run
 
 RED, GREEN, YELLOW, END = '\x1b[31m', '\x1b[32m', '\x1b[33m', '\x1b[m'
 PLAIN = {name: value for name, value in os.environ.items()
