@@ -1,4 +1,5 @@
 """Tests of frames as positions, and of the recordings and captures that `tools/cut` writes."""
+import itertools
 import json
 import os
 import re
@@ -17,6 +18,7 @@ from tests.shared.running import ended
 from ..nfs3tools.commands import cut
 from ..nfs3tools.recordings.extract import frames_of
 from ..nfs3tools.shared.places import Place
+from .comparisons import conversation_of
 from .recordings import cooked, enhanced, fragments, fragments_6, interface, part_of, section
 from .scripts import (
     ALL, CALLS, FAULTS, FIRST, REPLIES, TOP, Tools, in_fragments, packed, stream, sums, taken_of,
@@ -152,39 +154,32 @@ def parts_of(frames: Sequence[bytes], parts: dict[int, tuple[int, int]]) -> list
 def frames_of_the_records(tools: Tools) -> None:
     """The frames of SYN, and those of the exchange without other records."""
     frames = [*whole(port=699), *whole()]
-    for magic, unit in ((0xa1b2c3d4, 1_000), (0xa1b23c4d, 1)):
-        for order in '<>':
-            tools.write('a.pcap', pcap(frames, magic=magic, order=order))
-            # The second connection begins in frame 16. Record 9 of its calls is in frame 20, and
-            # record 9 of its replies in frame 25. They begin 8 and 5 bytes after their frames. The
-            # replies acknowledge all 1,716 bytes of the calls, of which 44 are there. Of the
-            # replies 224 bytes come before.
-            wanted = extract(parts_of(frames, {20: (8, 52), 25: (5, 33)}), [16, 17, 20, 25],
-                             unit=unit)
-            status, lines, error = cut_out(tools, 'a.pcap',
-                                        'connection 2 client record 9', 'out.pcap')
-            tools.want('lines', (status, lines, error), (0, [
-                'connection 1 client record 1: connection 2 client record 9, frame 20',
-                'connection 1 server record 1: connection 2 server record 9, frame 25',
-                'connection 1: ok in part: 1 call, 1,896 bytes missing', sums(in_part=1)], ''))
-            tools.want('OUT', tools.read('out.pcap') == wanted, True)
-            os.remove(tools.path('out.pcap'))
-    tools.write('a.pcap', pcap(frames))
-    with open(tools.path('a.pcap'), 'rb') as source:
-        tools.want('standard input', tools.tool('cut', '-',
-                                                'frame 20', 'out.pcap', stdin=source)[0], 0)
+    # The second connection begins in frame 16. Record 9 of its calls is in frame 20, and record 9
+    # of its replies in frame 25. They begin 8 and 5 bytes after their frames. The replies
+    # acknowledge all 1,716 bytes of the calls, of which 44 are there. Of the replies 224 bytes come
+    # before.
+    parts = parts_of(frames, {20: (8, 52), 25: (5, 33)})
+    for unit, order in itertools.product((1_000, 1), '<>'):
+        tools.write('a.pcap', pcap(frames, magic=0xa1b2c3d4 if unit == 1_000 else 0xa1b23c4d,
+                                   order=order))
+        name = f'{unit}{order}.pcap'
+        tools.want('lines', cut_out(tools, 'a.pcap', 'connection 2 client record 9', name), (0, [
+            'connection 1 client record 1: connection 2 client record 9, frame 20',
+            'connection 1 server record 1: connection 2 server record 9, frame 25',
+            'connection 1: ok in part: 1 call, 1,896 bytes missing', sums(in_part=1)], ''))
+        tools.want('OUT', tools.read(name) == extract(parts, [16, 17, 20, 25], unit=unit), True)
     # (the records 8 to 16, from byte 308 to 704 of the calls, and from 196 to 448 of the replies)
     parts = parts_of(frames, {19: (308, 344), 21: (0, 16), 24: (196, 219), 26: (0, 10)})
-    tools.want('OUT of it',
-               tools.read('out.pcap') == extract(parts, [16, 17, 19, 20, 21, 24, 25, 26]), True)
+    tools.want('standard input', (
+        tools.tool('cut', '-', 'frame 20', 'out.pcap', stdin=pcap(frames))[0],
+        tools.read('out.pcap') == extract(parts, [16, 17, 19, 20, 21, 24, 25, 26])), (0, True))
     one = Talk()
     short = [*one.opened(), one.sent(0, fragment(CALLS[0])), one.sent(1, fragment(REPLIES[0]))]
     tools.write('b.pcap', pcap(short))
     tools.want('all that is there', cut_out(tools, 'b.pcap', 'frame 5', 'b2.pcap'),
-               (0,
-                ['connection 1 client record 1: connection 1 client record 1, frame 4',
-                 'connection 1 server record 1: connection 1 server record 1, frame 5',
-                 'connection 1: ok', sums(1)], ''))
+               (0, ['connection 1 client record 1: connection 1 client record 1, frame 4',
+                    'connection 1 server record 1: connection 1 server record 1, frame 5',
+                    'connection 1: ok', sums(1)], ''))
 
 
 def parts_and_pcapng(tools: Tools) -> None:
@@ -415,48 +410,43 @@ def faults(tools: Tools) -> None:
 
 def handles_and_where_they_are_from(tools: Tools) -> None:
     """The exchanges that gave the handles, and theirs, over connections."""
-    attributes, root, folder, file, other = fattr(2, 5), *(name * 8
-                                                           for name in (b'r', b'd', b'f', b'o'))
-    found = ok(fh(folder), post_op_attr(attributes), post_op_attr())
+    root, folder, file, other = (name * 8 for name in (b'r', b'd', b'f', b'o'))
     mount = [call(1, MOUNT, 3, 0), call(2, MOUNT, 3, 1, opaque(b'/x'))], [
         success(1), success(2, ok(fh(root), array([word(1)])))]
-    calls = [call(10, NFS, 3, 1, fh(root)), call(11, NFS, 3, 3, dirop(root, b'd')),
-             call(12, NFS, 3, 3, dirop(folder, b'.')),
-             call(13, NFS, 3, 3, dirop(folder, b'o')), call(14, NFS, 3, 3, dirop(folder, b'f')),
-             call(15, NFS, 3, 1, fh(file)), call(16, NFS, 3, 15, fh(file) + dirop(root, b'link'))]
-    replies = [success(10, ok(attributes)), success(11, found), success(12, found),
-               success(13, ok(fh(other), post_op_attr(), post_op_attr())),
-               success(14, ok(fh(file), post_op_attr(), post_op_attr())),
-               success(15, ok(attributes)),
-               success(16, ok(post_op_attr(), word(0), post_op_attr()))]
+    attributes, none = fattr(2, 5), post_op_attr()
+    steps = [(1, fh(root), ok(attributes)),
+             *((3, dirop(above, name), ok(fh(handle), none, none)) for above, name, handle in (
+                 (root, b'd', folder), (folder, b'.', folder), (folder, b'o', other),
+                 (folder, b'f', file))),
+             (1, fh(file), ok(attributes)),
+             (15, fh(file) + dirop(root, b'link'), ok(none, word(0), none))]
+    calls, replies = conversation_of(steps, 10)
     tools.write('a', capture(mount, (CALLS[:2], REPLIES[:2]), (calls, replies)))
     for place, kept in (('client record 6', [1, 4, 5]), ('server record 7', [1, 4, 6]),
                         ('client record 1', [0])):
         status, lines, error = cut_out(tools, '--origins', 'a', 'connection 3 ' + place, 'out')
-        tools.want(place, (status, error, tools.read('out')), (0, '', packed(
-            (stream(mount[0][1:]), stream(mount[1][1:])),
-            (stream(calls[at] for at in kept), stream(replies[at] for at in kept)))))
-        tools.want('check of ' + place, lines[-1].split()[:2], ['ok', 'connections=2'])
-    line = 'ok connections=1 calls=1 replies=1 handles=1'
-    tools.want('without them', cut_out(tools, 'a', 'connection 3 client record 6',
-                                       'out')[1][-1], line)
-    tools.want('no handle', cut_out(tools, '--origins', 'a', 'connection 2 client record 1',
-                                'out')[1][-1], ONE)
+        tools.want(place, (status, error, tools.read('out'), lines[-1].split()[:2]), (
+            0, '', packed((stream(mount[0][1:]), stream(mount[1][1:])),
+                          (stream(calls[at] for at in kept), stream(replies[at] for at in kept))),
+            ['ok', 'connections=2']))
+    for words, last in ((['a', 'connection 3 client record 6'],
+                         'ok connections=1 calls=1 replies=1 handles=1'),
+                        (['--origins', 'a', 'connection 2 client record 1'], ONE)):
+        tools.want(f'{words}', cut_out(tools, *words, 'out')[1][-1], last)
 
 
 def origins_after_a_call_that_was_sent_again(tools: Tools) -> None:
     """Retransmissions before it move no exchange."""
     root, folder, file = (name * 8 for name in (b'r', b'd', b'f'))
-    again, attributes = call(10, NFS, 3, 1, fh(root)), ok(fattr(2, 5))
-    calls = [again, again, call(11, NFS, 3, 3, dirop(root, b'd')),
-             call(12, NFS, 3, 3, dirop(folder, b'f')), call(13, NFS, 3, 1, fh(file))]
-    replies = [success(10, attributes), *(
-        success(xid, ok(fh(found), post_op_attr(), post_op_attr()))
-        for xid, found in ((11, folder), (12, file))), success(13, attributes)]
-    tools.write('a', capture((calls, replies)))
+    calls, replies = conversation_of([
+        (1, fh(root), ok(fattr(2, 5))),
+        *((3, dirop(above, name), ok(fh(found), post_op_attr(), post_op_attr()))
+          for above, name, found in ((root, b'd', folder), (folder, b'f', file))),
+        (1, fh(file), ok(fattr(2, 5)))], 10)
+    tools.write('a', capture((calls[:1] + calls, replies)))
     status, _, error = cut_out(tools, '--origins', 'a', 'connection 1 client record 5', 'out')
     tools.want('OUT', (status, error, tools.read('out')),
-               (0, '', packed((stream(calls[2:]), stream(replies[1:])))))
+               (0, '', packed((stream(calls[1:]), stream(replies[1:])))))
 
 
 def accepted_and_the_same(tools: Tools) -> None:

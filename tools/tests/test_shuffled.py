@@ -22,8 +22,7 @@ from ..nfs3tools.recordings.coverage import Allowed
 from ..nfs3tools.shared.places import SIDES
 from .cases import try_seeds
 from .recordings import fragments, fragments_6
-from .scripts import (
-    ALL, CALL, CALLS, REPLIES, REPLY, Tools, stream, taken_of, timed, verdicts_on, whole)
+from .scripts import CALL, CALLS, REPLIES, REPLY, Tools, stream, taken_of, timed, verdicts_on
 
 FAR = 1 << 30
 
@@ -622,22 +621,6 @@ def ports_that_are_used_again(tools: Tools) -> None:
         told(tools, 'refused, then ' + what, pcap(frames), 1, rows)
         told(tools, 'refused, and seconds later ' + what, with_times(frames, {17: 5, 30: 5}), 1,
              rows)
-
-
-def syn_after_data(tools: Tools) -> None:
-    """A SYN that was recorded after the first bytes of its side still begins them."""
-    for swapped in ((0, 3), (1, 4)):
-        frames = whole()
-        frames = [frames[0], frames[1], frames[2], frames[3], frames[8], *frames[4:8], *frames[9:]]
-        early, late = swapped
-        frames.insert(late, frames.pop(early))
-        told(tools, f'{swapped}', pcap(frames), 0, ['ok'])
-    frames = whole()
-    lost = [*frames[1:3], frames[4], frames[0], *frames[5:]]
-    missing = -(-len(ALL[0]) // 5)
-    status, rows, _ = judged(tools, pcap(lost))
-    tools.want('bytes before the first', (status, f'{missing} bytes missing' in rows[0]),
-               (1, True))
 
 
 def other_content(tools: Tools) -> None:
