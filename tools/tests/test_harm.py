@@ -269,32 +269,25 @@ def dying(tools: Tools, command: str, how: str) -> str:
 def programs_that_die(tools: Tools) -> None:
     """A program that ends otherwise than it says has given no answer."""
     ways = ((KILLED, 'was killed by signal 9'), (ABSENT, 'ended with status 127'),
-            (FAILED, 'ended with status 3: out of memory'),
-            ('exit 4', 'ended with status 4'))
+            (FAILED, 'ended with status 3: out of memory'), ('exit 4', 'ended with status 4'))
     some = f'{tools.program} show "$2" | head -n 30; '
     rows = [(command, *way) for command in ('check', 'same', 'show', 'nfs3mask') for way in ways]
-    rows += [('same', 'exit 1', 'ended with status 1'), ('same', 'exit 0', 'ended with status 0'),
-             ('check', 'exit 1', 'ended with status 1'),
-             ('check', 'exit 0', 'ended with status 0'),
-             ('show', some + KILLED, 'was killed by signal 9'),
+    rows += [(command, f'exit {status}', f'ended with status {status}') for command, status in (
+        ('same', 1), ('same', 0), ('check', 1), ('check', 0), ('show', 1), ('nfs3mask', 2))]
+    rows += [('show', some + KILLED, 'was killed by signal 9'),
              ('show', some + 'printf "2 client 9 xi"; ' + FAILED, 'ended with status 3'),
-             ('show', 'exit 1', 'ended with status 1'),
-             ('nfs3mask', 'exit 2', 'ended with status 2'),
              ('same', 'echo differ at connection 1; ' + KILLED, 'was killed by signal 9')]
     for command, how, told in rows:
         program = dying(tools, command, how)
         name = command if command == 'nfs3mask' else 'nfs3canon ' + command
-        one_line(tools, f'{command}: {how}', tools.tool('compare', '--program', program, FIRST,
-                                                        CHANGED), 3, f'compare: {name} {told}')
-        if command == 'check':
-            for inputs in ([FIRST], [FIRST, CHANGED]):
-                answer = tools.tool('verdicts', '--program', program, *inputs)
-                one_line(tools, f'{command}: {how}', answer, 3, f'{FIRST}: {name} {told}')
-        if command in ('check', 'show'):
-            for tool_name in ('procedures', 'calls'):
-                answer = tools.tool(tool_name, '--program', program, FIRST)
-                one_line(tools, f'{tool_name}, {command}: {how}', answer, 3,
-                         f'{tool_name}: {FIRST}: {name} {told}')
+        of_one = [('procedures', FIRST), ('calls', FIRST)] * (command in ('check', 'show'))
+        of_verdicts = [('verdicts', FIRST), ('verdicts', FIRST, CHANGED)] * (command == 'check')
+        for tool_name, *inputs in (('compare', FIRST, CHANGED), *of_verdicts, *of_one):
+            begin = '' if tool_name == 'verdicts' else f'{tool_name}: '
+            begin += '' if tool_name == 'compare' else f'{FIRST}: '
+            one_line(tools, f'{tool_name}, {command}: {how}',
+                     tools.tool(tool_name, '--program', program, *inputs), 3,
+                     f'{begin}{name} {told}')
     program = dying(tools, 'show', KILLED)
     tools.want('one that is not asked', tools.tool('compare', '--program', program, FIRST,
                                                    FIRST)[0], 0)

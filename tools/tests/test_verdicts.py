@@ -296,32 +296,30 @@ def rows_of_files_that_are_not_whole(tools: Tools) -> None:
     """Each beside a good one."""
     tools.write('b.pcap', pcap(whole()))
     two = (TOP / 'examples/two_connections.nfs3cap').read_bytes()
-    first, second, as_a_whole = ['1', '-', '-', '1', '1',
-                                 'ok'], ['2', '-', '-', '1', '1', 'ok'], ['-', '-', '-', '-', '-']
-    cases: list[tuple[str, bytes, list[list[str]]]] = [
-        ('cut', two[:-1], [first, second, [*as_a_whole, f'file {len(two) - 1}: CaptureCut']]),
-        ('more', two + b'x', [first, second, [*as_a_whole, f'file {len(two)}: AfterEnd']]),
-        ('mark', two[:100] + b'\0\0\0\7' + two[104:], [first, [*as_a_whole, 'file 100: BadMark']]),
-        ('both', (TOP / 'examples/bad_server_record.nfs3cap').read_bytes()[:-1],
-         [first, ['2', '-', '-', '1', '2', 'server record 2 byte 0: NoCall']]),
-        ('text', b'no recording', [[*as_a_whole, 'it is neither pcap nor pcapng']]),
-        ('lz4', b'\x04\x22\x4d\x18',
-         [[*as_a_whole, 'it is compressed by lz4: decompress it first, as in `lz4 -dc FILE | '
-           'tools/verdicts -`']]),
-        ('xz', lzma.compress(pcap(whole()))[:-1],
-         [['1', '192.0.2.7:700', '192.0.2.1:2049', '39', '39', 'ok'],
-          [*as_a_whole, 'in part: the recording ends inside a frame (frame 16): the compressed '
-           'file is cut short']]),
-        ('damaged', pcap(whole()) + b'\xff' * 16,
-         [['1', '192.0.2.7:700', '192.0.2.1:2049', '39', '39', 'ok'],
-          [*as_a_whole,
-           'the recording is damaged after frame 15: frame 16 claims 4294967295 bytes']]),
-        ('empty', pcap([]), [[*as_a_whole, 'no connection to judge']])]
-    for name, content, rows in cases:
+    bad = (TOP / 'examples/bad_server_record.nfs3cap').read_bytes()
+    first, second = ([number, '-', '-', '1', '1', 'ok'] for number in '12')
+    good = ['1', '192.0.2.7:700', '192.0.2.1:2049', '39', '39', 'ok']
+    # (a text is said of the file as a whole)
+    cases: dict[str, tuple[bytes, list[list[str] | str]]] = {
+        'cut': (two[:-1], [first, second, f'file {len(two) - 1}: CaptureCut']),
+        'more': (two + b'x', [first, second, f'file {len(two)}: AfterEnd']),
+        'mark': (two[:100] + b'\0\0\0\7' + two[104:], [first, 'file 100: BadMark']),
+        'both': (bad[:-1], [first, ['2', '-', '-', '1', '2', 'server record 2 byte 0: NoCall']]),
+        'text': (b'no recording', ['it is neither pcap nor pcapng']),
+        'lz4': (b'\x04\x22\x4d\x18', ['it is compressed by lz4: decompress it first, as in '
+                                      '`lz4 -dc FILE | tools/verdicts -`']),
+        'xz': (lzma.compress(pcap(whole()))[:-1], [
+            good, 'in part: the recording ends inside a frame (frame 16): the compressed file is '
+            'cut short']),
+        'damaged': (pcap(whole()) + b'\xff' * 16, [
+            good, 'the recording is damaged after frame 15: frame 16 claims 4294967295 bytes']),
+        'empty': (pcap([]), ['no connection to judge'])}
+    for name, (content, rows) in cases.items():
         tools.write(name, content)
         status, found, _, _ = verdicts(tools, name, 'b.pcap')
-        tools.want(name, (status, found[:-1]), (1, [[name, *row] for row in rows]))
-        tools.want(name + ', the other', found[-1][-1], 'ok')
+        wanted = [['-'] * 5 + [row] if isinstance(row, str) else row for row in rows]
+        tools.want(name, (status, found[:-1], found[-1][-1]),
+                   (1, [[name, *row] for row in wanted], 'ok'))
 
 
 def notes_on_a_recording(tools: Tools) -> None:
