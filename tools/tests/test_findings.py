@@ -300,13 +300,13 @@ def arguments_of_one_run(place: Findings) -> None:
     for number, arguments, what, wanted in ASKED_ALONE:
         place.put('b', (null[0] + [call(2, NFS, 3, number, arguments)], null[1]))
         heading = f'only in the %s run: NFSPROC3_{what}: connection 1 client record 2'
-        place.wants(what, 1, [heading % 'second', *(f'  + {one}' for one in wanted)])
-        status, out, _ = place.compare('b', 'a')
-        place.want(f'{what} of the first', (status, out[2:]),
-                   (1, [heading % 'first', *(f'  - {one}' for one in wanted)]))
-        place.wants(f'{what} in a line', 1,
-                    [': '.join([heading % 'second', '; '.join(f'+{one}' for one in wanted)])],
-                    '--brief')
+        for words, lines in (
+                (['a', 'b'], [heading % 'second', *(f'  + {one}' for one in wanted)]),
+                (['b', 'a'], [heading % 'first', *(f'  - {one}' for one in wanted)]),
+                (['--brief', 'a', 'b'],
+                 [': '.join([heading % 'second', '; '.join(f'+{one}' for one in wanted)])])):
+            status, out, _ = place.compare(*words)
+            place.want(f'{what} {words}', (status, out[2:]), (1, lines))
     place.compare('--json', 'out.json', 'a', 'b')
     found = place.json('out.json')['findings'][0]['arguments']
     place.want('json', [(one['label'], one['value'], one['name']) for one in found][1:4],
@@ -334,19 +334,15 @@ def the_first_twenty(place: Findings) -> None:
     files = [(b'%d' % number, 3) for number in range(1, 25)]
     place.put('a', asked_for(*files, more=9))
     for number, last in ((20, 'NFSPROC3_GETATTR'), (22, '.. and 2 more (--all prints them)')):
-        changed = [(handle, 100 + at if at < number else nlink)
-                   for at, (handle, nlink) in enumerate(files)]
-        place.put('b', asked_for(*changed, more=9))
-        found = [line for line in place.compare('a', 'b')[1][2:]
-                 if not line.startswith(('  ', 'fields'))]
-        place.want(f'{number} findings', (len(found), found[-1][:len(last)]),
-                   (20 + (number > 20), last))
-        place.want('the first', found[0].partition(':')[0],
-                   '10 replies of NFSPROC3_GETATTR ?/f0, first')
-        every = [line for line in place.compare('--all', 'a', 'b')[1][2:]
-                 if not line.startswith(('  ', 'fields'))]
-        place.want('all of them', (len(every), every[-1].startswith('NFSPROC3_GETATTR')),
-                   (number + 9, True))
+        place.put('b', asked_for(*((handle, 100 + at if at < number else nlink)
+                                   for at, (handle, nlink) in enumerate(files)), more=9))
+        found, every = ([line for line in place.compare(*words, 'a', 'b')[1][2:]
+                         if not line.startswith(('  ', 'fields'))] for words in ([], ['--all']))
+        place.want(f'{number} findings', (
+            len(found), found[-1][:len(last)], found[0].partition(':')[0], len(every),
+            every[-1].startswith('NFSPROC3_GETATTR')),
+            (20 + (number > 20), last, '10 replies of NFSPROC3_GETATTR ?/f0, first', number + 9,
+             True))
 
 
 def of_attributes(number: int) -> Conversation:
@@ -719,26 +715,24 @@ def sizes_of_changes(place: Findings) -> None:
 def names_of_removed_files(place: Findings) -> None:
     """Names of .nfs and 24 digits are any in calls and replies, and others are compared."""
     one, other, third = b'.nfs' + b'0' * 24, b'.nfs' + b'a1' * 12, b'.nfs' + b'7' * 24
-    mask = mask_of('sillynames')
+
     def removed(*names: bytes) -> tuple[int, bytes, bytes]:
         return 14, dirop(H, names[0]) + dirop(H, names[1]), ok(wcc(), wcc())
-    place.want('others', differing_under(place, mask, removed(one, third), removed(other, one)), [])
-    place.want('one for two', differing_under(place, mask, removed(one, third),
-                                              removed(other, other)), [])
-    place.want('no numbers', differing_under(place, mask_of('sillynames=number'), removed(one, one),
-                                             removed(other, third)), [])
-    place.want('without the mask', differing_under(place, {}, removed(one, one),
-                                                   removed(other, other)), ['from.name', 'to.name'])
-    for name in (other + b'0', other[:-1], b'x' + other[1:], other.upper(), b'a'):
-        place.want(name.decode(), differing_under(place, mask, removed(one, one),
-                                                  removed(name, one)), ['from.name'])
+
     def listing(*names: bytes) -> tuple[int, bytes, bytes]:
         entries = [messages.entry(number, name, 0) for number, name in enumerate(names)]
         return 16, fh(H) + bytes(20), ok(messages.entries(None, bytes(8), entries, is_end=True))
-    place.want('entries', differing_under(place, mask, listing(b'a', one, third),
-                                          listing(b'a', third, other)), [])
-    place.want('an entry more', differing_under(place, mask, listing(b'a', one),
-                                                listing(b'a', third, other)), ['entry.name'])
-    place.want('without the mask', differing_under(place, {}, listing(b'a', one),
-                                                   listing(b'a', other)),
-               ['entry.name', 'entry.name'])
+    mask, numbers, nothing = mask_of('sillynames'), mask_of('sillynames=number'), mask_of('none')
+    for what, how_masked, first, second, *labels in (
+            ('others', mask, removed(one, third), removed(other, one)),
+            ('one for two', mask, removed(one, third), removed(other, other)),
+            ('no numbers', numbers, removed(one, one), removed(other, third)),
+            ('without the mask', nothing, removed(one, one), removed(other, other), 'from.name',
+             'to.name'),
+            *((f'{name!r}', mask, removed(one, one), removed(name, one), 'from.name')
+              for name in (other + b'0', other[:-1], b'x' + other[1:], other.upper(), b'a')),
+            ('entries', mask, listing(b'a', one, third), listing(b'a', third, other)),
+            ('an entry more', mask, listing(b'a', one), listing(b'a', third, other), 'entry.name'),
+            ('without the mask', nothing, listing(b'a', one), listing(b'a', other),
+             *['entry.name'] * 2)):
+        place.want(what, differing_under(place, how_masked, first, second), [*labels])
