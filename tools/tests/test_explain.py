@@ -185,18 +185,17 @@ def recordings_of_all_kinds(tools: Tools) -> None:
 
 def records_of_recordings(tools: Tools) -> None:
     """Records have the numbers that `tools/from_pcap` gives them."""
-    frames, size, piece = whole(), len(stream(CALLS[:1])), -(-len(ALL[0]) // 5)
-    tools.write('a.pcap', pcap(frames[:4] + frames[5:]))
+    frames, size, piece, talk = whole(), len(stream(CALLS[:1])), -(-len(ALL[0]) // 5), Talk()
+    cut = [*talk.opened(), talk.sent(0, ALL[0][:piece]), *talk.closed()]
     first = 2 * piece // size + 1  # the first whole call behind the second piece, which is missing
-    lines = explained(tools, 'a.pcap', 'connection 1 client record 8')
-    tools.want('after a gap', 'byte 0: xid = %d' % (first + 1) in lines, True)
     tools.write('a.pcap', pcap(frames[:4]))
     tools.want('a record that the recorder cut',
                tools.tool('explain', 'a.pcap', 'connection 1 client record 8')[0], 1)
-    talk = Talk()
-    tools.write('a.pcap', pcap([*talk.opened(), talk.sent(0, ALL[0][:piece]), *talk.closed()]))
-    tools.want('a record that its sender cut',
-               len(explained(tools, 'a.pcap', 'connection 1 client record 8')) > 3, True)
+    for recording, line in ((frames[:4] + frames[5:], f'byte 0: xid = {first + 1}'),
+                            (cut, 'byte 0: xid = 8')):  # (its sender cut it)
+        tools.write('a.pcap', pcap(recording))
+        lines = explained(tools, 'a.pcap', 'connection 1 client record 8')
+        tools.want(line, line in lines, True)
 
 
 def what_is_in_no_record(tools: Tools) -> None:

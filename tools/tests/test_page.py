@@ -368,12 +368,10 @@ def fields_of_calls(place: Compared) -> None:
 
 def long_messages(place: Compared) -> None:
     """A finding has 200 fields at most, and a message in a row 6,000 characters of fields."""
-    first, second = (conversation_of([(READDIRPLUS, fh(b'top') + bytes(24),
-                                       ok(entries(None, bytes(8), [
-                                           entryplus(at, b'%03d' % at, at, fattr(1, at, mode=mode),
-                                                     b'%d' % at) for at in range(300)],
-is_end=True)))]) for mode in (0o640, 0o600))
-    page = place.page_of(first, second)
+    page = place.page_of(*(conversation_of([
+        (READDIRPLUS, fh(b'top') + bytes(24), ok(entries(None, bytes(8), [
+            entryplus(at, b'%03d' % at, at, fattr(1, at, mode=mode), b'%d' % at)
+            for at in range(300)], is_end=True)))]) for mode in (0o640, 0o600)))
     values = changes_of(page.all('article')[0])
     place.want('a long finding', (len(values), values[0], values[-2:]), (
         401, '- entry "000".mode=0640 (416)',
@@ -448,28 +446,26 @@ def calls_of_one_run(place: Compared) -> None:
 
 def how_much_is_shown(place: Compared) -> None:
     """There are at most so many findings, positions and calls, and then how many more."""
-    place.put_both(gets([5_000] * 12 + list(range(2_490))),
-                   gets([6_000] * 12 + list(range(3_000, 5_490))))
-    page = place.page()
+    page = place.page_of(gets([5_000] * 12 + list(range(2_490))),
+                         gets([6_000] * 12 + list(range(3_000, 5_490))))
     articles, calls = page.all('article'), rows_and_gaps(page)
-    place.want('findings', (len(articles), articles[-1].text()[:5]), (2_000, '2000 '))
-    place.want('positions', (len(articles[0].all('li')), articles[0].texts('p')[-1]),
-               (10, '.. and 1 more'))
+    place.want('findings', (len(articles), articles[-1].text()[:5], len(articles[0].all('li')),
+                            articles[0].texts('p')[-1], broken_links(page)),
+               (2_000, '2000 ', 10, '.. and 1 more', []))
     place.want('more', [one.text() for one in page.all('p') if one.attributes.get('id') == 'more'],
                ['.. and 491 messages more. --json FILE writes all.'])
     place.want('calls', (calls[0], calls[1_999], calls[-1], len(calls)),
                ('≠ 1 1', '≠ 2000 2000', '499 calls that differ', 2_004))
-    place.want('broken links', broken_links(page), [])
     calls = rows_and_gaps(place.page_of(gets([1] * 9), gets([1] * 9, [5] * 2_100)))
-    place.want('of the second run', (calls[:5], calls[5:2_003], calls[2_003:]), (
-        ['2 equal calls', *equal(3, 4, 5), '+ 6'], [f'+ {record}' for record in range(7, 2_005)],
-        ['+ 2005', '4 equal calls', '100 calls more are only in the second run']))
+    place.want('of the second run', calls, [
+        '2 equal calls', *equal(3, 4, 5), *(f'+ {record}' for record in range(6, 2_006)),
+        '4 equal calls', '100 calls more are only in the second run'])
     page = place.page_of(gets(with_modes(6_000)),
                          gets(with_modes(6_000, *range(500, 6_000, 2_000))))
     size = len(place.read('page.html') or b'')
-    place.want(f'{size} bytes', (size < 200_000, len(page.all('details', 'row'))), (True, 21))
-    place.want('gaps', page.texts('p', 'gap'), [
-        '497 equal calls', *['1,993 equal calls'] * 2, '1,496 equal calls'])
+    place.want(f'{size} bytes', (size < 200_000, len(page.all('details', 'row')),
+                                 page.texts('p', 'gap')), (True, 21, [
+        '497 equal calls', *['1,993 equal calls'] * 2, '1,496 equal calls']))
 
 
 def names_are_escaped(place: Compared) -> None:
