@@ -134,9 +134,8 @@ class Browser:
              has_scripts: bool = True) -> None:
         """Opens a file, in a window of so many columns of pixels."""
         self.resize(width)
-        self.ask('Emulation.setEmulatedMedia',
-                 features=[{'name': 'prefers-color-scheme', 'value': 'dark' if is_dark
-                            else 'light'}])
+        scheme = {'name': 'prefers-color-scheme', 'value': 'dark' if is_dark else 'light'}
+        self.ask('Emulation.setEmulatedMedia', features=[scheme])
         self.ask('Emulation.setScriptExecutionDisabled', value=not has_scripts)
         self.is_loaded = False
         self.ask('Page.navigate', url=Path(path).resolve().as_uri())
@@ -171,10 +170,6 @@ class Browser:
         text = {'text': key} if len(key) == 1 else {}
         self.ask('Input.dispatchKeyEvent', type='keyDown', key=key, **text)
         self.ask('Input.dispatchKeyEvent', type='keyUp', key=key)
-
-    def type(self, text: str) -> None:
-        """Types a text into what has the focus."""
-        self.ask('Input.insertText', text=text)
 
     def click(self, selector: str) -> None:
         """Clicks into the middle of the first element of a selector, of its first line if it has

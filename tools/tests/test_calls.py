@@ -13,9 +13,9 @@ from typing import Any, NamedTuple
 
 from examples import messages
 from examples.messages import (
-    AUTH_NONE, MOUNT, NFS, NFSACL, SET_TO_SERVER_TIME, array, auth_sys, call, dirop, entries, entry,
-    entryplus, failed, fattr, fh, fragment, guard, how, hyper, made, nfstime, ok, opaque,
-    post_op_attr, sattr, set_to_client_time, success, wcc, word)
+    AUTH_NONE, MOUNT, NFS, NFSACL, NFS_PROCEDURES, SET_TO_SERVER_TIME, array, auth_sys, call, dirop,
+    entries, entry, entryplus, failed, fattr, fh, fragment, guard, how, hyper, made, nfstime, ok,
+    opaque, post_op_attr, sattr, set_to_client_time, success, wcc, word)
 from examples.packets import ACK, FIN, RST, SERVER, SYN, Talk, datagram, ethernet, pcap, segment
 
 from ..nfs3tools.commands.verdicts import Judge
@@ -27,10 +27,6 @@ from .scripts import (
 HEADS = ['time', 'ms', 'frame', 'conn', 'call', 'answer']
 ROOT, FOLDER, FILE = b'root', b'folder', b'file'
 USER = auth_sys(1, b'client', 1000, 100, [4])
-# RFC 1813, section 3
-NAMES = ('NULL', 'GETATTR', 'SETATTR', 'LOOKUP', 'ACCESS', 'READLINK', 'READ', 'WRITE', 'CREATE',
-         'MKDIR', 'SYMLINK', 'MKNOD', 'REMOVE', 'RMDIR', 'RENAME', 'LINK', 'READDIR',
-         'READDIRPLUS', 'FSSTAT', 'FSINFO', 'PATHCONF', 'COMMIT')
 (NULL, GETATTR, SETATTR, LOOKUP, ACCESS, READLINK, READ, WRITE, CREATE, MKDIR, SYMLINK, MKNOD,
  REMOVE, RMDIR, RENAME, LINK, READDIR, READDIRPLUS, FSSTAT, FSINFO, PATHCONF, COMMIT) = range(22)
 Answer = tuple[int, list[list[str]], str]
@@ -136,9 +132,8 @@ def every_procedure(tools: Tools) -> None:
     order = [(side, body) for xid, told in enumerate(EXCHANGES, 1) for side,
              body in ((0, asked(xid, told.procedure, told.arguments)),
                       (1, success(xid, told.results)))]
-    tools.write('a.pcap',
-                pcap([*mounted(Talk(service=20048)), *talk.opened(), *talked(talk, order),
-                      *talk.closed()]))
+    tools.write('a.pcap', pcap([*mounted(Talk(service=20048)), *talk.opened(),
+                                *talked(talk, order), *talk.closed()]))
     status, out, error = tools.tool('calls', 'a.pcap')
     lines = out.splitlines()
     tools.want('heads and sums', (status, lines[0].split(), lines[-2:], error),
@@ -148,8 +143,8 @@ def every_procedure(tools: Tools) -> None:
     for number, (told, line) in enumerate(zip(EXCHANGES, lines[2:-2])):
         frame = 11 + 2 * number
         wanted = [f'{(frame - 1) / 1e6:.6f}', '0.001', str(frame), f'2:{number + 1}',
-                  NAMES[told.procedure], *told.words.split(), *told.answer.split()]
-        tools.want(NAMES[told.procedure], line.split(), wanted)
+                  NFS_PROCEDURES[told.procedure], *told.words.split(), *told.answer.split()]
+        tools.want(NFS_PROCEDURES[told.procedure], line.split(), wanted)
     columns = {line.rindex(told.answer) for told, line in zip(EXCHANGES, lines[2:-2])}
     tools.want('the column of the answers', columns, {lines[0].index('answer')})
 

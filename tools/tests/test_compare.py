@@ -123,10 +123,6 @@ class Made:
         used = hyper(self.space % 4096)
         return plain[:28] + used + plain[36:60] + times
 
-    def asked(self, number: int, procedure: int, arguments: bytes) -> bytes:
-        return call(self.xids[number], NFS, 3, procedure, arguments,
-                    credential=auth_sys(self.stamp, self.machine, 0, 0, [0, 5]))
-
     def script(self) -> list[tuple[int, bytes, bytes]]:
         """Procedures, arguments and results."""
         root, x, y = map(fh, self.handles)
@@ -153,8 +149,9 @@ class Made:
 
     def conversation(self, script: list[tuple[int, bytes, bytes]] | None = None) -> Conversation:
         steps = script or self.script()
-        calls = [self.asked(number, procedure, arguments)
-                 for number, (procedure, arguments, _) in enumerate(steps)]
+        user = auth_sys(self.stamp, self.machine, 0, 0, [0, 5])
+        calls = [call(xid, NFS, 3, procedure, arguments, credential=user)
+                 for xid, (procedure, arguments, _) in zip(self.xids, steps)]
         return calls, [success(self.xids[number], results)
                        for number, (_, _, results) in enumerate(steps)]
 
@@ -592,8 +589,7 @@ def all_forms_say_the_same(place: Comparisons) -> None:
                              suite.get('failures') == '0'), (str(accepted), str(gone), status == 0))
         page = place.read('x.html').decode()
         place.want('page', (f'<p class=accepted>{accepted} accepted</p>' in page,
-                            page.count('<p class=accepted>no longer found: ')),
-                   (True, gone))
+                            page.count('<p class=accepted>no longer found: ')), (True, gone))
         place.want('folded', page.count('accepted: NFSPROC3_GETATTR reply ?/f1'), accepted)
     place.compare('--json', 'x.json', 'a', 'b')
     place.want('without a file', place.json('x.json')['accepted'], None)

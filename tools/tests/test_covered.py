@@ -347,8 +347,7 @@ def ports_that_are_chosen(tools: Tools) -> None:
                                ('701,702', 2, 0), ('5', 0, 0)):
         verdicts = verdicts_on(tools.program, pcap(frames), ['--port', ports])
         tools.want(ports, (status_of(verdicts, Allowed()), counts_after(verdicts).words()),
-                   (int(left > 0 or not found),
-                    sums(found, left_out=left, errors=int(not found))))
+                   (int(left > 0 or not found), sums(found, left_out=left, errors=int(not found))))
     for ports in ('', '2049,', 'nfs', '0', '65536', '-1', '2049,2049'):
         try:
             tools.want(f'no ports: {ports}', port_numbers(ports), 'refused')

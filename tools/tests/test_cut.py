@@ -302,8 +302,7 @@ def cuts_as_tshark_reads_them(tools: Tools) -> None:
             status, _, error = cut_out(tools, 'a.pcap', f'connection 1 client record {record}',
                                     'out.pcap')
             out = ended(['tshark', '-n', '-r', 'out.pcap', '-Y', 'rpc', *checked, '-T', 'fields',
-                         *fields],
-                        tools.folder).out.decode()
+                         *fields], tools.folder).out.decode()
             sums_of_ip = '' if 'IPv6' in name else '1'
             wanted = [f'{kind}\t0x{record:08x}\t1\t{sums_of_ip}'.rstrip('\t') for kind in (0, 1)]
             tools.want(f'{name}, record {record}',

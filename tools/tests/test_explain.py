@@ -50,18 +50,15 @@ def fields_of_a_reply(tools: Tools) -> None:
     tools.want('lines', explained(tools, 'a', 'connection 1 server record 1'), [
         'connection 1 server record 1: reply NFSPROC3_GETATTR of program 100003, version 3, '
         'procedure 1', 'xid 5, a body of 112 bytes, to call record 1', 'byte 0: xid = 5',
-        'byte 4: mtype = 1 (REPLY)',
-        'byte 8: reply_stat = 0 (MSG_ACCEPTED)', 'byte 12: verf_flavor = 0 (AUTH_NONE)',
-        'byte 16: verf_body (its length) = 0',
+        'byte 4: mtype = 1 (REPLY)', 'byte 8: reply_stat = 0 (MSG_ACCEPTED)',
+        'byte 12: verf_flavor = 0 (AUTH_NONE)', 'byte 16: verf_body (its length) = 0',
         'byte 20: accept_stat = 0 (SUCCESS)', 'byte 24: status = 0 (NFS3_OK)',
-        'byte 28: obj.type = 2 (NF3DIR)',
-        'byte 32: obj.mode = 1005 (1755)', 'byte 36: obj.nlink = 3', 'byte 40: obj.uid = 7',
-        'byte 44: obj.gid = 8',
+        'byte 28: obj.type = 2 (NF3DIR)', 'byte 32: obj.mode = 1005 (1755)',
+        'byte 36: obj.nlink = 3', 'byte 40: obj.uid = 7', 'byte 44: obj.gid = 8',
         'byte 48: obj.size = 34', f'byte 56: obj.used = {values[7] << 32 | values[8]}',
         f'byte 64: obj.rdev1 = {values[9]}', f'byte 68: obj.rdev2 = {values[10]}',
         f'byte 72: obj.fsid = {values[11] << 32 | values[12]}', 'byte 80: obj.fileid = 12',
-        'byte 88: obj.atime_sec = 9',
-        'byte 92: obj.atime_nsec = 1000000000 (a second or more)',
+        'byte 88: obj.atime_sec = 9', 'byte 92: obj.atime_nsec = 1000000000 (a second or more)',
         *(f'byte {at}: obj.{name} = {values[(at - 28) // 4]}' for at, name in (
             (96, 'mtime_sec'), (100, 'mtime_nsec'), (104, 'ctime_sec'), (108, 'ctime_nsec')))])
     tools.want('bits of the type', 'byte 32: obj.mode = 33188 (100644: has bits of the type)'
@@ -325,15 +322,13 @@ def memory_of_large_recordings(tools: Tools) -> None:
 # Words that tell what is said of each reason from what is said of any other.
 WORDS_OF_REASONS = {
     'BadMagic': 'begins with NFS3CAP1', 'CaptureCut': 'the file ends before',
-    'BadMark': 'a connection word is 0 or 1',
-    'AfterEnd': 'nothing follows', 'TooManyConnections': '65,535', 'TooManyBytes': '1,073,741,824',
-    'RecordCut': 'stream ends in this',
-    'RecordTooLong': '16,777,216', 'Short': 'body ends before', 'Trailing': 'message ends before',
-    'BadBool': 'a bool is',
-    'BadEnum': 'is not listed', 'TooLong': 'over its maximum', 'RpcVersion': 'RPC version is 2',
-    'Flavor': 'RPCSEC_GSS', 'AuthLength': 'of the parameters', 'WrongSide': 'replies the server',
-    'NoCall': 'no call of the connection has',
-    'XidConflict': 'another procedure'}
+    'BadMark': 'a connection word is 0 or 1', 'AfterEnd': 'nothing follows',
+    'TooManyConnections': '65,535', 'TooManyBytes': '1,073,741,824',
+    'RecordCut': 'stream ends in this', 'RecordTooLong': '16,777,216', 'Short': 'body ends before',
+    'Trailing': 'message ends before', 'BadBool': 'a bool is', 'BadEnum': 'is not listed',
+    'TooLong': 'over its maximum', 'RpcVersion': 'RPC version is 2', 'Flavor': 'RPCSEC_GSS',
+    'AuthLength': 'of the parameters', 'WrongSide': 'replies the server',
+    'NoCall': 'no call of the connection has', 'XidConflict': 'another procedure'}
 
 
 def each_reason(tools: Tools) -> None:

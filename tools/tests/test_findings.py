@@ -81,13 +81,11 @@ def data_of_files(place: Findings) -> None:
           'offset 1003 of the file (byte 3 of the data)')
     wants('less data', read(whole, 0), read(whole[:4_096], 0), f'  - data=..{oo} {oo}..',
           f'  + data=..{oo}    # one is the beginning of the other, up to offset 4096 of the file '
-          '(byte 4096 of the data); '
-          'their lengths are 8,192 and 4,096')
+          '(byte 4096 of the data); their lengths are 8,192 and 4,096')
     wants('less that differs', written(with_z(0, 2)), written(whole[:100]),
           f'  - data=7a6f7a6f{oo[:8]}{oo}..',
           f'  + data={oo}{oo}..    # 2 of the first 100 bytes differ, the first at offset 65536 of '
-          'the file (byte 0 of the data); '
-          'their lengths are 8,192 and 100')
+          'the file (byte 0 of the data); their lengths are 8,192 and 100')
     wants('none', read(b'', 5), read(whole, 5), '  - data=',
           f'  + data={oo}{oo}..    # their lengths are 0 and 8,192')
     wants('short data', written(b'abc'), written(b'abd'), '  - data=616263', '  + data=616264')
@@ -128,8 +126,7 @@ def long_names(place: Findings) -> None:
                                  failed(NOENT, wcc()))])
     long = b'a' * 200
     wants = functools.partial(place.differs, 'path')
-    wants('the last letter', linked(long + b'x'), linked(long + b'y'),
-          '  - path=.."aaaaaaaax"',
+    wants('the last letter', linked(long + b'x'), linked(long + b'y'), '  - path=.."aaaaaaaax"',
           '  + path=.."aaaaaaaay"    # 1 of 201 bytes differs, at byte 200')
     wants('what cannot be printed', linked(b'ab"\\' + long), linked(b'ab"\n\xff' + long[:-1]),
           '  - path="ab\\x22\\x5c' + 'a' * 12 + '"..', '  + path="ab\\x22\\x0a\\xff' + 'a' * 11
@@ -482,12 +479,10 @@ SETTINGS = sattr(0o644, 1, 2, 3, set_to_client_time(NOW), set_to_client_time(NOW
 TIMES = 'atime_sec atime_nsec mtime_sec mtime_nsec ctime_sec ctime_nsec'
 ATTRIBUTES = 'type mode nlink uid gid size used rdev1 rdev2 fsid fileid ' + TIMES
 CREDENTIAL = ('mtype rpcvers prog vers proc cred_flavor cred_length cred.stamp cred.machinename '
-              'cred.uid cred.gid cred.gids cred.group '
-              'cred.group verf_flavor verf_body')
+              'cred.uid cred.gid cred.gids cred.group cred.group verf_flavor verf_body')
 ACCEPTED = 'mtype reply_stat verf_flavor verf_body accept_stat'
 SET = ('set_mode set.mode set_uid set.uid set_gid set.gid set_size set.size set_atime '
-       'set.atime_sec set.atime_nsec set_mtime set.mtime_sec '
-       'set.mtime_nsec')
+       'set.atime_sec set.atime_nsec set_mtime set.mtime_sec set.mtime_nsec')
 
 
 def attr(owner: str) -> list[str]:

@@ -18,7 +18,7 @@ from ..nfs3tools.shared.programs import Died
 from .comparisons import Comparisons, Conversation, conversation_of
 from .scripts import measured
 
-GETATTR, LOOKUP, WRITE, CREATE, MKDIR, REMOVE = 1, 3, 7, 8, 9, 12
+GETATTR, LOOKUP, WRITE, CREATE, REMOVE = 1, 3, 7, 8, 12
 
 
 def asked_again(number: int) -> Conversation:

@@ -38,11 +38,9 @@ PLANTED = 16  # changes of a recording, each in a run of its own
 LEFT = frozenset(
     'xid mtype rpcvers prog vers proc cred_flavor cred_length cred_body verf_flavor verf_body '
     'reply_stat accept_stat status stamp machinename gids tbytes fbytes abytes tfiles ffiles '
-    'afiles '
-    'invarsec used cookie cookieverf createverf atime_sec atime_nsec mtime_sec mtime_nsec '
-    'ctime_sec '
-    'ctime_nsec obj_attributes attr before after handle entry check set_mode set_uid set_gid '
-    'set_size set_atime set_mtime fh name dirpath flavors spec1 spec2'.split())
+    'afiles invarsec used cookie cookieverf createverf atime_sec atime_nsec mtime_sec mtime_nsec '
+    'ctime_sec ctime_nsec obj_attributes attr before after handle entry check set_mode set_uid '
+    'set_gid set_size set_atime set_mtime fh name dirpath flavors spec1 spec2'.split())
 BOOLEANS = frozenset(
     'eof no_trunc chown_restricted case_insensitive case_preserving'.split())
 # Words of which few values are valid.

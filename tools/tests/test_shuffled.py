@@ -311,7 +311,6 @@ class Model:
         return None if self.is_unsure or 'syn-ack' not in self.seen else True
 
 
-
 def modelled(connections: list[Connection], frames: list[Recorded]) -> dict[int, Whole]:
     """What the model says, by the client's port."""
     counts = {id(one.sent): one.parts for one in frames}
