@@ -314,8 +314,7 @@ def cuts_as_tshark_reads_them(tools: Tools) -> None:
 def large_messages(**options: Any) -> list[bytes]:
     """Three WRITEs of 20,000 bytes and their replies, in segments."""
     calls = [call(xid, NFS, 3, 7, fh(b'h') + struct.pack('>QII', 0, 20_000, 2)
-                  + opaque(bytes(20_000)))
-             for xid in (1, 2, 3)]
+                  + opaque(bytes(20_000))) for xid in (1, 2, 3)]
     replies = [success(xid, struct.pack('>IIIII8x', 0, 0, 0, 20_000, 2)) for xid in (1, 2, 3)]
     talk = Talk(**options)
     frames = talk.opened()

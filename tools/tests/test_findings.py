@@ -411,45 +411,48 @@ def mounted(name: bytes, status: int, data: bytes, more: int = 0) -> Conversatio
     return tuple(map(list, zip(mounting, looking, writing, *null)))
 
 
+def at(side: str, record: int) -> dict[str, object]:
+    return {'position': f'connection 1 {side} record {record}', 'frames': []}
+
+
+CHANGED_ONE = {'kind': 'changed', 'is_call': True, 'remark': '', 'arguments': []}
+FIELD = {'remark': '', 'names': [None, None], 'apart': None}
+FOUND = [
+    {**CHANGED_ONE, 'procedure': 'NFSPROC3_LOOKUP', 'is_call': False, 'path': '/m/x',
+     **dict.fromkeys(('first', 'second'), at('server', 2)), 'differences': [
+         {**FIELD, 'field': 'status', 'label': 'status', 'first': '2', 'second': '13',
+          'names': ['NFS3ERR_NOENT', 'NFS3ERR_ACCES']}]},
+    {**CHANGED_ONE, 'procedure': 'NFSPROC3_WRITE', 'path': '/m',
+     **dict.fromkeys(('first', 'second'), at('client', 3)), 'differences': [
+         {**FIELD, 'field': 'data', 'label': 'data', 'first': '6f' * 40, 'second': '6f' * 38,
+          'apart': {'at': 38, 'offset': 1_038, 'differing': 0, 'sizes': [40, 38],
+                    'shown': ['..' + '6f' * 8 + ' 6f6f', '..' + '6f' * 8],
+                    'sha256': [None, None]}}]},
+    {**CHANGED_ONE, 'kind': 'only', 'procedure': 'NFSPROC3_NULL', 'path': None,
+     'differences': [], 'first': at('client', 4), 'second': None}]
+
+
 def as_json(place: Findings) -> None:
     """A comparison as an object: verdict, mask, both runs, and each finding."""
     place.put_both(mounted(b'x', 2, b'o' * 40, more=1), mounted(b'x', 13, b'o' * 38))
-
-    def at(side: str, record: int) -> dict[str, object]:
-        return {'position': f'connection 1 {side} record {record}', 'frames': []}
-    one = {'kind': 'changed', 'is_call': True, 'remark': '', 'arguments': []}
-    own = {'remark': '', 'names': [None, None], 'apart': None}
-    findings = [
-        {**one, 'procedure': 'NFSPROC3_LOOKUP', 'is_call': False, 'path': '/m/x', **dict.fromkeys(
-            ('first', 'second'), at('server', 2)), 'differences': [
-                {**own, 'field': 'status', 'label': 'status', 'first': '2', 'second': '13',
-                 'names': ['NFS3ERR_NOENT', 'NFS3ERR_ACCES']}]},
-        {**one, 'procedure': 'NFSPROC3_WRITE', 'path': '/m', **dict.fromkeys(
-            ('first', 'second'), at('client', 3)), 'differences': [
-                {**own, 'field': 'data', 'label': 'data', 'first': '6f' * 40, 'second': '6f' * 38,
-                 'apart': {'at': 38, 'offset': 1_038, 'differing': 0, 'sizes': [40, 38],
-                           'shown': ['..' + '6f' * 8 + ' 6f6f', '..' + '6f' * 8],
-                           'sha256': [None, None]}}]},
-        {**one, 'kind': 'only', 'procedure': 'NFSPROC3_NULL', 'path': None, 'differences': [],
-         'first': at('client', 4), 'second': None}]
     counts = dict.fromkeys(('refused', 'in part', 'left out', 'without calls', 'not checked',
                             'errors'), 0)
     whole = {'connections': 1, 'missing': 0, 'not_judged': [], 'left_out': {},
              'counts': {'judged': 1, 'ok': 1, 'raw': {}, **counts}}
     order = dict.fromkeys(('calls', 'replies', 'connections', 'on_another_connection'), 0)
-    fields = [{'procedure': 'NFSPROC3_LOOKUP', 'field': 'status', 'count': 1},
-              {'procedure': 'NFSPROC3_WRITE', 'field': 'data', 'count': 1}]
+    fields = [{'procedure': f'NFSPROC3_{procedure}', 'field': field, 'count': 1}
+              for procedure, field in (('LOOKUP', 'status'), ('WRITE', 'data'))]
     wanted: dict[str, Any] = {
         'version': 1, 'accepted': None, 'verdict': 'differ', 'same_under': None,
         'position': 'connection 1 server record 2', 'mask': {'times': 'zero', 'ids': 'number'},
         'runs': [{'name': 'a', 'calls': 4, 'only': 1, **whole},
                  {'name': 'b', 'calls': 3, 'only': 0, **whole}],
         'order': {'together': 3, **order}, 'fields': fields, 'ignored': [], 'left_out': [],
-        'findings': findings}
+        'findings': FOUND}
     for words, runs, status, changes in (
             (['--mask', 'times,ids'], 'ab', 1, {}),
             (['--mask', 'times,ids', '--ignore', '*.status'], 'ab', 1, {
-                'findings': findings[1:], 'fields': fields[1:], 'ignored': fields[:1]}),
+                'findings': FOUND[1:], 'fields': fields[1:], 'ignored': fields[:1]}),
             (['--mask', 'none'], 'aa', 0, {
                 'verdict': 'same', 'position': None, 'mask': {}, 'fields': [], 'findings': [],
                 'order': {'together': 4, **order},
