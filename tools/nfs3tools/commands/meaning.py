@@ -114,6 +114,9 @@ class RecordingFindings:
         self.rows = dict[tuple[str, str, str], FindingRow]()
         self.all = list[tuple[RuleFinding, FindingRow]]()
 
+    def close(self) -> None:
+        self.kept.close()
+
     def take(self, program: str, taken: Taken, verdicts: list[Verdict]) -> None:
         """Takes the exchanges of the connections that were judged, and puts the rules to them."""
         self.kept, self.begun = kept_in(program, taken, verdicts, LongValues()), taken.begun
@@ -246,8 +249,7 @@ def print_all(told: FindingsReport) -> None:
     form = form_of(chosen, FINDINGS_VERSION, 'findings', FINDING_COLUMNS)
     for recording in chosen.recordings:
         found = RecordingFindings(recording, chosen, told.looked)
-        with contextlib.ExitStack() as left:
-            left.callback(lambda: found.kept.close())
+        with contextlib.closing(found):
             verdicts = judge.verdicts(recording, partial(found.take, judge.program))
             told.verdicts += verdicts
             told.seen.append(Seen(recording, verdicts))
