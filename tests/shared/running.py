@@ -174,7 +174,7 @@ def unlike(got: object, wanted: object) -> str:
     more, less = ([one for one in some if one not in other]
                   for some, other in ((found, others), (others, found)))
     if not more and not less:
-        return 'in another order, or as often: %.300r, wanted %.300r' % (got, wanted)
+        return 'in another order or number: %.300r, wanted %.300r' % (got, wanted)
     return 'too much %.300r, missing %.300r, of %d' % (more, less, len(others))
 
 
