@@ -145,9 +145,10 @@ class Runs:
         return self.ended(*words, **options).text()
 
     def want(self, what: str, got: object, wanted: object) -> None:
-        """Notes what is wrong, if these are not equal."""
+        """Notes what is wrong, if these are not equal: of lists and texts of many lines what is
+        missing, and what is there in its place."""
         if got != wanted:
-            self.wrong.append('%s: %.300r, wanted %.300r' % (what, got, wanted))
+            self.wrong.append('%s: %s' % (what, unlike(got, wanted)))
 
     def same_answer(self, name: str, line: str) -> bytes | None:
         """`check` and `canon` print the line. Returns what canon wrote."""
@@ -160,6 +161,27 @@ class Runs:
         self.want('what canon left beside it',
                   [other for other in self.names() if other.startswith('.')], [])
         return form
+
+
+def unlike(got: object, wanted: object) -> str:
+    """Returns how two values differ, in words."""
+    if isinstance(got, tuple) and isinstance(wanted, tuple) and len(got) == len(wanted):
+        several = [unlike(*both) for both in zip(got, wanted) if both[0] != both[1]]
+        return '; '.join(several)
+    found, others = items_of(got), items_of(wanted)
+    if found is None or others is None or type(got) is not type(wanted):
+        return '%.300r, wanted %.300r' % (got, wanted)
+    more, less = ([one for one in some if one not in other]
+                  for some, other in ((found, others), (others, found)))
+    if not more and not less:
+        return 'in another order or number: %.300r, wanted %.300r' % (got, wanted)
+    return 'too much %.300r, missing %.300r, of %d' % (more, less, len(others))
+
+
+def items_of(value: object) -> list[object] | None:
+    """Returns the lines of a text or the items of a list or set, if these are several."""
+    several = value.splitlines() if isinstance(value, str) else value
+    return [*several] if isinstance(several, (list, set, frozenset)) and len(several) > 1 else None
 
 
 # --- Words ---

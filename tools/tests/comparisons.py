@@ -3,7 +3,7 @@ import re
 from collections.abc import Iterable
 
 from examples import messages
-from examples.messages import MOUNT, NFS, call, success
+from examples.messages import NFS, call, success
 
 from .scripts import Tools
 
@@ -17,12 +17,6 @@ def conversation_of(steps: Iterable[Exchange], xid: int = 1) -> Conversation:
     numbered = [*enumerate(steps, xid)]
     return ([call(at, NFS, 3, procedure, asked) for at, (procedure, asked, _) in numbered],
             [success(at, results) for at, (_, _, results) in numbered])
-
-
-def is_unchecked(body: bytes) -> bool:
-    """Whether a call is of NFS or MOUNT, and none of version 3, by RFC 5531, section 9."""
-    program, version, procedure = (int.from_bytes(body[at:at + 4], 'big') for at in (12, 16, 20))
-    return program in (NFS, MOUNT) and (version != 3 or procedure > (21 if program == NFS else 5))
 
 
 class Comparisons(Tools):

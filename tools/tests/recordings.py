@@ -158,8 +158,7 @@ def fragments(content: bytes, size: int, identification: int = 77) -> list[bytes
     head, payload = content[:20], content[20:]
     return [struct.pack('>BBHHH', 0x45, 0, 20 + len(payload[at:at + size]), identification,
                         at // 8 | (0x2000 if at + size < len(payload) else 0)) + head[8:]
-            + payload[at:at + size]
-            for at in range(0, len(payload), size)]
+            + payload[at:at + size] for at in range(0, len(payload), size)]
 
 
 def fragments_6(content: bytes, size: int, identification: int = 77) -> list[bytes]:
@@ -167,8 +166,7 @@ def fragments_6(content: bytes, size: int, identification: int = 77) -> list[byt
     head, payload = content[:40], content[40:]
     return [struct.pack('>IHBB', 6 << 28, 8 + len(payload[at:at + size]), 44, 64) + head[8:]
             + struct.pack('>BBHI', head[6], 0, at | (at + size < len(payload)), identification)
-            + payload[at:at + size]
-            for at in range(0, len(payload), size)]
+            + payload[at:at + size] for at in range(0, len(payload), size)]
 
 
 def extended(content: bytes, headers: list[tuple[int, bytes]]) -> bytes:

@@ -129,8 +129,7 @@ def sums(ok: int = 0, in_part: int = 0, refused: int = 0, errors: int = 0, left_
     open_calls = f'; {silent} call{"s" * (silent != 1)} without a reply' if silent else ''
     without = f' ({bare} without a call)' if bare else ''
     return (f'{ok + refused} judged ({ok} ok, {refused} refused), {in_part} in part, {left_out} '
-            f'left out{without}, '
-            f'{not_checked} not checked, {errors} errors{open_calls}'
+            f'left out{without}, {not_checked} not checked, {errors} errors{open_calls}'
             + (f'; {raw} raw' if raw else ''))
 
 

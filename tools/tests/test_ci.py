@@ -242,38 +242,35 @@ def compare(tools: Tools, *words: str) -> tuple[int, list[str], str]:
 
 def cases_of_runs(tools: Tools) -> None:
     """One case that passed if the status is 0, else failures, or an error."""
-    frames = whole()
-    tools.write('a.pcap', pcap(frames))
-    tools.write('part.pcap', pcap(frames[:4] + frames[5:]))
+    tools.write('a.pcap', pcap(whole()))
+    tools.write('part.pcap', pcap(whole()[:4] + whole()[5:]))
+    tools.write('text', b'text')
     concurrent = [str(EXAMPLES / f'concurrent_{name}.pcap') for name in 'ab']
-    for words, status, tags, kind, message in (
-            (['a.pcap', 'a.pcap'], 0, [[]], None, None),
+    bad, missing = str(EXAMPLES / 'bad_bool.pcap'), '344 bytes missing from the %s run'
+    for words, status, tags, *first in (
+            (['a.pcap', 'a.pcap'], 0, [[]]),
             ([FIRST, CHANGED], 1, [['failure']] * 2, 'differ',
              'differ at connection 2 server record 2'),
             (concurrent, 1, [['failure']], 'same in another order',
              'same in another order: 100 calls; 3 connections reordered'),
-            (['--order', 'any', *concurrent], 0, [[]], None, None),
+            (['--order', 'any', *concurrent], 0, [[]]),
             (['part.pcap', 'part.pcap'], 1, [['failure']], 'same in part',
-             'same in part: 30 calls in 1 connection, 344 bytes missing from the first run, 344 '
-             'bytes missing from the second run'),
-            (['--allow-losses', 'part.pcap', 'part.pcap'], 0, [[]], None, None),
-            ([FIRST, str(EXAMPLES / 'bad_bool.pcap')], 2, [['error']], None,
-             f'{EXAMPLES}/bad_bool.pcap: connection 1 server record 1 byte 28: BadBool (frame 5)'),
-            (['a.pcap', 'x.xml.old'], 2, [['error']], None,
-             'x.xml.old: it is neither pcap nor pcapng')):
-        tools.write('x.xml.old', b'text')
+             f'same in part: 30 calls in 1 connection, {missing % "first"}, {missing % "second"}'),
+            (['--allow-losses', 'part.pcap', 'part.pcap'], 0, [[]]),
+            ([FIRST, bad], 2, [['error']], None,
+             f'{bad}: connection 1 server record 1 byte 28: BadBool (frame 5)'),
+            (['a.pcap', 'text'], 2, [['error']], None, 'text: it is neither pcap nor pcapng')):
         found, _, error = compare(tools, *words)
-        root = tools.xml('x.xml')
-        tools.want(' '.join(words), (found, [tags for _, tags in cases(tools, 'x.xml')],
-                                     'Traceback' in error), (status, tags, False))
-        suite, first = root[0], next((item for case in root.iter('testcase') for item in case
-                                      if item.tag != 'system-out'), None)
-        tools.want('the first', (None, None) if first is None
-                   else (first.get('type'), first.get('message')), (kind, message))
+        suite = tools.xml('x.xml')[0]
+        items = [item for case in suite.iter('testcase') for item in case
+                 if item.tag != 'system-out']
         numbers = [str(sum(tag in some for some in tags))
                    for tag in ('failure', 'error', 'skipped')]
-        tools.want('sums', [suite.get(key) for key in ('tests', 'failures', 'errors', 'skipped')],
-                   [str(len(tags)), *numbers])
+        tools.want(' '.join(words), (
+            found, [some for _, some in cases(tools, 'x.xml')], 'Traceback' in error,
+            [items[0].get('type'), items[0].get('message')] if items else [],
+            [suite.get(key) for key in ('tests', 'failures', 'errors', 'skipped')]),
+            (status, tags, False, first, [str(len(tags)), *numbers]))
         os.remove(tools.path('x.xml'))
     refused = (2, '', 'compare: a.pcap is an input, and is not replaced\n')
     tools.want('an input', tools.tool('compare', '--junit', 'a.pcap', 'a.pcap', 'a.pcap'), refused)

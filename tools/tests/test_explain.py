@@ -1,4 +1,4 @@
-"""Tests of `tools/explain`: fields, recordings, bytes of a file, and what it costs."""
+"""Tests of `tools/explain`: fields, recordings, bytes of a file, reasons, and what it costs."""
 import gzip
 import itertools
 import random
@@ -9,9 +9,10 @@ from collections.abc import Iterator
 
 from examples import messages
 from examples.messages import (
-    MOUNT, NFS, call, chunk, entries, entry, failed, fattr, fh, fragment, hyper, ok, opaque,
-    post_op_attr, success, word)
+    NFS, call, chunk, entries, entry, fattr, fh, fragment, hyper, ok, opaque, post_op_attr, success,
+    word)
 from examples.packets import ACK, Talk, ethernet, pcap
+from tests.shared.rows import SMALL, capture_in, rows_of
 from tests.shared.running import ended
 
 from .recordings import NANOSECONDS, pcapng
@@ -38,40 +39,30 @@ def explained(tools: Tools, name: str, place: str, *options: str) -> list[str]:
 # --- All fields ---
 
 def fields_of_a_reply(tools: Tools) -> None:
-    """The places of RFC 5531, section 9, and of RFC 1813, sections 2.6 and 3.3.1."""
-    attributes = fattr(2, 12, size=34, mode=0o1755, nlink=3, uid=7, gid=8)
-    tools.write('a',
-                messages.capture(([call(5, NFS, 3, 1, fh(b'abc'))], [success(5, ok(attributes))])))
+    """The places of RFC 5531, section 9, and of RFC 1813, sections 2.6 and 3.3.1. Bits of the type
+    in a mode, and a second in nanoseconds, are said to be odd."""
+    plain = fattr(2, 12, size=34, mode=0o1755, nlink=3, uid=7, gid=8)
+    attributes = plain[:60] + word(9) + word(10**9) + plain[68:]
+    tools.write('a', messages.capture((
+        [call(5, NFS, 3, 1, fh(b'abc')), call(6, NFS, 3, 1, fh(b'abc'))],
+        [success(5, ok(attributes)), success(6, ok(fattr(1, 12, mode=0o100644)))])))
     values = [int.from_bytes(attributes[at:at + 4], 'big') for at in range(0, 84, 4)]
-    times = zip((84, 88, 92, 96, 100, 104), ('atime_sec', 'atime_nsec', 'mtime_sec', 'mtime_nsec',
-                                             'ctime_sec', 'ctime_nsec'))
     tools.want('lines', explained(tools, 'a', 'connection 1 server record 1'), [
         'connection 1 server record 1: reply NFSPROC3_GETATTR of program 100003, version 3, '
         'procedure 1', 'xid 5, a body of 112 bytes, to call record 1', 'byte 0: xid = 5',
-        'byte 4: mtype = 1 (REPLY)',
-        'byte 8: reply_stat = 0 (MSG_ACCEPTED)', 'byte 12: verf_flavor = 0 (AUTH_NONE)',
-        'byte 16: verf_body (its length) = 0',
+        'byte 4: mtype = 1 (REPLY)', 'byte 8: reply_stat = 0 (MSG_ACCEPTED)',
+        'byte 12: verf_flavor = 0 (AUTH_NONE)', 'byte 16: verf_body (its length) = 0',
         'byte 20: accept_stat = 0 (SUCCESS)', 'byte 24: status = 0 (NFS3_OK)',
-        'byte 28: obj.type = 2 (NF3DIR)',
-        'byte 32: obj.mode = 1005 (1755)', 'byte 36: obj.nlink = 3', 'byte 40: obj.uid = 7',
-        'byte 44: obj.gid = 8',
+        'byte 28: obj.type = 2 (NF3DIR)', 'byte 32: obj.mode = 1005 (1755)',
+        'byte 36: obj.nlink = 3', 'byte 40: obj.uid = 7', 'byte 44: obj.gid = 8',
         'byte 48: obj.size = 34', f'byte 56: obj.used = {values[7] << 32 | values[8]}',
         f'byte 64: obj.rdev1 = {values[9]}', f'byte 68: obj.rdev2 = {values[10]}',
-        f'byte 72: obj.fsid = {values[11] << 32 | values[12]}',
-        'byte 80: obj.fileid = 12', *(f'byte {at + 4}: obj.{name} = {values[(at - 24) // 4]}'
-                                  for at, name in times)])
-
-
-def values_that_are_odd(tools: Tools) -> None:
-    """Bits of the type in a mode, and a second in nanoseconds, are said to be odd."""
-    attributes = fattr(1, 12, mode=0o100644)[:60] + word(9) + word(10**9) + bytes(16)
-    tools.write('a', messages.capture(([call(5, NFS, 3, 1, fh(b'abc'))],
-                                       [success(5, ok(attributes))])))
-    lines = explained(tools, 'a', 'connection 1 server record 1')
-    wanted = ['byte 32: obj.mode = 33188 (100644: has bits of the type)',
-              'byte 92: obj.atime_nsec = 1000000000 (a second or more)',
-              'byte 100: obj.mtime_nsec = 0']
-    tools.want('lines', [line for line in lines if line in wanted], wanted)
+        f'byte 72: obj.fsid = {values[11] << 32 | values[12]}', 'byte 80: obj.fileid = 12',
+        'byte 88: obj.atime_sec = 9', 'byte 92: obj.atime_nsec = 1000000000 (a second or more)',
+        *(f'byte {at}: obj.{name} = {values[(at - 28) // 4]}' for at, name in (
+            (96, 'mtime_sec'), (100, 'mtime_nsec'), (104, 'ctime_sec'), (108, 'ctime_nsec')))])
+    tools.want('bits of the type', 'byte 32: obj.mode = 33188 (100644: has bits of the type)'
+               in explained(tools, 'a', 'connection 1 server record 2'), True)
 
 
 def fields_of_each_message(tools: Tools) -> None:
@@ -109,35 +100,6 @@ def are_in_a_row(items: list[re.Match[str]], second: str) -> bool:
         if end - begin not in (4, 8, len(digits) // 2):
             return False
     return begins == sorted(set(begins))
-
-
-def names_of_values(tools: Tools) -> None:
-    """Statuses, bits, modes and ways of times have the names of the RFC."""
-    sattr = messages.sattr(mode=0o640, size=9)
-    calls = [call(1, NFS, 3, 4, fh(b'a') + word(0x15)), call(2, NFS, 3, 19, fh(b'a')),
-             call(3, MOUNT, 3, 1, opaque(b'/a')),
-             call(4, NFS, 3, 2, fh(b'a') + sattr + messages.guard(None)),
-             call(5, NFS, 3, 3, messages.dirop(b'a', b'b'))]
-    fsinfo = ok(post_op_attr(), b''.join(map(word, range(7))), hyper(7), word(0), word(1),
-                word(0x1b))
-    replies = [success(1, ok(post_op_attr(), word(0x2a))), success(2, fsinfo),
-               success(3, failed(13)), success(4, failed(10002, bytes(8))),
-               success(5, failed(2, word(0)))]
-    tools.write('a', messages.capture((calls, replies)))
-    for place, wanted in (('client record 1', 'access = 21 (READ|MODIFY|DELETE)'),
-                          ('server record 1', 'access = 42 (LOOKUP|EXTEND|EXECUTE)'),
-                          ('server record 2',
-                           'properties = 27 (LINK|SYMLINK|HOMOGENEOUS|CANSETTIME)'),
-                          ('server record 3', 'status = 13 (MNT3ERR_ACCES)'),
-                          ('client record 4', 'set.mode = 416 (0640)'),
-                          ('client record 4', 'set_size = 1 (TRUE)'),
-                          ('client record 4', 'set_atime = 0 (DONT_CHANGE)'),
-                          ('client record 4', 'set.size = 9'),
-                          ('server record 4', 'status = 10002 (NFS3ERR_NOT_SYNC)'),
-                          ('server record 5', 'status = 2 (NFS3ERR_NOENT)'),
-                          ('client record 5', 'mtype = 0 (CALL)')):
-        lines = [line.partition(': ')[2] for line in explained(tools, 'a', 'connection 1 ' + place)]
-        tools.want(wanted, wanted in lines, True)
 
 
 def messages_at_fault(tools: Tools) -> None:
@@ -220,18 +182,17 @@ def recordings_of_all_kinds(tools: Tools) -> None:
 
 def records_of_recordings(tools: Tools) -> None:
     """Records have the numbers that `tools/from_pcap` gives them."""
-    frames, size, piece = whole(), len(stream(CALLS[:1])), -(-len(ALL[0]) // 5)
-    tools.write('a.pcap', pcap(frames[:4] + frames[5:]))
+    frames, size, piece, talk = whole(), len(stream(CALLS[:1])), -(-len(ALL[0]) // 5), Talk()
+    cut = [*talk.opened(), talk.sent(0, ALL[0][:piece]), *talk.closed()]
     first = 2 * piece // size + 1  # the first whole call behind the second piece, which is missing
-    lines = explained(tools, 'a.pcap', 'connection 1 client record 8')
-    tools.want('after a gap', 'byte 0: xid = %d' % (first + 1) in lines, True)
     tools.write('a.pcap', pcap(frames[:4]))
     tools.want('a record that the recorder cut',
                tools.tool('explain', 'a.pcap', 'connection 1 client record 8')[0], 1)
-    talk = Talk()
-    tools.write('a.pcap', pcap([*talk.opened(), talk.sent(0, ALL[0][:piece]), *talk.closed()]))
-    tools.want('a record that its sender cut',
-               len(explained(tools, 'a.pcap', 'connection 1 client record 8')) > 3, True)
+    for recording, line in ((frames[:4] + frames[5:], f'byte 0: xid = {first + 1}'),
+                            (cut, 'byte 0: xid = 8')):  # (its sender cut it)
+        tools.write('a.pcap', pcap(recording))
+        lines = explained(tools, 'a.pcap', 'connection 1 client record 8')
+        tools.want(line, line in lines, True)
 
 
 def what_is_in_no_record(tools: Tools) -> None:
@@ -299,23 +260,16 @@ def memory_of_large_captures(tools: Tools) -> None:
     """12 replies of 16 MB each, in one connection of either version."""
     read = fh(b'a') + hyper(0) + word(1 << 24)
     data = ok(post_op_attr(), word(1), word(1), opaque(bytes((1 << 24) - 100)))
-    calls, replies = [call(number, NFS, 3, 6, read) for number in range(1, 13)], (
-        success(number, data) for number in range(1, 13))
-    written(tools, 'one', itertools.chain([messages.MAGIC, word(1), chunk(stream(calls)), word(0)],
-                                          (chunk(fragment(body)) for body in replies),
-                                          [word(0), word(0)]))
-    replies = (success(number, data) for number in range(1, 13))
-    written(tools, 'two',
-            itertools.chain([messages.MAGIC_2, word(1), word(1), chunk(stream(calls))],
-                            (word(2) + chunk(fragment(body)) for body in replies),
-                            [word(0), word(0)]))
-    for name in ('one', 'two'):
+    calls = chunk(stream(call(number, NFS, 3, 6, read) for number in range(1, 13)))
+    for name, head, side in (('one', messages.MAGIC + word(1) + calls + word(0), b''),
+                             ('two', messages.MAGIC_2 + word(1) + word(1) + calls, word(2))):
+        replies = (side + chunk(fragment(success(number, data))) for number in range(1, 13))
+        written(tools, name, itertools.chain([head], replies, [word(0), word(0)]))
         heading = ('connection 1 server record 12: reply NFSPROC3_READ of program 100003, version '
                    '3, procedure 6')
-        in_memory(tools, name, 'connection 1 server record 12', heading,
-                  f'byte 44: data = {"00" * 100}..')
-        in_memory(tools, name, 'connection 1 server record 12 byte 16000000', heading,
-                  f'byte 16000000: data = {"00" * 100}..')
+        for place, at in (('', 44), (' byte 16000000', 16_000_000)):
+            in_memory(tools, name, 'connection 1 server record 12' + place, heading,
+                      f'byte {at}: data = {"00" * 100}..')
 
 
 def memory_of_many_parts(tools: Tools) -> None:
@@ -361,3 +315,39 @@ def memory_of_large_recordings(tools: Tools) -> None:
     in_memory(tools, 'frames', f'connection 1 client record {last} byte 0',
               f'byte 0: xid = {last - 1}',
               f'frame.number == {4 + ((last - 1) * 44 + 4) // size}', most=MOST_OF_A_RECORDING)
+
+
+# --- Reasons ---
+
+# Words that tell what is said of each reason from what is said of any other.
+WORDS_OF_REASONS = {
+    'BadMagic': 'begins with NFS3CAP1', 'CaptureCut': 'the file ends before',
+    'BadMark': 'a connection word is 0 or 1', 'AfterEnd': 'nothing follows',
+    'TooManyConnections': '65,535', 'TooManyBytes': '1,073,741,824',
+    'RecordCut': 'stream ends in this', 'RecordTooLong': '16,777,216', 'Short': 'body ends before',
+    'Trailing': 'message ends before', 'BadBool': 'a bool is', 'BadEnum': 'is not listed',
+    'TooLong': 'over its maximum', 'RpcVersion': 'RPC version is 2', 'Flavor': 'RPCSEC_GSS',
+    'AuthLength': 'of the parameters', 'WrongSide': 'replies the server',
+    'NoCall': 'no call of the connection has', 'XidConflict': 'another procedure'}
+
+
+def each_reason(tools: Tools) -> None:
+    """For each reason the first row of captures.rows in each version, by the line of `check`."""
+    lines = dict[str, tuple[str, str]]()
+    for _, row in rows_of('captures.rows'):
+        reason, capture = row['line'].rpartition(' ')[2], capture_in(row)
+        name = reason + capture[7:8].decode()
+        if not row['line'].startswith('ok ') and len(capture) < SMALL and name not in lines:
+            lines[name] = reason, row['line']
+            tools.write(name, capture)
+    tools.want('reasons', len(lines), 32)
+    for name, (reason, line) in lines.items():
+        status, out, error = tools.tool('explain', name, stdin=('first: %s\n' % line).encode())
+        said = re.search('(?:^|: )%s: (.*)$' % reason, out or error, re.M)
+        told = [name for name, words in WORDS_OF_REASONS.items() if said and words in said[1]]
+        wanted = 2 if line.startswith('file ') else 0
+        tools.want('explain ' + line, (status, told), (wanted, [reason]))
+        if ' byte ' in line and reason not in ('Trailing', 'AuthLength', 'RecordCut',
+                                               'RecordTooLong'):
+            tools.want('the item of ' + line,
+                       'after the last item' in out or 'allowed: ' not in out, False)

@@ -1,4 +1,4 @@
-"""Tests of the formats of recordings and of the layers of their frames."""
+"""Tests of the formats of recordings and of the layers of their frames, sound and damaged."""
 import bz2
 import gzip
 import lzma
@@ -14,10 +14,13 @@ from examples.packets import ACK, CLIENT, SERVER, SYN, Talk, datagram, ethernet,
 from tests.shared.running import ended
 
 from ..nfs3tools.recordings.container import capture_of
-from ..nfs3tools.recordings.taken import NotTaken
+from ..nfs3tools.recordings.frames import Frame
+from ..nfs3tools.recordings.segments import Segments
+from ..nfs3tools.recordings.taken import NotTaken, Taken
+from ..nfs3tools.shared.places import SIDES
 from .recordings import (
-    NANOSECONDS, block, cooked, cooked_2, enhanced, extended, interface, loopback, obsolete, pcapng,
-    section, simple)
+    NANOSECONDS, block, cooked, cooked_2, enhanced, extended, fragments, interface, loopback,
+    obsolete, pcapng, section, simple)
 from .scripts import ALL, TOP, Tools, packed, taken_of, whole
 
 # --- Recordings ---
@@ -26,30 +29,30 @@ def recordings_of_all_kinds(tools: Tools) -> None:
     """Both orders and units of pcap, all packets of pcapng, and gzip."""
     frames = whole()
     for order in '<>':
-        tools.taken('pcap ' + order, pcap(frames, order=order), [ALL])
-        tools.taken('nanoseconds ' + order, pcap(frames, order=order, magic=NANOSECONDS), [ALL])
-        tools.taken('pcapng ' + order, pcapng(frames, order), [ALL])
-        tools.taken('packets without times ' + order,
-                    section(order) + interface(order=order)
-                    + b''.join(simple(frame, order) for frame in frames), [ALL])
-        tools.taken('obsolete packets ' + order,
-                    section(order) + interface(order=order)
-                    + b''.join(obsolete(frame, order=order) for frame in frames), [ALL])
-    tools.taken('two sections', pcapng(frames[:6]) + pcapng(frames[6:], '>'), [ALL])
+        head = section(order) + interface(order=order)
+        for what, recording in (
+                ('pcap', pcap(frames, order=order)), ('pcapng', pcapng(frames, order)),
+                ('nanoseconds', pcap(frames, order=order, magic=NANOSECONDS)),
+                ('packets without times', head + b''.join(simple(one, order) for one in frames)),
+                ('obsolete packets', head + b''.join(obsolete(one, order=order)
+                                                     for one in frames))):
+            tools.taken(f'{what} {order}', recording, [ALL])
     raw = [frame[14:] for frame in frames]
     several = section() + interface() + interface(101) + interface(113)
     mixed = (enhanced([frame, raw[at], cooked(raw[at])][at % 3], at, at % 3)
              for at, frame in enumerate(frames))
-    tools.taken('three interfaces', several + b''.join(mixed), [ALL])
-    tools.taken('the interfaces of the second section',
-                several + b''.join(enhanced(frame, 0, 0) for frame in frames[:6])
-                + section() + interface(101)
-                + b''.join(enhanced(content, 0, 0) for content in raw[6:]), [ALL])
-    packed_twice = gzip.compress(pcap(frames)[:300]) + gzip.compress(pcap(frames)[300:])
-    tools.taken('gzip', gzip.compress(pcap(frames)), [ALL])
-    tools.taken('gzip of pcapng', gzip.compress(pcapng(frames)), [ALL])
-    tools.taken('gzip in two members', packed_twice, [ALL])
-    tools.taken('zeros after gzip', gzip.compress(pcap(frames)) + bytes(512), [ALL])
+    one, two = (b''.join(enhanced(frame, 0, 0) for frame in some) for some in (frames[:6], raw[6:]))
+    for what, recording in (
+            ('two sections', pcapng(frames[:6]) + pcapng(frames[6:], '>')),
+            ('three interfaces', several + b''.join(mixed)),
+            ('the interfaces of the second section',
+             several + one + section() + interface(101) + two),
+            ('gzip', gzip.compress(pcap(frames))),
+            ('gzip of pcapng', gzip.compress(pcapng(frames))),
+            ('gzip in two members',
+             gzip.compress(pcap(frames)[:300]) + gzip.compress(pcap(frames)[300:])),
+            ('zeros after gzip', gzip.compress(pcap(frames)) + bytes(512))):
+        tools.taken(what, recording, [ALL])
 
 
 PACKERS: dict[str, typing.Callable[[bytes], bytes]] = {'gzip': gzip.compress, 'xz': lzma.compress,
@@ -121,41 +124,26 @@ def what_is_not_decompressed(tools: Tools) -> None:
 
 
 def times(tools: Tools) -> None:
-    """The times of frames, by the unit and offset of their interface."""
-    frames, second = whole(), 1_000_000_000
+    """The times of frames, by the unit and offset of their interface. One that does not fit 63 bits
+    of nanoseconds is unknown."""
+    frames, second, most, year = whole(), 1_000_000_000, (1 << 63) - 1, 31_536_000
     for what, recording, time in (
-            ('microseconds', pcap(frames), second + 3_000),
-            ('nanoseconds', pcap(frames, magic=NANOSECONDS), second + 3),
-            ('microseconds, big-endian', pcap(frames, order='>'), second + 3_000),
-            ('nanoseconds, big-endian', pcap(frames, order='>', magic=NANOSECONDS), second + 3),
+            *((f'{magic:x} {order}', pcap(frames, order=order, magic=magic), second + 3 * unit)
+              for magic, unit in ((0xa1b2c3d4, 1_000), (NANOSECONDS, 1)) for order in '<>'),
             ('pcapng', pcapng(frames), 3_000), ('pcapng, big-endian', pcapng(frames, '>'), 3_000),
-            ('milliseconds', section() + interface(unit=3)
-             + b''.join(enhanced(frame, 7 << 30) for frame in frames), (7 << 30) * 1_000_000),
-            ('a power of two', section() + interface(unit=0x80 | 10)
-             + b''.join(enhanced(frame, 1_536) for frame in frames), second * 3 // 2),
-            ('an offset', section() + interface(unit=9, offset=5)
-             + b''.join(enhanced(frame, 1) for frame in frames), 5 * second + 1)):
-        noted = taken_of(recording).connections[0].client.frames(0, 1)
-        tools.want(what, [tuple(frame) for frame in noted], [(4, time)])
-
-
-def times_past_63_bits(tools: Tools) -> None:
-    """A time that does not fit 63 bits of nanoseconds is unknown."""
-    frames, most, year = whole(), (1 << 63) - 1, 31_536_000
-    for what, head, number, time in (
-            ('the last that fits', interface(unit=9), most, most),
-            ('one more', interface(unit=9), most + 1, 0),
-            ('all bits', interface(unit=9), (1 << 64) - 1, 0),
-            ('seconds', interface(unit=0), 1 << 40, 0),
-            ('the last seconds', interface(unit=0), 9_223_372_036, 9_223_372_036 * 10 ** 9),
-            ('the first seconds too many', interface(unit=0), 9_223_372_037, 0),
-            ('an offset', interface(unit=9, offset=1 << 62), 1, 0),
-            ('an offset back', interface(unit=9, offset=-(1 << 62)), 1, 0),
-            ('an offset of a year', interface(unit=9, offset=-year), year * 10 ** 9 + 1, 1)):
-        tools.write('a.pcap',
-                    section() + head + b''.join(enhanced(frame, number) for frame in frames))
-        noted = taken_of(tools.read('a.pcap') or b'').connections[0].client.frames(0, 1)
-        tools.want(what, [tuple(frame) for frame in noted], [(4, time)])
+            *((f'unit {unit} offset {offset}, {number}',
+               section() + interface(unit=unit, offset=offset)
+               + b''.join(enhanced(frame, number) for frame in frames), time)
+              for unit, offset, number, time in (
+                  (3, 0, 7 << 30, (7 << 30) * 1_000_000), (0x80 | 10, 0, 1_536, second * 3 // 2),
+                  (9, 5, 1, 5 * second + 1), (9, 0, most, most), (9, 0, most + 1, 0),
+                  (9, 0, (1 << 64) - 1, 0), (0, 0, 1 << 40, 0),
+                  (0, 0, 9_223_372_036, 9_223_372_036 * second), (0, 0, 9_223_372_037, 0),
+                  (9, 1 << 62, 1, 0), (9, -(1 << 62), 1, 0), (9, -year, year * second + 1, 1)))):
+        tools.write('a.pcap', recording)
+        with taken_of(recording) as taken:
+            noted = taken.connections[0].client.frames(0, 1)
+            tools.want(what, [tuple(frame) for frame in noted], [(4, time)])
         found = tools.tool('where', 'a.pcap', 'connection 1 client record 1 byte 0')
         tools.want(what + ', where', (found[0], found[1].splitlines()[1:2]
                                       == ['frame 4, without a time'], found[2]), (0, not time, ''))
@@ -237,34 +225,30 @@ def recordings_that_are_none(tools: Tools) -> None:
             ('three bytes of gzip', gzip.compress(b'x')[:3], 'the compressed file is cut short'),
             ('xz', b'\xfd7zXZ\0\0', 'the compressed file is cut short'),
             ('zstd', b'\x28\xb5\x2f\xfd', ''),
-            ('lz4', b'\x04\x22\x4d\x18', 'it is compressed by lz4'),
-            ('a magic alone', pcap([])[:4], 'its header is cut short')):
-        tools.refused(what, recording, message) if what != 'a magic alone' else tools.want(
-            what, message in (taken_of(recording).damage or ''), True)
+            ('lz4', b'\x04\x22\x4d\x18', 'it is compressed by lz4')):
+        tools.refused(what, recording, message)
+    tools.want('a magic alone',
+               'its header is cut short' in (taken_of(pcap([])[:4]).damage or ''), True)
 
 
 def link_layers(tools: Tools) -> None:
     for hosts in ((CLIENT, SERVER), ('2001:db8::7', '2001:db8::1')):
-        frames = whole(hosts=hosts)
+        frames, kind = whole(hosts=hosts), 0x86dd if ':' in hosts[0] else 0x0800
         raw = [frame[14:] for frame in frames]
-        tags = [ethernet(content, [(0x88a8, 9), (0x8100, 7)]) for content in raw]
-        tools.taken('Ethernet', pcap(frames), [ALL])
-        tools.taken('a VLAN', pcap(whole(hosts=hosts, vlan=7)), [ALL])
-        tools.taken('a VLAN in a VLAN', pcap(tags), [ALL])
-        tools.taken('padding', pcap([frame.ljust(60, b'\xee') for frame in frames]), [ALL])
-        tools.taken('cooked', pcap(map(cooked, raw), link=113), [ALL])
-        tools.taken('cooked, version 2', pcap(map(cooked_2, raw), link=276), [ALL])
-        tools.taken('cooked, with a VLAN',
-                    pcap((cooked(content)[:14]
-                          + struct.pack('>HHH', 0x8100, 7, 0x86dd if ':' in hosts[0] else 0x0800)
-                          + content for content in raw), link=113), [ALL])
-        tools.taken('loopback', pcap(map(loopback, raw), link=0), [ALL])
-        tools.taken('loopback of another machine',
-                    pcap((loopback(content, '>') for content in raw), link=0), [ALL])
-        tools.taken('loopback in the order of the network',
-                    pcap((loopback(content, '>') for content in raw), link=108), [ALL])
-        for link in (12, 14, 101, 228 if ':' not in hosts[0] else 229):
-            tools.taken('raw IP %d' % link, pcap(raw, link=link), [ALL])
+        tagged = [cooked(content)[:14] + struct.pack('>HHH', 0x8100, 7, kind) + content
+                  for content in raw]
+        for what, some, link in (
+                ('Ethernet', frames, 1), ('a VLAN', whole(hosts=hosts, vlan=7), 1),
+                ('a VLAN in a VLAN', [ethernet(content, [(0x88a8, 9), (0x8100, 7)])
+                                      for content in raw], 1),
+                ('padding', [frame.ljust(60, b'\xee') for frame in frames], 1),
+                ('cooked', map(cooked, raw), 113), ('cooked, version 2', map(cooked_2, raw), 276),
+                ('cooked, with a VLAN', tagged, 113), ('loopback', map(loopback, raw), 0),
+                *((f'loopback in the other order, {link}',
+                   [loopback(content, '>') for content in raw], link) for link in (0, 108)),
+                *((f'raw IP {link}', raw, link)
+                  for link in (12, 14, 101, 229 if ':' in hosts[0] else 228))):
+            tools.taken(what, pcap(some, link=link), [ALL])
     lines = tools.taken('another link type', pcap(frames, link=147), [])
     tools.want('another link type', lines,
                ['not checked: 15 frames of the link type 147 are not read; what is in them is not '
@@ -278,33 +262,112 @@ def link_layers(tools: Tools) -> None:
 
 def internet_layers(tools: Tools) -> None:
     """Options and extension headers, fragments in any order, lengths of 0, and those that lie."""
-    talk = Talk()
-    v4 = [ethernet(b'\x46' + content[1:2] + struct.pack('>H', len(content) + 4) + content[4:20]
-                   + b'\1\1\1\0' + content[20:])
-          for content in (frame[14:] for frame in whole())]
-    tools.taken('options of IPv4', pcap(v4), [ALL])
-    talk = Talk()
-    with_options = [ethernet(talk.datagram(0, SYN, options=b'\2\4\5\xb4')), *whole()[1:3]]
-    talk.next[0] += 1
-    talk.next[1] += 1
+    talk, v4, v6 = Talk(), whole(), whole(hosts=('2001:db8::7', '2001:db8::1'))
+    headers = [(0, bytes(8)), (60, b'\0\1' + bytes(14)), (43, bytes(8)), (51, b'\0\1' + bytes(10))]
+    for what, frames in (
+            ('options of IPv4', [
+                ethernet(b'\x46' + content[1:2] + struct.pack('>H', len(content) + 4)
+                         + content[4:20] + b'\1\1\1\0' + content[20:])
+                for content in (frame[14:] for frame in v4)]),
+            ('total length 0', [frame[:16] + b'\0\0' + frame[18:] for frame in v4]),
+            ('payload length 0', [frame[:18] + b'\0\0' + frame[20:] for frame in v6]),
+            ('extension headers', [ethernet(extended(frame[14:], headers)) for frame in v6]),
+            ('an atomic fragment', [ethernet(extended(frame[14:], [(44, bytes(8))]))
+                                    for frame in v6])):
+        tools.taken(what, pcap(frames), [ALL])
+    with_options = [ethernet(talk.datagram(0, SYN, options=b'\2\4\5\xb4')), *v4[1:3]]
+    talk.next = [number + 1 for number in talk.next]
     content = ethernet(talk.datagram(0, ACK, ALL[0], options=b'\1\1\x08\x0a' + bytes(8)))
     tools.taken('options of TCP', pcap([*with_options, content]), [(ALL[0], b'')])
-    no_lengths = [frame[:16] + b'\0\0' + frame[18:] for frame in whole()]
-    tools.taken('total length 0', pcap(no_lengths), [ALL])
-    frames = whole(hosts=('2001:db8::7', '2001:db8::1'))
-    tools.taken('payload length 0', pcap([frame[:18] + b'\0\0' + frame[20:] for frame in frames]),
-                [ALL])
-    headers = [(0, bytes(8)), (60, b'\0\1' + bytes(14)), (43, bytes(8)), (51, b'\0\1' + bytes(10))]
-    tools.taken('extension headers',
-                pcap(ethernet(extended(frame[14:], headers)) for frame in frames), [ALL])
-    tools.taken('an atomic fragment', pcap(ethernet(extended(frame[14:], [(44, bytes(8))]))
-                                           for frame in frames), [ALL])
-    lying = whole()
-    lying[4] = lying[4][:16] + b'\xff\xff' + lying[4][18:]
-    told = ('in part: 1 frame to or from port 2049 is not taken, since its headers are not whole '
-            'or do not fit its length')
-    tools.want('a header that lies', tools.taken('a header that lies', pcap(lying + whole()[4:5]),
-                                                 [ALL])[-1], told)
-    lying[4] = whole()[4][:46] + b'\xf0' + whole()[4][47:58]
-    tools.want('a TCP header that lies',
-               tools.taken('a TCP header that lies', pcap(lying + whole()[4:5]), [ALL])[-1], told)
+    for lying in (v4[4][:16] + b'\xff\xff' + v4[4][18:], v4[4][:46] + b'\xf0' + v4[4][47:58]):
+        lines = tools.taken('a header that lies', pcap([*v4[:4], lying, *v4[5:], v4[4]]), [ALL])
+        tools.want('a header that lies', lines[-1], 'in part: 1 frame to or from port 2049 is not '
+                   'taken, since its headers are not whole or do not fit its length')
+
+
+# --- Damaged at random ---
+
+def frames_of(recording: bytes) -> list[bytes]:
+    """The records of a recording as pcap has them, little-endian."""
+    at, frames = 24, []
+    while at + 16 <= len(recording):
+        end = at + 16 + int.from_bytes(recording[at + 8:at + 12], 'little')
+        frames.append(recording[at:end])
+        at = end
+    return frames
+
+
+def mutated(tools: Tools) -> None:
+    """No traceback, and no byte in a capture that its frame does not have."""
+    chance = random.Random(11)
+    v6 = whole(hosts=('2001:db8::7', '2001:db8::1'), vlan=3)
+    bases = [pcap(whole()), pcapng(whole()), pcap(v6),
+             pcap(whole() + whole(port=701, first=(7, 9))), pcap(whole()[4:]), pcap(whole(), 154),
+             gzip.compress(pcap(whole())),
+             pcap(ethernet(piece) for number, frame in enumerate(whole())
+                  for piece in fragments(frame[14:], 64, number))]
+    for number in range(1_500):
+        base = bases[number % len(bases)]
+        recording = mutation(chance, base)
+        try:
+            taken = taken_of(recording)
+        except NotTaken:
+            continue
+        except Exception as wrong:  # what is wanted is that there is none
+            tools.want(f'mutation {number}', repr(wrong), 'none')
+            continue
+        if recording[:4] == base[:4] == b'\xd4\xc3\xb2\xa1' and base is not bases[-1]:
+            tools.want(f'bytes of mutation {number}',
+                       bytes_not_on_the_wire(taken, frames_of(recording)), [])
+
+
+def short_way(tools: Tools) -> None:
+    """Plain frames, read by a way of their own, give the segments of the general way."""
+    chance = random.Random(13)
+    frames = [frame for vlan in (None, 7) for frame in whole(vlan=vlan)]
+    for number in range(6_000):
+        data = bytearray(chance.choice(frames))
+        for _ in range(chance.randrange(3)):
+            data[chance.randrange(12, min(60, len(data)))] = chance.choice(
+                (0, 1, 5, 6, 0x45, 0x50, 0x60, 0xf0, 255, chance.randrange(256)))
+        data = data[:chance.choice((len(data), len(data), chance.randrange(len(data))))]
+        frame = Frame(1, 0, 1, bytes(data), len(data) + chance.choice((0, 0, 9)))
+        found = [Segments().segment(frame), Segments().of_any(frame)]
+        tools.want(f'frame {number}: {frame.data.hex()}', found[0], found[1])
+
+
+def mutation(chance: random.Random, base: bytes) -> bytes:
+    content = bytearray(base)
+    for _ in range(chance.choice((1, 1, 2, 5, 20))):
+        at = chance.randrange(len(content))
+        match chance.randrange(6):
+            case 0:
+                content[at] ^= 1 << chance.randrange(8)
+            case 1:
+                content[at] = chance.choice((0, 1, 127, 128, 255))
+            case 2:
+                del content[at:at + chance.choice((1, 4, 16, 60))]
+            case 3:
+                content[at:at] = chance.randbytes(chance.choice((1, 4, 16, 60)))
+            case 4:
+                other = chance.randrange(len(content))
+                content[at:at + 60] = content[other:other + 60]
+            case 5:
+                content[at & ~3:(at & ~3) + 4] = chance.choice((bytes(4), b'\xff' * 4, b'\0\0\1\0',
+                                                                b'\x80\0\0\x28'))
+        content = content or bytearray(base)
+    return bytes(content[:chance.randrange(len(content))] if chance.random() < 0.1 else content)
+
+
+def bytes_not_on_the_wire(taken: Taken, frames: list[bytes]) -> list[int]:
+    """The frames that are said to carry bytes of a stream, and do not."""
+    wrong = []
+    for connection in taken.connections:
+        for side in SIDES:
+            stored, frames_of_side = connection.stream(side).stored, connection.stream(side).noted
+            noted = list(frames_of_side.between(0, stored.size)) if frames_of_side else []
+            ends = [*(brought.begin for brought in noted[1:]), stored.size]
+            wrong += [brought.number for brought, end in zip(noted, ends)
+                      if stored.read(brought.begin,
+                                     end - brought.begin) not in frames[brought.number - 1][16:]]
+    return wrong

@@ -5,7 +5,6 @@ import random
 import struct
 import subprocess
 import sys
-import typing
 
 from examples import messages
 from examples.messages import NFS, call, success
@@ -35,18 +34,17 @@ def datagrams_in_fragments(tools: Tools) -> None:
                         (fragments_6, whole(hosts=('2001:db8::7', '2001:db8::1')))):
         pieces = [[ethernet(piece) for piece in cut(frame[14:], 64, number)]
                   for number, frame in enumerate(frames)]
-        in_order = [piece for each in pieces for piece in each]
-        tools.taken('fragments', pcap(in_order), [ALL])
-        tools.taken('the last fragment first',
-                    pcap(piece for each in pieces for piece in each[::-1]), [ALL])
-        tools.taken('fragments twice', pcap(piece for each in pieces for piece in each * 2), [ALL])
+        in_order = list(itertools.chain(*pieces))
         turns = [piece for pair in itertools.zip_longest(*pieces[3:5]) for piece in pair if piece]
-        tools.taken('fragments of two datagrams in turn',
-                    pcap([*in_order[:3], *turns,
-                          *(piece for each in pieces[5:] for piece in each)]), [ALL])
         changed = pieces[3][1][:-8] + b'\xee' * 8
-        tools.taken('the first fragment counts', pcap(in_order[:5] + [changed] + in_order[5:]),
-                    [ALL])
+        for what, some in (
+                ('fragments', in_order),
+                ('the last fragment first', [piece for each in pieces for piece in each[::-1]]),
+                ('fragments twice', [piece for each in pieces for piece in each * 2]),
+                ('fragments of two datagrams in turn',
+                 [*in_order[:3], *turns, *itertools.chain(*pieces[5:])]),
+                ('the first fragment counts', in_order[:5] + [changed] + in_order[5:])):
+            tools.taken(what, pcap(some), [ALL])
         at = in_order.index(pieces[4][1])
         lines = tools.taken('a fragment is lost', pcap(in_order[:at] + in_order[at + 1:]),
                             [AROUND_A_GAP])
@@ -135,8 +133,7 @@ def beginnings_and_ends(tools: Tools) -> None:
     early = talk.frame(0, SYN, ALL[0][:99])
     talk.next[0] += 1
     frames = [early, talk.frame(1, SYN | ACK)]
-    talk.next[1] += 1
-    talk.next[0] += 99
+    talk.next = [talk.next[0] + 99, talk.next[1] + 1]
     tools.taken('payload with SYN', pcap([*frames, talk.sent(0, ALL[0][99:])]), [(ALL[0], b'')])
     talk = Talk()
     frames = [*talk.opened(), talk.sent(0, ALL[0]), talk.frame(1, FIN | ACK, ALL[1])]
@@ -149,37 +146,31 @@ def beginnings_and_ends(tools: Tools) -> None:
     tools.told('RST', pcap([*frames, talk.frame(0, RST, b'a reason in words'),
                             talk.frame(1, RST | ACK)]), [ALL], [])
     talk.next[0] += 1 << 30
-    far = ('connection 1 client: frame 6 shows bytes far beyond the last that is known, and no '
-           'other frame does')
-    for what, last in (('an acknowledgement', talk.frame(1, ACK)),
-                       ('FIN', talk.frame(0, FIN | ACK))):
-        tools.told(f'{what} of an older connection', pcap([*frames, last]), [ALL], [far])
+    for last in (talk.frame(1, ACK), talk.frame(0, FIN | ACK)):
+        tools.told('an end of an older connection', pcap([*frames, last]), [ALL], [
+            'connection 1 client: frame 6 shows bytes far beyond the last that is known, and no '
+            'other frame does'])
     talk = Talk()
     frames = [*talk.opened(), talk.sent(0, ALL[0]), talk.frame(0, RST), talk.sent(1, ALL[1])]
     tools.told('what is on its way as RST comes', pcap(frames), [ALL], [])
 
 
 def who_is_the_client(tools: Tools) -> None:
-    def told(recording: bytes, **options: typing.Any) -> str:
-        return tools.taken('client', recording, [ALL], **options)[0].partition(': client ')[2]
-    client, server = CLIENT + ':700 ', SERVER + ':2049 '
-    tools.want('SYN', told(pcap(whole())), client + 'by the SYN' + SIZES)
-    tools.want('the answer to a SYN', told(pcap(whole()[1:])), client + 'by the SYN' + SIZES)
-    tools.want('a SYN without its answer', told(pcap([whole()[0], *whole()[2:]])),
-               client + 'by the SYN' + SIZES)
+    client, server = CLIENT + ':700 by ', SERVER + ':2049 by '
     swapped = whole(port=2049, service=700, hosts=(SERVER, CLIENT))
-    tools.want('SYN before ports', told(pcap(swapped)), server + 'by the SYN' + SIZES)
-    for service in (2049, 900):
-        replies_first = whole(service=service)[8:] + whole(service=service)[3:8]
-        tools.want('calls', told(pcap(replies_first)), client + 'by its calls' + SIZES)
-    tools.want('calls before ports', told(pcap(swapped[3:])), server + 'by its calls' + SIZES)
+    for frames, told in (
+            (whole(), client + 'the SYN'), (whole()[1:], client + 'the SYN'),
+            ([whole()[0], *whole()[2:]], client + 'the SYN'), (swapped, server + 'the SYN'),
+            *((whole(service=service)[8:] + whole(service=service)[3:8], client + 'its calls')
+              for service in (2049, 900)), (swapped[3:], server + 'its calls')):
+        lines = tools.taken(told, pcap(frames), [ALL])
+        tools.want('client', lines[0].partition(': client ')[2], told + SIZES)
     for talk, ends in ((Talk(), '192.0.2.1:2049 and 192.0.2.7:700'),
                        (Talk(port=111, service=900), '192.0.2.1:900 and 192.0.2.7:111')):
         lines = tools.taken('no calls', pcap(exchange(talk, calls=[])), [])
         tools.want('no calls', lines, [f'left out: {ends}: no position was found from which its '
                                        'records follow one another'])
-    garbage = [Talk(service=900).frame(0, ACK, stream(REPLIES))]
-    tools.taken('replies alone', pcap(garbage), [])
+    tools.taken('replies alone', pcap([Talk(service=900).frame(0, ACK, stream(REPLIES))]), [])
 
 
 # --- Missing bytes ---
@@ -217,29 +208,30 @@ def what_is_left_out(tools: Tools) -> None:
 def bytes_are_missing(tools: Tools) -> None:
     """A stream goes on at the next record, without replies to calls that are missing."""
     frames, calls, replies = whole(), *ALL
-    torn = (BEHIND_A_GAP - BEFORE_A_GAP) * CALL - FIFTH
-    tools.told('a gap in the calls', pcap(frames[:4] + frames[5:]), [AROUND_A_GAP],
-               [told_of_gap('client', FIFTH, FIFTH, 5) + torn_records(torn),
-                replies_left_out(BEHIND_A_GAP - BEFORE_A_GAP)])
-    most = 4 * FIFTH // CALL
-    tools.told('the last call is lost', pcap(frames[:7] + frames[8:]),
-               [(calls[:most * CALL], replies[:most * REPLY])],
-               [told_of_gap('client', len(calls) - 4 * FIFTH, 4 * FIFTH, 8)
-                + torn_records(4 * FIFTH - most * CALL), replies_left_out(len(REPLIES) - most)])
-    first = -(-FIFTH // CALL)
-    tools.told('the first call is lost', pcap(frames[:3] + frames[4:]),
-               [(calls[first * CALL:], replies[first * REPLY:])],
-               [told_of_gap('client', FIFTH, 0, 4) + torn_records(first * CALL - FIFTH),
-                replies_left_out(first)])
+    torn, most, first = (BEHIND_A_GAP - BEFORE_A_GAP) * CALL - FIFTH, 4 * FIFTH // CALL, -(
+        -FIFTH // CALL)
     before, behind = FIFTH_OF_REPLIES // REPLY, -(-2 * FIFTH_OF_REPLIES // REPLY)
-    tools.told('a gap in the replies', pcap(frames[:9] + frames[10:]),
-               [(calls, replies[:before * REPLY] + replies[behind * REPLY:])],
-               [told_of_gap('server', FIFTH_OF_REPLIES, FIFTH_OF_REPLIES, 10)
-                + torn_records((behind - before) * REPLY - FIFTH_OF_REPLIES)])
-    tools.told('the last reply is lost, as FIN shows', pcap(frames[:12] + frames[-1:]),
-               [(calls, replies[:4 * FIFTH_OF_REPLIES // REPLY * REPLY])],
-               [told_of_gap('server', len(replies) - 4 * FIFTH_OF_REPLIES, 4 * FIFTH_OF_REPLIES, 13)
-                + torn_records(4 * FIFTH_OF_REPLIES % REPLY)])
+    last = 4 * FIFTH_OF_REPLIES
+    for what, some, streams_there, *told in (
+            ('a gap in the calls', frames[:4] + frames[5:], AROUND_A_GAP,
+             told_of_gap('client', FIFTH, FIFTH, 5) + torn_records(torn),
+             replies_left_out(BEHIND_A_GAP - BEFORE_A_GAP)),
+            ('the last call is lost', frames[:7] + frames[8:],
+             (calls[:most * CALL], replies[:most * REPLY]),
+             told_of_gap('client', len(calls) - 4 * FIFTH, 4 * FIFTH, 8)
+             + torn_records(4 * FIFTH - most * CALL), replies_left_out(len(REPLIES) - most)),
+            ('the first call is lost', frames[:3] + frames[4:],
+             (calls[first * CALL:], replies[first * REPLY:]),
+             told_of_gap('client', FIFTH, 0, 4) + torn_records(first * CALL - FIFTH),
+             replies_left_out(first)),
+            ('a gap in the replies', frames[:9] + frames[10:],
+             (calls, replies[:before * REPLY] + replies[behind * REPLY:]),
+             told_of_gap('server', FIFTH_OF_REPLIES, FIFTH_OF_REPLIES, 10)
+             + torn_records((behind - before) * REPLY - FIFTH_OF_REPLIES)),
+            ('the last reply is lost, as FIN shows', frames[:12] + frames[-1:],
+             (calls, replies[:last // REPLY * REPLY]),
+             told_of_gap('server', len(replies) - last, last, 13) + torn_records(last % REPLY))):
+        tools.told(what, pcap(some), [streams_there], told)
 
 
 def several_gaps(tools: Tools) -> None:
@@ -253,10 +245,9 @@ def several_gaps(tools: Tools) -> None:
                         [(left[0], left[1])])
     tools.want('two gaps', f'before frame 5, and {FIFTH} more in 1 place; ' in lines[1] or lines,
                True)
-    one_side = [frame for number, frame in enumerate(frames) if number not in range(3, 8)]
-    tools.told('replies alone', pcap(one_side), [], ['left out: 192.0.2.7:700 and 192.0.2.1:2049: '
-                                                     'no position was found from which its records '
-                                                     'follow one another'])
+    tools.told('replies alone', pcap(frames[:3] + frames[8:]), [], [
+        'left out: 192.0.2.7:700 and 192.0.2.1:2049: no position was found from which its records '
+        'follow one another'])
     talk = Talk()
     wrong = replies[:10 * REPLY] + struct.pack('>I', 0x81000001) + replies[10 * REPLY + 4:]
     lost = [*talk.opened(), talk.sent(0, calls[:7 * CALL]), talk.sent(0, calls[7 * CALL:12 * CALL]),
@@ -266,10 +257,9 @@ def several_gaps(tools: Tools) -> None:
     talk = Talk()
     closing = [*talk.opened(), *exchange(talk), talk.frame(0, FIN | ACK)]
     talk.next[0] += 1
-    tools.told('a closing that is half recorded', pcap([*closing[:-1], talk.frame(1, ACK)]), [ALL],
-               [])
-    tools.told('the closing, acknowledged',
-               pcap([*closing, talk.frame(1, ACK), talk.frame(1, FIN | ACK)]), [ALL], [])
+    for last in ([*closing[:-1], talk.frame(1, ACK)],
+                 [*closing, talk.frame(1, ACK), talk.frame(1, FIN | ACK)]):
+        tools.told('a closing that is half recorded, or acknowledged', pcap(last), [ALL], [])
 
 
 def whole_in_parts(size: int, between: int, part: int) -> list[int]:
@@ -312,20 +302,17 @@ def beginnings_that_are_missing(tools: Tools) -> None:
     """Each stream begins at the first record from which records follow one another."""
     calls, replies = ALL
     for cut in (0, 1, 3, 4, 8, 43, 44, 45, 430):
-        talk = Talk()
-        skipped = -cut % CALL
-        rest = (cut + CALL - 1) // CALL
-        frames = [talk.sent(0, calls[cut:]), talk.sent(1, replies)]
-        told = ([left_out_before('client', skipped)] if skipped
-                else []) + ([replies_left_out(rest)] if rest else [])
-        tools.told(f'cut after {cut}', pcap(frames),
-                   [(calls[rest * CALL:], replies[rest * REPLY:])], told)
+        talk, skipped, rest = Talk(), -cut % CALL, (cut + CALL - 1) // CALL
+        told = [left_out_before('client', skipped)] * (skipped > 0)
+        tools.told(f'cut after {cut}', pcap([talk.sent(0, calls[cut:]), talk.sent(1, replies)]),
+                   [(calls[rest * CALL:], replies[rest * REPLY:])],
+                   told + [replies_left_out(rest)] * (rest > 0))
     for cut in (0, 1, 5, 27, 28):
-        talk = Talk()
-        frames = [talk.sent(0, calls), talk.sent(1, replies[cut:])]
-        skipped = -cut % REPLY
-        tools.told(f'replies cut after {cut}', pcap(frames), [(calls, replies[cut + skipped:])],
-                   [left_out_before('server', skipped)] if skipped else [])
+        talk, skipped = Talk(), -cut % REPLY
+        tools.told(f'replies cut after {cut}',
+                   pcap([talk.sent(0, calls), talk.sent(1, replies[cut:])]),
+                   [(calls, replies[cut + skipped:])],
+                   [left_out_before('server', skipped)] * (skipped > 0))
     talk = Talk()
     frames = [talk.sent(0, b'\0'), talk.sent(0, calls), talk.sent(1, replies)]
     tools.told('a keep-alive first', pcap(frames), [ALL], [left_out_before('client', 1)])
@@ -338,74 +325,60 @@ def beginnings_that_are_missing(tools: Tools) -> None:
               *talk.closed()]
     tools.told('a record that FIN cuts', pcap(frames), [(calls[:-3], replies[:-REPLY])], [])
     tools.told('a whole recording', pcap(whole()), [ALL], [])
-    talk = Talk()
     writing = stream([call(77, NFS, 3, 7, messages.fh(b'abcde') + messages.hyper(0)
                            + messages.word(99) + messages.opaque(bytes(99)))])
     two = stream(CALLS[:2])
     for content in (writing[:90], two + b'\x80\0\0\x99' + b'x' * 28, two + b'x' * 99,
                     two + bytes(3) + two + b'x' * 99):
-        tools.taken('no run of records',
-                    pcap([Talk().sent(0, content),
-                          *Talk(first=(1_000 + len(content), 5_000)).closed()]), [])
+        ends = Talk(first=(1_000 + len(content), 5_000)).closed()
+        tools.taken('no run of records', pcap([Talk().sent(0, content), *ends]), [])
 
 
 def faults_stay(tools: Tools) -> None:
     """No fault in contiguous bytes is passed over, from the SYN on and without it."""
-    mark = struct.pack('>I', 0x81000001)
-    wrong = [('a wrong mark', ALL[0], ALL[1][:10 * REPLY] + mark + ALL[1][10 * REPLY:],
-              'connection 1 server record 11 byte 0: RecordTooLong'),
-             ('a record too short', ALL[0], ALL[1][:10 * REPLY] + struct.pack('>I', 0x80000014)
-              + ALL[1][10 * REPLY + 4:], 'connection 1 server record 11 byte 20: Short'),
-             ('a wrong status', ALL[0], ALL[1][:10 * REPLY + 27] + b'\7' + ALL[1][10 * REPLY + 28:],
-              'connection 1 server record 11 byte 20: BadEnum'),
-             ('a wrong mtype', ALL[0], ALL[1][:10 * REPLY + 11] + b'\7' + ALL[1][10 * REPLY + 12:],
-              'connection 1 server record 11 byte 4: BadEnum'),
-             ('a reply too much', ALL[0], ALL[1][:10 * REPLY] + stream([success(99)])
-              + ALL[1][10 * REPLY:], 'connection 1 server record 11 byte 0: NoCall')]
-    for what, calls, replies, line in wrong:
-        talk = Talk()
-        begun, frames = talk.opened(), [talk.sent(0, calls), talk.sent(1, replies), *talk.closed()]
+    replies, at = ALL[1], 10 * REPLY
+    for offset, size, other, line in (
+            (0, 0, struct.pack('>I', 0x81000001), 'byte 0: RecordTooLong'),
+            (0, 4, struct.pack('>I', 0x80000014), 'byte 20: Short'),
+            (27, 1, b'\7', 'byte 20: BadEnum'), (11, 1, b'\7', 'byte 4: BadEnum'),
+            (0, 0, stream([success(99)]), 'byte 0: NoCall')):
+        wrong, talk = replies[:at + offset] + other + replies[at + offset + size:], Talk()
+        begun, frames = talk.opened(), [talk.sent(0, ALL[0]), talk.sent(1, wrong), *talk.closed()]
         judged = [taken_of(pcap(begun + frames))]
         # what is before a wrong mark cannot be told from a wrong beginning
         if line.endswith('BadEnum'):
             judged.append(taken_of(pcap(frames)))
         for taken in judged:
             tools.write('a', b''.join(capture_of(taken.pairs())))
-            tools.want(what, tools.run('check', 'a'), (2, '', line + '\n'))
+            tools.want(line, tools.run('check', 'a'),
+                       (2, '', f'connection 1 server record 11 {line}\n'))
 
 
 def embedded(tools: Tools) -> None:
     """Records in the data of a record, as of a capture on NFS, are no beginning."""
-    inner = messages.capture((CALLS[:20], REPLIES[:20]))[8:]
-    data = messages.fh(b'abcde') + messages.hyper(0) + messages.word(len(inner)) + messages.word(
-        0) + messages.opaque(inner)
-    writing = stream([call(77, NFS, 3, 7, data)])
-    for cut in (1, 50, 90, 200):
-        talk = Talk()
-        frames = [talk.sent(0, writing[cut:] + ALL[0]), talk.sent(1, ALL[1])]
-        tools.told('a capture written over NFS', pcap(frames), [ALL],
-                   [left_out_before('client', len(writing) - cut)])
-    inner = messages.capture(([], REPLIES))
     bodies = [call(number, NFS, 3, 0) for number in range(3_000)]
-    for many in (messages.capture((bodies, [])), stream(bodies) + b'x' * 99):
-        data = messages.fh(b'abcde') + messages.hyper(0) + messages.word(len(many)) + messages.word(
-            0) + messages.opaque(many)
-        rest_of_call = stream([call(77, NFS, 3, 7, data)])[99:]
-        pieces, talk = rest_of_call + ALL[0], Talk()
-        frames = [talk.sent(0, pieces[at:at + 60_000]) for at in range(0, len(pieces), 60_000)] + [
-            talk.sent(1, ALL[1])]
-        tools.told('much written over NFS', pcap(frames), [ALL],
-                   [left_out_before('client', len(rest_of_call))])
+    for inner, cuts in ((messages.capture((CALLS[:20], REPLIES[:20]))[8:], (1, 50, 90, 200)),
+                        (messages.capture((bodies, [])), (99,)),
+                        (stream(bodies) + b'x' * 99, (99,))):
+        writing = stream([call(77, NFS, 3, 7, messages.fh(b'abcde') + messages.hyper(0)
+                               + messages.word(len(inner)) + messages.word(0)
+                               + messages.opaque(inner))])
+        for cut in cuts:
+            content, talk = writing[cut:] + ALL[0], Talk()
+            frames = [talk.sent(0, content[at:at + 60_000])
+                      for at in range(0, len(content), 60_000)]
+            tools.told('a capture written over NFS', pcap([*frames, talk.sent(1, ALL[1])]), [ALL],
+                       [left_out_before('client', len(writing) - cut)])
+    inner = messages.capture(([], REPLIES))
     answer = stream([success(3, messages.ok(messages.post_op_attr(None), messages.word(len(inner)),
                                             messages.word(1), messages.opaque(inner)))])
     reading = stream([call(3, NFS, 3, 6, messages.fh(b'a') + messages.hyper(0)
-                           + messages.word(9_999))])
-    rest = [success(number) for number in range(40, 50)]
+                           + messages.word(9_999)), *bodies[40:50]])
+    rest = stream(success(number) for number in range(40, 50))
     for cut in (1, 30, 60, 300):
         talk = Talk()
-        calls = reading + stream([call(number, NFS, 3, 0) for number in range(40, 50)])
-        frames = [talk.sent(0, calls), talk.sent(1, answer[cut:] + stream(rest))]
-        tools.told('a capture read over NFS', pcap(frames), [(calls, stream(rest))],
+        frames = [talk.sent(0, reading), talk.sent(1, answer[cut:] + rest)]
+        tools.told('a capture read over NFS', pcap(frames), [(reading, rest)],
                    [left_out_before('server', len(answer) - cut)])
     for content in (os.urandom(5_000), bytes(5_000), b'GET / HTTP/1.1\r\n' * 300,
                     b'\x80\0\0\x28' * 999):
@@ -430,38 +403,30 @@ def search_is_linear(tools: Tools) -> None:
 def files(tools: Tools) -> None:
     """What is printed and with which status; OUT is whole, or as it was."""
     tools.write('a.pcap', pcap(whole()))
+    tools.write('none.pcap', pcap([]))
+    tools.write('old', b'old')
+    os.chmod(tools.path('old'), 0o640)
+    os.symlink('old', tools.path('link'))
     told = ('connection 1: 192.0.2.7:700 and 192.0.2.1:2049: client 192.0.2.7:700 by the SYN'
             + SIZES + '\n')
-    tools.want('a file', (tools.tool('from_pcap', 'a.pcap', 'out'), tools.read('out')),
-               ((0, '', told), packed(ALL)))
-    tools.write('out', b'old')
-    os.chmod(tools.path('out'), 0o640)
-    tools.want('an old OUT', (tools.tool('from_pcap', 'a.pcap', 'out'), tools.read('out')),
-               ((0, '', told), packed(ALL)))
-    tools.want('its mode', os.stat(tools.path('out')).st_mode & 0o777, 0o640)
-    tools.want('standard input', (tools.tool('from_pcap', '-', 'out2', stdin=pcap(whole())),
-                                  tools.read('out2')), ((0, '', told), packed(ALL)))
-    os.symlink('out2', tools.path('link'))
-    tools.want('a link', (tools.tool('from_pcap', 'a.pcap', 'link')[0],
-                          os.path.islink(tools.path('link'))), (0, True))
+    for words, stdin in ((('a.pcap', 'out'), None), (('a.pcap', 'old'), None),
+                         (('-', 'out2'), pcap(whole())), (('a.pcap', 'link'), None)):
+        tools.want(f'{words}', (tools.tool('from_pcap', *words, stdin=stdin),
+                                tools.read(words[1])), ((0, '', told), packed(ALL)))
+    tools.want('what it was', (os.stat(tools.path('old')).st_mode & 0o777,
+                               os.path.islink(tools.path('link'))), (0o640, True))
     tools.want('standard output', tools.tool('from_pcap', 'a.pcap', '/dev/stdout'),
                (0, packed(ALL).decode(errors='replace'), told))
-    tools.want('a full device', tools.tool('from_pcap', 'a.pcap', '/dev/full'),
-               (3, '', told + 'from_pcap: /dev/full: No space left on device\n'))
-    for words, answer in ((('absent', 'x'),
-                           (2, '', 'from_pcap: absent: No such file or directory\n')),
-                          (('.', 'x'), (3, '', 'from_pcap: .: Is a directory\n')),
-                          (('a.pcap', 'absent/x'),
-                           (3, '', 'from_pcap: absent/x: No such file or directory\n')),
-                          (('a.pcap', 'a.pcap'),
-                           (2, '', 'from_pcap: a.pcap is an input, and is not replaced\n')),
-                          (('a.pcap', './a.pcap'),
-                           (2, '', 'from_pcap: ./a.pcap is an input, and is not replaced\n')),
-                          (('out', 'x'), (2, '', 'from_pcap: out is a capture already\n'))):
-        tools.want(' '.join(words), tools.tool('from_pcap', *words), answer)
-    tools.write('none.pcap', pcap([]))
-    tools.want('no connection', tools.tool('from_pcap', 'none.pcap', 'x'),
-               (1, '', 'from_pcap: no connection to pack\n'))
+    for words, status, error in (
+            ('a.pcap /dev/full', 3, told + 'from_pcap: /dev/full: No space left on device'),
+            ('absent x', 2, 'from_pcap: absent: No such file or directory'),
+            ('. x', 3, 'from_pcap: .: Is a directory'),
+            ('a.pcap absent/x', 3, 'from_pcap: absent/x: No such file or directory'),
+            ('a.pcap a.pcap', 2, 'from_pcap: a.pcap is an input, and is not replaced'),
+            ('a.pcap ./a.pcap', 2, 'from_pcap: ./a.pcap is an input, and is not replaced'),
+            ('out x', 2, 'from_pcap: out is a capture already'),
+            ('none.pcap x', 1, 'from_pcap: no connection to pack')):
+        tools.want(words, tools.tool('from_pcap', *words.split()), (status, '', error + '\n'))
     tools.want('no OUT is made', tools.exists('x'), False)
 
 

@@ -269,32 +269,25 @@ def dying(tools: Tools, command: str, how: str) -> str:
 def programs_that_die(tools: Tools) -> None:
     """A program that ends otherwise than it says has given no answer."""
     ways = ((KILLED, 'was killed by signal 9'), (ABSENT, 'ended with status 127'),
-            (FAILED, 'ended with status 3: out of memory'),
-            ('exit 4', 'ended with status 4'))
+            (FAILED, 'ended with status 3: out of memory'), ('exit 4', 'ended with status 4'))
     some = f'{tools.program} show "$2" | head -n 30; '
     rows = [(command, *way) for command in ('check', 'same', 'show', 'nfs3mask') for way in ways]
-    rows += [('same', 'exit 1', 'ended with status 1'), ('same', 'exit 0', 'ended with status 0'),
-             ('check', 'exit 1', 'ended with status 1'),
-             ('check', 'exit 0', 'ended with status 0'),
-             ('show', some + KILLED, 'was killed by signal 9'),
+    rows += [(command, f'exit {status}', f'ended with status {status}') for command, status in (
+        ('same', 1), ('same', 0), ('check', 1), ('check', 0), ('show', 1), ('nfs3mask', 2))]
+    rows += [('show', some + KILLED, 'was killed by signal 9'),
              ('show', some + 'printf "2 client 9 xi"; ' + FAILED, 'ended with status 3'),
-             ('show', 'exit 1', 'ended with status 1'),
-             ('nfs3mask', 'exit 2', 'ended with status 2'),
              ('same', 'echo differ at connection 1; ' + KILLED, 'was killed by signal 9')]
     for command, how, told in rows:
         program = dying(tools, command, how)
         name = command if command == 'nfs3mask' else 'nfs3canon ' + command
-        one_line(tools, f'{command}: {how}', tools.tool('compare', '--program', program, FIRST,
-                                                        CHANGED), 3, f'compare: {name} {told}')
-        if command == 'check':
-            for inputs in ([FIRST], [FIRST, CHANGED]):
-                answer = tools.tool('verdicts', '--program', program, *inputs)
-                one_line(tools, f'{command}: {how}', answer, 3, f'{FIRST}: {name} {told}')
-        if command in ('check', 'show'):
-            for tool_name in ('procedures', 'calls'):
-                answer = tools.tool(tool_name, '--program', program, FIRST)
-                one_line(tools, f'{tool_name}, {command}: {how}', answer, 3,
-                         f'{tool_name}: {FIRST}: {name} {told}')
+        of_one = [('procedures', FIRST), ('calls', FIRST)] * (command in ('check', 'show'))
+        of_verdicts = [('verdicts', FIRST), ('verdicts', FIRST, CHANGED)] * (command == 'check')
+        for tool_name, *inputs in (('compare', FIRST, CHANGED), *of_verdicts, *of_one):
+            begin = '' if tool_name == 'verdicts' else f'{tool_name}: '
+            begin += '' if tool_name == 'compare' else f'{FIRST}: '
+            one_line(tools, f'{tool_name}, {command}: {how}',
+                     tools.tool(tool_name, '--program', program, *inputs), 3,
+                     f'{begin}{name} {told}')
     program = dying(tools, 'show', KILLED)
     tools.want('one that is not asked', tools.tool('compare', '--program', program, FIRST,
                                                    FIRST)[0], 0)
@@ -380,39 +373,34 @@ SHOWN = 'a\\x1b[31m\\x0a\\x5cä\\xff'
 
 def names(tools: Tools) -> None:
     """Names of files are printed as the programs print them, wherever that is."""
-    lost = Talk(701)
-    for name, content in (('.pcap', pcap([*whole(), lost.sent(0, bytes(8))])),
-                          ('.nfs3cap', CAPTURE), ('.text', b'no recording')):
-        with open(os.fsencode(tools.path(HOSTILE + name)), 'wb') as file:
-            file.write(content)
     recording, capture, program = HOSTILE + '.pcap', HOSTILE + '.nfs3cap', [
         '--program', tools.program]
-    rows = [['from_pcap', capture, 'out'], ['from_pcap', HOSTILE, 'out'],
-            ['from_pcap', recording, HOSTILE + '/out'],
-            ['from_pcap', recording, recording], ['where', capture, 'file 8'],
-            ['where', HOSTILE, 'file 8'], ['where', recording, HOSTILE],
-            ['where', recording, 'file 8', HOSTILE], ['compare', *program, recording, capture],
-            ['compare', *program, HOSTILE, capture],
-            ['compare', *program, '--html', recording, capture, capture],
-            ['compare', '--program', HOSTILE, capture, capture],
-            ['verdicts', *program, recording, HOSTILE],
-            ['verdicts', *program, '--junit', recording, capture],
-            ['explain', HOSTILE, 'connection 1 client record 1']]
-    for words in rows:
-        command = [tool(words[0]), *words[1:]]
-        done = ended([os.fsencode(word) for word in command], tools.folder)
-        printed = (done.out + done.error).decode(errors='replace')
-        what = f'{words[0]} {words[-1]!r}'
-        tools.want(what, (re.findall(r'[\x00-\x09\x0b-\x1f]|Traceback', printed),
-                          SHOWN in printed or SHOWN.replace('\\x5c', '\\') in printed),
-                   ([], True))
-    ended([os.fsencode(word) for word in (tool('compare'), *program, '--html', 'page', recording,
-                                          capture)], tools.folder)
-    page = (tools.read('page') or b'').decode()
+    for name, content in ((recording, pcap([*whole(), Talk(701).sent(0, bytes(8))])),
+                          (capture, CAPTURE), (HOSTILE + '.text', b'no recording')):
+        with open(os.fsencode(tools.path(name)), 'wb') as file:
+            file.write(content)
+
+    def printed(name: str, *words: str) -> str:
+        done = ended([os.fsencode(word) for word in (tool(name), *words)], tools.folder)
+        return (done.out + done.error).decode(errors='replace')
+    for words in (['from_pcap', capture, 'out'], ['from_pcap', HOSTILE, 'out'],
+                  ['from_pcap', recording, HOSTILE + '/out'], ['from_pcap', recording, recording],
+                  ['where', capture, 'file 8'], ['where', HOSTILE, 'file 8'],
+                  ['where', recording, HOSTILE], ['where', recording, 'file 8', HOSTILE],
+                  ['compare', *program, recording, capture],
+                  ['compare', *program, HOSTILE, capture],
+                  ['compare', *program, '--html', recording, capture, capture],
+                  ['compare', '--program', HOSTILE, capture, capture],
+                  ['verdicts', *program, recording, HOSTILE],
+                  ['verdicts', *program, '--junit', recording, capture],
+                  ['explain', HOSTILE, 'connection 1 client record 1']):
+        text = printed(*words)
+        tools.want(f'{words[0]} {words[-1]!r}', (
+            re.findall(r'[\x00-\x09\x0b-\x1f]|Traceback', text),
+            SHOWN in text or SHOWN.replace('\\x5c', '\\') in text), ([], True))
+    printed('compare', *program, '--html', 'page', '--json', 'json', recording, capture)
+    page, content = ((tools.read(name) or b'').decode() for name in ('page', 'json'))
     tools.want('the page', (page.count(SHOWN), '\x1b' in page), (4, False))
-    ended([os.fsencode(word) for word in (tool('compare'), *program, '--json', 'json', recording,
-                                          capture)], tools.folder)
-    content = (tools.read('json') or b'').decode()
     tools.want('JSON', (re.findall(r'\\ud[89a-f]', content),
                         [run['name'] for run in json.loads(content)['runs']]),
                ([], [SHOWN + '.pcap', SHOWN + '.nfs3cap']))

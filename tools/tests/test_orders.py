@@ -1,18 +1,24 @@
-"""Tests of tools/compare on runs whose calls come in another order."""
+"""Tests of tools/compare on runs whose calls come in another order, and of what writes them so."""
+import pathlib
 import random
+from collections import Counter
 from collections.abc import Sequence
 
 from examples import messages
 from examples.messages import (
-    MOUNT, NFS, call, dirop, fattr, fh, hyper, ok, opaque, post_op_attr, sattr, success, wcc, word)
+    NFS, call, dirop, fattr, fh, hyper, ok, opaque, post_op_attr, sattr, success, wcc, word)
 from examples.packets import Talk, pcap
+from tests.shared.traffic import Names, Traffic
 
+from ..nfs3tools.comparison.exchanges.reordered import Numbered, Rewriting, write_in_order
 from ..nfs3tools.comparison.values.classes import (
     Way, default_mask, following, in_any_order, mask_of)
-from .comparisons import Comparisons, Conversation, Exchange, conversation_of
+from ..nfs3tools.recordings.taken import take
+from ..nfs3tools.shared.programs import Died
+from .comparisons import Comparisons, Conversation, conversation_of
 from .scripts import measured
 
-GETATTR, LOOKUP, WRITE, CREATE, MKDIR, REMOVE = 1, 3, 7, 8, 9, 12
+GETATTR, LOOKUP, WRITE, CREATE, REMOVE = 1, 3, 7, 8, 12
 
 
 def asked_again(number: int) -> Conversation:
@@ -27,13 +33,12 @@ def calls_that_only_ask(place: Comparisons) -> None:
     place.put_both(asked_again(4), asked_again(1))
     asked, where = '3 NFSPROC3_GETATTR ?/f', ', first: connection 1 client record '
     out = place.says('left out', 0, 'same but for calls left out', '--order', 'any')
-    place.want('listed', ('; left out: 3 GETATTR of the first run' in out[1],
-                          out[2].startswith(f'left out of the first run: {asked}{where}'),
-                          out[3].endswith('; left out: 3 GETATTR only in the first run')),
-               (True, True, True))
     every = [line for line in place.compare('--order', 'any', '--all', 'a', 'b')[1]
              if line.startswith('left out of the first run: 1 ')]
-    place.want('all', (len(every), len(set(every))), (3, 3))
+    place.want('listed', ('; left out: 3 GETATTR of the first run' in out[1],
+                          out[2].startswith(f'left out of the first run: {asked}{where}'),
+                          out[3].endswith('; left out: 3 GETATTR only in the first run'),
+                          len(every), len({*every})), (True, True, True, 3, 3))
     status, out, _ = place.compare('b', 'a')
     place.want('of the second', (status, '; left out: 3 GETATTR of the second run' in out[1]),
                (1, True))
@@ -47,54 +52,6 @@ def looked_up(*names: bytes) -> Conversation:
     """LOOKUPs in one folder, of names that are not there."""
     return conversation_of((LOOKUP, dirop(b'top', name), messages.failed(2, post_op_attr()))
                     for name in names)
-
-
-def runs_without_a_common_call(place: Comparisons) -> None:
-    """Names that the other run does not know are differences."""
-    place.put('a', looked_up(b'a0', b'a1', b'a2'))
-    for names in ((b'b0', b'b1'), (b'b0',)):
-        place.put('b', looked_up(*names))
-        for words in (['a', 'b'], ['b', 'a']):
-            status, out, error = place.compare('--order', 'any', *words)
-            place.want(f'{names} {words}', (status, out[1].startswith('differ in any order'),
-                                            error), (1, True, ''))
-    place.put('b', looked_up(b'b0', b'b1', b'b2'))
-    status, out, _ = place.compare('--order', 'any', '--all', 'a', 'b')
-    place.want('as many', (status, out[1], [line for line in out if line.startswith('  ')]), (
-        1, 'differ in any order at connection 1 client record 1', [
-            line for number in range(3) for line in (f'  - name="a{number}"',
-                                                     f'  + name="b{number}"')]))
-
-
-def questions_that_are_changed(place: Comparisons) -> None:
-    """A client that asks for a wrong name has changed a call, wherever it asks."""
-    names = [b'f%d' % number for number in range(6)]
-    def others(wrong: bytes, at: int = 3) -> list[bytes]:
-        return [*names[:at], wrong, *names[at + 1:]]
-    place.put_both(looked_up(*names), looked_up(*others(b'wrong')))
-    status, out, _ = place.compare('--order', 'any', 'a', 'b')
-    place.want('another name', (status, out[1:5]), (1, [
-        'differ in any order at connection 1 client record 4',
-        'NFSPROC3_LOOKUP ?/f3: connection 1 client record 4 | connection 1 client record 4',
-        '  - name="f3"', '  + name="wrong"']))
-    place.put('b', looked_up(*names[:3], *names[4:], b'wrong'))
-    status, out, _ = place.compare('--order', 'any', 'a', 'b')
-    place.want('in another place',
-               (status, [line.partition(': ')[0] for line in out if line.startswith('only in')]),
-               (1, ['only in the first run', 'only in the second run']))
-
-
-def a_client_without_commit(place: Comparisons) -> None:
-    """COMMIT asks the server to keep what was written: it is not left out."""
-    steps = [(GETATTR, fh(b'a'), ok(fattr(1, 1))),
-             (WRITE, fh(b'a') + hyper(0) + word(1) + word(0) + opaque(b'x'),
-              ok(wcc(), word(1), word(0), b'verifier')),
-             (21, fh(b'a') + hyper(0) + word(0), ok(wcc(), b'verifier'))]
-    place.put_both(conversation_of(steps), conversation_of(steps[:2]))
-    for order in ('any', 'strict'):
-        status, out, _ = place.compare('--order', order, 'a', 'b')
-        place.want(order, (status, out[2].partition(': connection')[0]),
-                   (1, 'only in the first run: NFSPROC3_COMMIT'))
 
 
 def seen_in_the_middle(place: Comparisons) -> None:
@@ -111,19 +68,6 @@ def seen_in_the_middle(place: Comparisons) -> None:
     for words in ([], ['--mask=-wcc']):
         out = place.says(f'compared {words}', 1, 'differ in any order', *words, '--order', 'any')
         place.want(f'found {words}', '  - obj after.size=8' in out, True)
-
-
-def folders_that_others_change(place: Comparisons) -> None:
-    """A count of links that one run alone has is a difference."""
-    def run(*links: int) -> Conversation:
-        return conversation_of((GETATTR, fh(b'folder'), ok(fattr(2, 5, nlink=nlink)))
-                               for nlink in links)
-    place.put_both(run(2, 3, 4, 5), run(3, 2, 4, 5))
-    place.want('links', place.compare('--order', 'any', 'a', 'b')[1][1],
-               'same in another order: 4 calls; 1 reordered; 1 reply reordered')
-    place.put('b', run(9, 2, 3, 5))
-    status, out, _ = place.compare('--order', 'any', 'a', 'b')
-    place.want('another count', (status, out[-1].endswith('; obj.nlink in 1 reply')), (1, True))
 
 
 def masks_of_any_order(place: Comparisons) -> None:
@@ -185,28 +129,27 @@ def values_that_stand_for_others(place: Comparisons) -> None:
     """Equal values that correspond to others elsewhere are marked so."""
     def run(*verifiers: bytes) -> Conversation:
         return conversation_of((CREATE, dirop(b'top', b'f%d' % at) + messages.how(2, verifier),
-                         ok(messages.made(None, None, wcc())))
-                        for at, verifier in enumerate(verifiers))
+                                ok(messages.made(None, None, wcc())))
+                               for at, verifier in enumerate(verifiers))
     a, b, c = (letter * 8 for letter in (b'a', b'b', b'c'))
-    place.put_both(run(a, b, b), run(a, c, b))
-    where = 'connection 1 client record %d'
-    status, out, _ = place.compare('a', 'b')
-    place.want('one', (status, out[2:4]), (1, [
-        f'NFSPROC3_CREATE ?/f2: {where % 3} | {where % 3}',
-        f'  = createverf={b.hex()}    # elsewhere {b.hex()} of the first run is {c.hex()} of the '
-        'second']))
-    place.put_both(run(a, b, b, b), run(a, c, b, b))
-    status, out, _ = place.compare('a', 'b')
-    line = ('2 messages have values that are equal in both runs, and that correspond to others '
-            'elsewhere, first: '
-            f'{where % 3} | {where % 3}: createverf of NFSPROC3_CREATE 2')
-    place.want('several', (status, out[2], len(out)), (1, line, 5))
-    status, out, _ = place.compare('--all', 'a', 'b')
-    place.want('all', (status, sum(line.startswith('  = ') for line in out)), (1, 2))
-    for words in (['a', 'b'], ['--all', 'a', 'b'], ['--brief', 'a', 'b']):
-        values = [line.partition('=')[2] for line in place.compare(*words)[1]
-                  if line.startswith(('  - ', '  + '))]
-        place.want('no two equal values', len(values), len(set(values)))
+    where = 'connection 1 client record 3 | connection 1 client record 3'
+    for first, second, lines in (
+            (run(a, b, b), run(a, c, b), [
+                f'NFSPROC3_CREATE ?/f2: {where}',
+                f'  = createverf={b.hex()}    # elsewhere {b.hex()} of the first run is {c.hex()} '
+                'of the second']),
+            (run(a, b, b, b), run(a, c, b, b), [
+                '2 messages have values that are equal in both runs, and that correspond to others '
+                f'elsewhere, first: {where}: createverf of NFSPROC3_CREATE 2'])):
+        place.put_both(first, second)
+        status, out, _ = place.compare('a', 'b')
+        place.want(f'{len(lines)}', (status, out[2:2 + len(lines)]), (1, lines))
+    place.want('several', len(out), 5)
+    for words, number in ((['a', 'b'], 0), (['--all', 'a', 'b'], 2), (['--brief', 'a', 'b'], 0)):
+        out = place.compare(*words)[1]
+        values = [line.partition('=')[2] for line in out if line.startswith(('  - ', '  + '))]
+        place.want(f'{words}', (sum(line.startswith('  = ') for line in out),
+                                len(values) == len({*values})), (number, True))
 
 
 def orders_of_replies(place: Comparisons) -> None:
@@ -222,89 +165,6 @@ def orders_of_replies(place: Comparisons) -> None:
     place.wants('strictly', 1,
                 ['connection 1', '  1 of 7 replies of the connection come in another order',
                  line], '--order', 'strict')
-
-
-def connections_by_what_they_ask(place: Comparisons) -> None:
-    """Connections are matched by their calls, in any order."""
-    def connection(name: bytes, mode: int) -> Conversation:
-        return ([call(1, MOUNT, 3, 1, opaque(b'/')), call(2, NFS, 3, LOOKUP, dirop(b'top', name)),
-                 call(3, NFS, 3, GETATTR, fh(name))],
-                [success(1, ok(fh(b'top'), word(0))),
-                 success(2, ok(fh(name), post_op_attr(), post_op_attr())),
-                 success(3, ok(fattr(1, 5, mode=mode)))])
-    names = [b'file %d' % number for number in range(20)]
-    place.put('a', *(connection(name, 0o644) for name in names))
-    place.put('b', ([call(1, NFS, 3, 0)], [success(1)]),
-              *(connection(name, 0o600 if name == names[3] else 0o644) for name in names[::-1]))
-    status, out, _ = place.compare('--order', 'strict', 'a', 'b')
-    found = [line for line in out[2:] if line[0] != ' ']
-    place.want('strict', (status, found[:2]), (1, [
-        'NFSPROC3_GETATTR reply /file 3: connection 4 server record 3 | connection 18 server '
-        'record 3', 'only in the second run: connection 1']))
-    place.want('in words', found[-1],
-               '60 of 61 calls matched; 19 connections reordered; 1 only in the second run; '
-               'obj.mode in 1 reply')
-
-
-def calls_between_neighbours(place: Comparisons) -> None:
-    """Calls between the same neighbours are matched, whatever they ask."""
-    def run(name: bytes) -> Conversation:
-        return conversation_of([(GETATTR, fh(b'a'), ok(fattr(1, 1))),
-                         (CREATE, dirop(b'top', name) + word(0) + sattr(),
-                          ok(messages.made(None, None, wcc()))),
-                         (GETATTR, fh(b'b'), ok(fattr(1, 2)))])
-    place.put_both(run(b'x'), run(b'y'))
-    line = 'NFSPROC3_CREATE ?/x: connection 1 client record 2 | connection 1 client record 2'
-    for order in ('strict', 'any'):
-        status, out, _ = place.compare('--order', order, 'a', 'b')
-        place.want(order, (status, out[2:5]), (1, [line, '  - name="x"', '  + name="y"']))
-
-
-def one_call_more_among_alike_ones(place: Comparisons) -> None:
-    """What is looked up after it shows it, and has no other turn."""
-    def run(is_made: bool) -> Conversation:
-        def found(folder: bytes, name: bytes, kind: int, nlink: int) -> Exchange:
-            return LOOKUP, dirop(folder, name), ok(
-                fh(name), post_op_attr(fattr(kind, 5, nlink=nlink)), post_op_attr())
-        steps = list[Exchange]()
-        for number in range(9):
-            if is_made and number == 4:
-                steps += [found(b'top', b'folder', 2, 2),
-                          (MKDIR, dirop(b'folder', b'new') + sattr(),
-                           ok(messages.made(b'new', None, wcc())))]
-            steps += [found(b'top', b'folder', 2, 2 + (is_made and number > 3)),
-                      found(b'folder', b'file %d' % number, 1, 1)]
-        return conversation_of(steps)
-    place.put_both(run(False), run(True))
-    made = 'only in the second run: NFSPROC3_MKDIR ?/folder/new: connection 1 client record 10'
-    status, out, _ = place.compare('--order', 'strict', 'a', 'b')
-    found = [line for line in place.compare('--order', 'any', 'a', 'b')[1][2:]
-             if line.startswith('only in')]
-    place.want('any', found, [made])
-    place.want('strict', (status, [line for line in out[2:-2] if line[:2] != '  ']), (1, [
-        made, '4 replies of NFSPROC3_LOOKUP ?/folder, first: connection 1 server record 11 | '
-        'connection 1 server record 13',
-        'only in the second run: NFSPROC3_LOOKUP ?/folder: connection 1 client record 11']))
-    place.want('in words', out[-1],
-               '18 of 20 calls matched; 2 only in the second run; obj.nlink in 4 replies')
-
-
-def files_that_were_made_again(place: Comparisons) -> None:
-    """Two files that had one name, one after the other, are two, and a rename moves a file."""
-    def run(order: Sequence[int], prefix: bytes) -> Conversation:
-        def made(number: int) -> bytes:
-            return ok(messages.made(prefix + b'%d' % number, None, wcc()))
-        steps = [(CREATE, dirop(b'top', b'x') + word(0) + sattr(), made(1)),
-                 (GETATTR, fh(prefix + b'1'), ok(fattr(1, 1, size=1))),
-                 (REMOVE, dirop(b'top', b'x'), ok(wcc())),
-                 (CREATE, dirop(b'top', b'x') + word(0) + sattr(), made(2)),
-                 (GETATTR, fh(prefix + b'2'), ok(fattr(1, 1, size=1))),
-                 (GETATTR, fh(b'other'), ok(fattr(1, 9)))]
-        return conversation_of(steps[at] for at in order)
-    place.put_both(run((0, 1, 2, 3, 4, 5), b'a'), run((5, 0, 1, 2, 3, 4), b'b'))
-    status, out, _ = place.compare('--order', 'any', 'a', 'b')
-    place.want('again', (status, out[2]),
-               (0, '6 of 6 calls matched; 1 reordered; 1 reply reordered'))
 
 
 def one_name_for_many_files(place: Comparisons) -> None:
@@ -349,3 +209,105 @@ def many_in_another_order(place: Comparisons) -> None:
     place.want('same', (status, lines[1][:36]), (0, 'same in another order: 8,000 calls; '))
     place.want(f'{seconds} seconds', seconds < 8, True)
     place.want(f'{memory} bytes', memory < 80e6, True)
+
+
+# --- Runs that are written in another order ---
+
+Said = tuple[bytes, tuple[bytes, ...]]  # a call and its replies, without their xids
+
+
+def one_of(connection: int, record: int, replies: Sequence[int]) -> Numbered:
+    """An exchange of one call."""
+    return Numbered(connection, [record], replies)
+
+
+def exchanges_of(connections: Sequence[Conversation]) -> list[tuple[Numbered, Said]]:
+    """The exchanges of a capture: replies belong to the call with their xid, by turns."""
+    out = []
+    for number, (calls, replies) in enumerate(connections, 1):
+        answers: dict[bytes, list[tuple[int, bytes]]] = {}
+        for record, reply in enumerate(replies, 1):
+            answers.setdefault(reply[:4], []).append((record, reply[4:]))
+        left = Counter(body[:4] for body in calls)
+        for record, body in enumerate(calls, 1):
+            left[body[:4]] -= 1
+            waiting = answers.get(body[:4], [])
+            own = waiting if not left[body[:4]] else waiting[:1]
+            answers[body[:4]] = waiting[len(own):]
+            out.append((one_of(number, record, [at for at, _ in own]),
+                        (body[4:], tuple(said for _, said in own))))
+    return out
+
+
+def written(place: Comparisons, chosen: Sequence[Numbered],
+            left_out: Sequence[Numbered]) -> list[Said]:
+    """Writes the capture `a` in an order, and returns what has been written. Its xids have to be
+    the turns."""
+    path = pathlib.Path(place.folder)
+    with take(str(path / 'a')) as taken:
+        write_in_order(taken, chosen, left_out, str(path / 'ordered'), Rewriting)
+    with take(str(path / 'ordered')) as taken:
+        (connection,) = taken.connections
+        calls, replies = ([record.body for record in stream.records()]
+                          for stream in (connection.client, connection.server))
+    place.want('xids', [int.from_bytes(body[:4], 'big') for body in calls],
+               list(range(1, len(chosen) + 1)))
+    return [said for _, said in exchanges_of([(calls, replies)])]
+
+
+def shuffled(chance: random.Random, seed: int) -> tuple[list[Conversation],
+                                                        list[tuple[Numbered, Said]]]:
+    """The connections of random traffic, and its exchanges in any order."""
+    connections = Traffic(seed, Names.drawn(chance)).connections
+    known = exchanges_of(connections)
+    chance.shuffle(known)
+    return connections, known
+
+
+def runs_are_written_anew(place: Comparisons) -> None:
+    """What is written are the chosen exchanges in their order."""
+    for seed in range(60):
+        chance = random.Random(seed)
+        connections, known = shuffled(chance, seed)
+        place.put('a', *connections)
+        number = chance.randrange(len(known) + 1)
+        chosen, left_out = known[:number], known[number:]
+        place.want(f'seed {seed}', written(place, [one for one, _ in chosen],
+                                           [one for one, _ in left_out]),
+                   [said for _, said in chosen])
+        if chosen:
+            place.want(f'seed {seed} is a capture', place.run('check', 'ordered')[0], 0)
+
+
+def records_of_several_fragments(place: Comparisons) -> None:
+    """A record is written as one fragment."""
+    bodies = [call(xid, NFS, 3, 0) for xid in (7, 8)]
+    stream = b''.join(messages.fragment(body[:4], is_last=False)
+                      + messages.fragment(b'', is_last=False) + messages.fragment(body[4:])
+                      for body in bodies)
+    place.write('a', b''.join(messages.version_1([([messages.chunk(stream)], [])])))
+    found = written(place, [one_of(1, 2, []), one_of(1, 1, [])], [])
+    place.want('written', found, [(body[4:], ()) for body in reversed(bodies)])
+    both = messages.fragment(word(1) + bodies[1][4:]) + messages.fragment(word(2) + bodies[0][4:])
+    place.want('fragments', place.read('ordered'),
+               b''.join(messages.version_1([([messages.chunk(both)], [])])))
+
+
+def orders_that_are_none(place: Comparisons) -> None:
+    """Exchanges twice, missing or not there, and replies of others."""
+    place.put('a', ([call(xid, NFS, 3, 0) for xid in (7, 8)], [success(7), success(8)]))
+    first, second = one_of(1, 1, [1]), one_of(1, 2, [2])
+    orders = {'twice': [first, second, first], 'missing': [first],
+              'not there': [first, second, one_of(1, 3, [])],
+              'a reply is missing': [first, one_of(1, 2, [])],
+              'a reply twice': [first, one_of(1, 2, [2, 2])],
+              'replies of others': [one_of(1, 1, [2]), one_of(1, 2, [1])],
+              'record 0': [first, second, one_of(1, 0, [])]}
+    for name, order in orders.items():
+        try:
+            written(place, order, [])
+            place.want(name, 'written', 'refused')
+        except Died as died:
+            place.want(name, type(died).__name__, 'WrongOrder')
+    place.want('left out', written(place, [second], [first]),
+               [(call(8, NFS, 3, 0)[4:], (success(8)[4:],))])

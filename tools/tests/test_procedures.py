@@ -1,6 +1,8 @@
 """Tests of `tools/procedures`."""
 import csv
 import io
+import itertools
+import json
 import re
 from typing import Any, NamedTuple
 
@@ -9,7 +11,8 @@ from examples.messages import (
     success, word)
 from examples.packets import Talk, pcap
 
-from .scripts import Tools, measured, stream, sums as sum_line, whole, write_faulty
+from .scripts import (
+    Tools, connection_of, measured, stream, sums as sum_line, whole, write_faulty)
 
 GETATTR, LOOKUP, MNT = 1, 3, 1  # by their numbers
 HEADS = ['procedure', 'calls', 'again', 'replies', 'no reply', 'call bytes',
@@ -17,7 +20,7 @@ HEADS = ['procedure', 'calls', 'again', 'replies', 'no reply', 'call bytes',
 LONGEST = HEADS.index('longest')
 ENDS = 'client 192.0.2.7:700, server 192.0.2.1:2049'
 ATTRIBUTES = ok(fattr(1, 5))
-MANY, MOST_MEMORY = 30_000, 48 << 20
+MANY = 15_000
 
 
 class Row(NamedTuple):
@@ -109,36 +112,34 @@ def counts_by_hand(tools: Tools) -> None:
     frames, rows = one_of_each(Talk())
     tools.write('a.pcap', pcap(frames + whole(port=701)))
     status, tables, error = procedures(tools, 'a.pcap')
+    raw = '1 PORTMAP DUMP, 1 PORTMAP GETPORT'
     titles = [f'a.pcap: connection 1: {ENDS}: ok',
               f'a.pcap: connection 2: {ENDS.replace("700", "701")}: ok',
-              'a.pcap in all: ' + sum_line(2, raw='1 PORTMAP DUMP, 1 PORTMAP GETPORT', silent=1)]
-    tools.want('titles', (status, list(tables), error), (0, titles, ''))
-    tools.want('heads', [table[0] for table in tables.values()], [HEADS] * 3)
-    tools.want('the first', tables[titles[0]][1:-1], [row.cells() for row in rows])
+              'a.pcap in all: ' + sum_line(2, raw=raw, silent=1)]
+    tools.want('titles', (status, list(tables), error, [table[0] for table in tables.values()]),
+               (0, titles, '', [HEADS] * 3))
     calls, replies = (sum(row.bytes[side] for row in rows) for side in range(2))
     errors = {'NFS3ERR_STALE': 2, 'AUTH_BADCRED': 1, 'MNT3ERR_ACCES': 1, 'NFS3ERR_NOENT': 1,
               'PROC_UNAVAIL': 1, 'RPC_MISMATCH': 1}
     # The latencies of all are 2, 2, 1, 2, 1, 1 and 1: their sum is 10, and 1.43 is the average.
-    tools.want('its sum', tables[titles[0]][-1],
-               Row('in all', (9, 1, 8, 1), (calls, replies), (1, 2, 2, 1, 10), '1:1 frame 4',
-                   errors).cells())
+    every = Row('in all', (9, 1, 8, 1), (calls, replies), (1, 2, 2, 1, 10), '1:1 frame 4', errors)
+    tools.want('the first', tables[titles[0]][1:], [row.cells() for row in (*rows, every)])
     # The 39 NULL calls are in the frames 24 to 28, and their replies in the frames 29 to 33.
     # (the first has the xid and the bytes of a call of the first connection)
+    second, both = ([cells[:5] for cells in tables[title][1:]] for title in titles[1:])
     numbers = ['39', '1', '39', '0']
-    tools.want('the second', [cells[:5] for cells in tables[titles[1]][1:]],
-               [['NFSPROC3_NULL', *numbers], ['in all', *numbers]])
-    sums = [cells[:5] for cells in tables[titles[2]][1:]]
-    tools.want('in all', (sums[0], sums[1:-1], sums[-1]),
-               (['NFSPROC3_NULL', '40', '1', '39', '1'], [row.cells()[:5] for row in rows[1:]],
-                ['in all', '48', '2', '47', '1']))
+    tools.want('the second', second, [['NFSPROC3_NULL', *numbers], ['in all', *numbers]])
+    tools.want('in all', both, [['NFSPROC3_NULL', '40', '1', '39', '1'],
+                                *(row.cells()[:5] for row in rows[1:]),
+                                ['in all', '48', '2', '47', '1']])
     status, tables, _ = procedures(tools, '--total', 'a.pcap')
     tools.want('--total', (status, list(tables)), (0, titles[2:]))
     status, tables, _ = procedures(tools, '--total', 'a.pcap', '-', stdin=pcap(whole()))
     last = tables[list(tables)[-1]]
-    tools.want('two recordings', (list(tables)[-1], [cells[1] for cells in last][-1],
+    tools.want('two recordings', (list(tables)[-1], last[-1][1],
                                   [cells[LONGEST] for cells in last[1:3]]),
-               ('all recordings: ' + sum_line(3, raw='1 PORTMAP DUMP, 1 PORTMAP GETPORT', silent=1),
-                '87', ['a.pcap 2:1 frame 24', 'a.pcap 1:1 frame 4']))
+               ('all recordings: ' + sum_line(3, raw=raw, silent=1), '87',
+                ['a.pcap 2:1 frame 24', 'a.pcap 1:1 frame 4']))
 
 
 def ranks_of_latencies(tools: Tools) -> None:
@@ -160,39 +161,42 @@ def ranks_of_latencies(tools: Tools) -> None:
 
 def xids_that_come_again(tools: Tools) -> None:
     """A call with another handle is no retransmission, and has its reply."""
-    first, second = (call(9, NFS, 3, GETATTR, fh(name)) for name in (b'a', b'b'))
-    reply = success(9, ATTRIBUTES)
-    for bodies, wanted in (([(0, first), (1, reply), (0, second), (1, reply)], (2, 0, 2, 0, 1_000)),
-                           ([(0, first), (0, second), (0, first), (0, second), (1, reply)],
-                            (4, 2, 1, 1, 4_000)),
-                           ([(0, first), (0, first), (0, second), (1, reply), (1, reply),
-                             (1, reply)], (3, 1, 3, 0, 3_000)),
-                           ([(0, first), (0, first), (0, first)], (3, 2, 0, 1, None))):
+    names = 'calls', 'again', 'replies', 'unanswered', 'most_ns'
+    bodies = {'a': (0, call(9, NFS, 3, GETATTR, fh(b'a'))),
+              'b': (0, call(9, NFS, 3, GETATTR, fh(b'b'))), '<': (1, success(9, ATTRIBUTES))}
+    for order, *wanted in (('a<b<', 2, 0, 2, 0, 1_000), ('abab<', 4, 2, 1, 1, 4_000),
+                           ('aab<<<', 3, 1, 3, 0, 3_000), ('aaa', 3, 2, 0, 1, None)):
         talk = Talk()
-        tools.write('a.pcap',
-                    pcap(talk.opened() + [talk.sent(side, fragment(body))
-                                          for side, body in bodies]))
+        tools.write('a.pcap', pcap(talk.opened() + [
+            talk.sent(side, fragment(body)) for side, body in map(bodies.__getitem__, order)]))
         row = tables_of(tools, 'a.pcap')[0]['procedures'][0]
-        tools.want(str(wanted),
-                   tuple(row[name] for name in ('calls', 'again', 'replies', 'unanswered',
-                                                'most_ns')), wanted)
+        tools.want(order, [row[name] for name in names], wanted)
 
 
 def judged_in_part(tools: Tools) -> None:
-    """Titles, words and status are those of tools/verdicts."""
-    faulty = write_faulty(tools)
+    """Titles, words and status are those of tools/verdicts, and so are those of tools/calls, in
+    each form."""
+    faulty, allowed = write_faulty(tools), ['--allow-losses', '--allow-not-checked']
     tools.write('first.pcap', pcap(whole()[:3] + whole()[4:]))
-    for name in (*faulty, 'first.pcap'):
-        for options in ((), ('--allow-losses',)):
-            status, tables, error = procedures(tools, *options, name)
-            judged, out, told = tools.tool('verdicts', *options, name)
-            verdicts = [line.split('  ')[-1] for line in out.splitlines()[1:-1]]
-            titles = list(tables)
-            tools.want(f'{name}: what is told', (status, error), (judged, told))
-            tools.want(f'{name}: verdicts',
-                       [verdict in title for verdict, title in zip(verdicts, titles)],
-                       [True] * len(verdicts))
-            tools.want(f'{name}: sums', titles[-1], f'{name} in all: {out.splitlines()[-1]}')
+    tools.write('four.pcap', pcap(connection_of([call(1, NFS, 4, 1, bytes(8))],
+                                                [success(1, bytes(8))])))
+    for name, options in itertools.product((*faulty, 'first.pcap', 'four.pcap'), ([], allowed)):
+        status, tables, error = procedures(tools, *options, name)
+        judged, out, told = tools.tool('verdicts', *options, '--json', 'x.json', name)
+        *verdicts, last = [line.split('  ')[-1].strip() for line in out.splitlines()[1:]]
+        tools.want(f'{name}: what is told', (status, error), (judged, told))
+        tools.want(f'{name}: verdicts', [verdict in title for verdict, title in zip(
+            verdicts, tables)], [True] * len(verdicts))
+        tools.want(f'{name}: sums', list(tables)[-1], f'{name} in all: {last}')
+        listed, as_json, as_csv = (tools.tool('calls', *options, *form, name)
+                                   for form in ([], ['--json'], ['--csv']))
+        tools.want(f'calls of {name}', (
+            listed[0], as_json[0], as_csv[0], listed[1].splitlines()[-1],
+            as_csv[2].splitlines()[-1], json.loads(as_json[1])['counts']),
+            (*[judged] * 3, last, last, tools.json('x.json')['counts']))
+        tools.want(f'reasons of {name}', (
+            listed[2].startswith(told),
+            [row for row in verdicts if row != 'ok' and row not in listed[2]]), (True, []))
     _, tables, _ = procedures(tools, 'bad.pcap')
     title = next(title for title in tables if 'connection 2' in title)
     numbers = ['1', '0', '1', '0']
@@ -208,24 +212,21 @@ def judged_in_part(tools: Tools) -> None:
 def sorted_rows(tools: Tools) -> None:
     """The largest number is first, and the sum last, also in JSON and CSV."""
     tools.write('a.pcap', pcap(one_of_each(Talk())[0]))
-    null, getattr_row, lookup, mnt = 'NULL', 'GETATTR', 'LOOKUP', 'MNT'
-    dump, getport = 'DUMP', 'GETPORT'
-    for column, wanted in (('procedure', [null, getattr_row, lookup, mnt, dump, getport]),
-                           ('calls', [getattr_row, null, lookup, mnt, dump, getport]),
-                           ('no-reply', [null, getattr_row, lookup, mnt, dump, getport]),
-                           ('most', [getattr_row, lookup, mnt, dump, getport, null]),
-                           ('sum', [getattr_row, lookup, mnt, dump, getport, null]),
-                           ('errors', [getattr_row, lookup, mnt, dump, getport, null])):
-        status, tables, _ = procedures(tools, '--total', '--sort', column, '--csv',
-                                       'x.csv', 'a.pcap')
-        names = [re.split('[_ ]', cells[0])[-1] for cells in list(tables.values())[0][1:-1]]
-        tools.want(column, (status, names), (0, wanted))
-        rows = list(csv.DictReader(io.StringIO((tools.read('x.csv') or b'').decode())))
-        tools.want(f'CSV by {column}',
-                   [re.split('[_ ]', row['procedure'])[-1] for row in rows], wanted * 2)
-        found = tables_of(tools, '--sort', column, 'a.pcap')[0]['procedures']
-        tools.want(f'JSON by {column}', [re.split('[_ ]', row['procedure'])[-1] for row in found],
-                   [*wanted, 'in all'.split()[-1]])
+    for column, order in (('procedure', 'NULL GETATTR LOOKUP MNT DUMP GETPORT'),
+                          ('calls', 'GETATTR NULL LOOKUP MNT DUMP GETPORT'),
+                          ('no-reply', 'NULL GETATTR LOOKUP MNT DUMP GETPORT'),
+                          ('most', 'GETATTR LOOKUP MNT DUMP GETPORT NULL'),
+                          ('sum', 'GETATTR LOOKUP MNT DUMP GETPORT NULL'),
+                          ('errors', 'GETATTR LOOKUP MNT DUMP GETPORT NULL')):
+        status, tables, _ = procedures(tools, '--total', '--sort', column, '--csv', 'x.csv',
+                                       '--json', 'x.json', 'a.pcap')
+        rows = csv.DictReader(io.StringIO((tools.read('x.csv') or b'').decode()))
+        listed = tools.json('x.json')['tables'][0]['procedures']
+        for form, names in (('text', [cells[0] for cells in [*tables.values()][0][1:-1]]),
+                            ('CSV', [row['procedure'] for row in rows][:6]),
+                            ('JSON', [row['procedure'] for row in listed[:-1]])):
+            tools.want(f'{form} by {column}', (status, [re.split('[_ ]', name)[-1]
+                                                        for name in names]), (0, order.split()))
     tools.want('another column', tools.tool('procedures', '--sort', 'colour', 'a.pcap')[0], 2)
     # Beside a recording with 39 calls of NULL these are first, and without them those of GETATTR.
     tools.write('b.pcap', pcap(whole()))
@@ -259,25 +260,23 @@ def side_by_side(tools: Tools) -> None:
     # without the last raw call, and with 39 NULL calls
     tools.write('b.pcap', pcap([*frames[:-2], *whole(port=701)]))
     status, out, error = tools.tool('procedures', '--beside', 'a.pcap', 'b.pcap')
-    lines = out.splitlines()
-    sums = ['A: a.pcap: ' + sum_line(1, raw='1 PORTMAP DUMP, 1 PORTMAP GETPORT', silent=1),
-            'B: b.pcap: ' + sum_line(2, raw='1 PORTMAP GETPORT', silent=1)]
-    tools.want('heads', (status, lines[:2], error), (0, sums, ''))
-    cells = [re.split('  +', line.strip()) for line in lines[2:]]
+    tools.want('heads', (status, out.splitlines()[:2], error), (0, [
+        'A: a.pcap: ' + sum_line(1, raw='1 PORTMAP DUMP, 1 PORTMAP GETPORT', silent=1),
+        'B: b.pcap: ' + sum_line(2, raw='1 PORTMAP GETPORT', silent=1)], ''))
+    cells = [re.split('  +', line.strip()) for line in out.splitlines()[2:]]
     tools.want('rows', [row[0] for row in cells], ['procedure', *(row.procedure for row in rows),
                                                    'in all'])
     null, *others, last, same, _ = cells[1:]
-    nulls = 39 * size(call(1, NFS, 3, 0))
-    grown = f'{rows[0].bytes[0]} -> {rows[0].bytes[0] + nulls} (+3900 %)'
-    tools.want('what grew', null[:7], ['NFSPROC3_NULL', '1 -> 40', '0 -> 1', '0 -> 39', '1', grown,
-                                       f'0 -> {39 * size(success(1))}'])
-    tools.want('what is new', null[7].startswith('- -> 0.00'), True)
+    own, nulls, gone = rows[0].bytes[0], 39 * size(call(1, NFS, 3, 0)), rows[-2]
+    tools.want('what grew', (null[:7], null[7].startswith('- -> 0.00')), (
+        ['NFSPROC3_NULL', '1 -> 40', '0 -> 1', '0 -> 39', '1', f'{own} -> {own + nulls} (+3900 %)',
+         f'0 -> {39 * size(success(1))}'], True))
     tools.want('what is the same', [*others, same],
                [row.cells_beside() for row in [*rows[1:-2], rows[-1]]])
-    gone = rows[-2]
-    fewer = [f'{number} -> 0 (-100 %)' for number in gone.bytes]
-    tools.want('what is gone', last, [gone.procedure, '1 -> 0', '0', '1 -> 0', '0', *fewer,
-                                      *['0.001 -> -'] * 5, 'RPC_MISMATCH 1 -> 0'])
+    tools.want('what is gone', last, [
+        gone.procedure, '1 -> 0', '0', '1 -> 0', '0',
+        *(f'{number} -> 0 (-100 %)' for number in gone.bytes), *['0.001 -> -'] * 5,
+        'RPC_MISMATCH 1 -> 0'])
     tools.write('c.pcap', pcap(whole()[:4] + whole()[5:]))
     status, out, _ = tools.tool('procedures', '--beside', 'a.pcap', 'c.pcap')
     tools.want('in part', (status, out.splitlines()[1]),
@@ -288,47 +287,46 @@ def side_by_side(tools: Tools) -> None:
 
 def files_for_others(tools: Tools) -> None:
     """CSV has the rows of the tables, JSON the verdicts, too."""
-    name = 'a,"b"\n.pcap'
     frames, rows = one_of_each(Talk())
-    tools.write(name, pcap(frames))
-    status, _, error = tools.tool('procedures', '--csv', 'x.csv', '--json', 'x.json', name)
-    tools.want('status', (status, error), (0, ''))
+    tools.write('a,"b"\n.pcap', pcap(frames))
+    status, _, error = tools.tool('procedures', '--csv', 'x.csv', '--json', 'x.json',
+                                  'a,"b"\n.pcap')
     found = list(csv.DictReader(io.StringIO((tools.read('x.csv') or b'').decode())))
-    tools.want('whose', [(row['recording'], row['connection'], row['client'], row['procedure'])
-                         for row in found], [
-                             ('a,"b"\\x0a.pcap', connection, client, row.procedure)
-                             for connection, client in (('1', '192.0.2.7:700'), ('', ''))
-                             for row in rows])
-    tools.want('a row',
-               {key: value for key, value in found[1].items()
-                if key not in ('recording', 'connection', 'client', 'procedure')},
-               {'server': '192.0.2.1:2049', 'calls': '4', 'again': '1', 'replies': '4',
-                'unanswered': '0', 'call_bytes': str(rows[1].bytes[0]),
-                'reply_bytes': str(rows[1].bytes[1]),
-                'errors': 'NFS3ERR_STALE=2 AUTH_BADCRED=1', 'latencies': '3',
-                'median_ns': '2000', 'p99_ns': '2000', 'most_ns': '2000',
-                'mean_ns': '1667', 'sum_ns': '5000',
-                'most_position': 'connection 1 client record 1', 'most_frame': '4',
-                'negative': '0'})
+    whose = 'recording', 'connection', 'client', 'procedure'
+    tools.want('whose', (status, error, [tuple(row[name] for name in whose) for row in found]),
+               (0, '', [('a,"b"\\x0a.pcap', connection, client, row.procedure)
+                        for connection, client in (('1', '192.0.2.7:700'), ('', ''))
+                        for row in rows]))
+    calls, replies = rows[1].bytes
+    tools.want('a row', ' '.join(f'{key}={value}' for key, value in found[1].items()
+                                 if key not in whose),
+               f'server=192.0.2.1:2049 calls=4 again=1 replies=4 unanswered=0 call_bytes={calls} '
+               f'reply_bytes={replies} errors=NFS3ERR_STALE=2 AUTH_BADCRED=1 latencies=3 '
+               'median_ns=2000 p99_ns=2000 most_ns=2000 mean_ns=1667 sum_ns=5000 '
+               'most_position=connection 1 client record 1 most_frame=4 negative=0')
     written = tools.json('x.json')
-    tools.want('JSON', [verdict['state'] for verdict in written['verdicts']], ['ok'])
-    tools.want('its tables', [table['connection'] for table in written['tables']], [1, None])
-    tools.want('its errors', written['tables'][0]['procedures'][1]['errors'],
-               {'NFS3ERR_STALE': 2, 'AUTH_BADCRED': 1})
+    tools.want('JSON', ([verdict['state'] for verdict in written['verdicts']],
+                        [table['connection'] for table in written['tables']],
+                        written['tables'][0]['procedures'][1]['errors']),
+               (['ok'], [1, None], {'NFS3ERR_STALE': 2, 'AUTH_BADCRED': 1}))
 
 
 def many_calls(tools: Tools) -> None:
-    """Memory, and processor time beside that of tools/verdicts."""
-    talk = Talk()
+    """Memory of tools/procedures and tools/calls, and processor time beside tools/verdicts."""
+    talk, spent = Talk(), list[float]()
     frames = talk.opened()
     for xid in range(MANY):
         asked = call(xid, NFS, 3, GETATTR, fh(b'%032d' % (xid % 5_000)))
         frames += [talk.sent(0, fragment(asked)), talk.sent(1, fragment(success(xid, ATTRIBUTES)))]
     tools.write('a.pcap', pcap(frames))
-    spent = dict[str, float]()
-    for name in ('verdicts', 'procedures'):
-        status, lines, spent[name], memory = measured(tools, name, '--program', tools.program,
-                                                      'a.pcap')
-        tools.want(name, (status, memory <= MOST_MEMORY or memory), (0, True))
-    tools.want('what it printed', lines[-1].split()[2:6], [f'{MANY}', '0', f'{MANY}', '0'])
-    tools.want('processor time', spent['procedures'] <= 4 * spent['verdicts'] or spent, True)
+    for name, most, *words in (('verdicts', 48), ('procedures', 48), ('calls', 40),
+                               ('calls', 40, '--sort', 'latency')):
+        status, lines, seconds, memory = measured(tools, name, '--program', tools.program, *words,
+                                                  'a.pcap')
+        spent.append(seconds)
+        tools.want(name, (status, memory <= most << 20 or memory), (0, True))
+        if name == 'procedures':
+            tools.want('what it printed', lines[-1].split()[2:6], [f'{MANY}', '0', f'{MANY}', '0'])
+    tools.want('what is listed', (lines[-2], len(lines)), (f'{MANY:,} exchanges', MANY + 3))
+    tools.want('processor time', (spent[1] <= 4 * spent[0], max(spent) <= 8 * spent[0]) == (
+        True, True) or spent, True)

@@ -1,11 +1,12 @@
-"""Tests that the tools run under each Python from 3.9 on, and tell older ones so."""
+"""Tests that the tools run under each Python from 3.9 on, and tell older ones so; and of types."""
 import re
 import shutil
+import unittest
 from pathlib import Path
 
 from tests.shared.running import ended
 
-from .scripts import TOP, Tools
+from .scripts import FIRST, SECOND, TOP, Tools
 
 OLDEST = (3, 9)
 COMMANDS = ('calls', 'compare', 'cut', 'explain', 'from_pcap', 'meaning', 'procedures',
@@ -37,23 +38,26 @@ def version_of(python: str) -> tuple[int, int] | None:
 def each_python(tools: Tools) -> None:
     """Each imports all modules and compares examples, or has a line that refuses it."""
     for version, python in pythons().items():
-        (is_read if version >= OLDEST else is_told)(tools, python)
+        if version < OLDEST:
+            _, full, _ = ended([python, '-c', 'import sys; print("%d.%d.%d" % '
+                                'tuple(sys.version_info[:3]))'], TOP).text()
+            for name in COMMANDS:
+                tools.want(f'{name} by {python}',
+                           ended([python, '-B', str(TOP / 'tools' / name), '--help'],
+                                 tools.folder).text(),
+                           (3, '', f'{name}: needs Python 3.9 or later; this is {full}'))
+            continue
+        tools.want(f'modules by {python}', ended([python, '-B', '-c', EACH, str(TOP / 'tools')],
+                                                 tools.folder), (0, b'', b''))
+        status, out, error = ended([python, '-B', str(TOP / 'tools/compare'), '--program',
+                                    tools.program, FIRST, SECOND], tools.folder).text()
+        tools.want(f'compare by {python}', (status, out.splitlines()[1], error),
+                   (0, 'same: 103 calls in 3 connections', ''))
 
 
-def is_read(tools: Tools, python: str) -> None:
-    tools.want(f'modules by {python}', ended([python, '-B', '-c', EACH, str(TOP / 'tools')],
-                                             tools.folder), (0, b'', b''))
-    runs = [str(TOP / f'examples/ganesha_{name}.pcap') for name in 'ab']
-    status, out, error = ended([python, '-B', str(TOP / 'tools/compare'), '--program',
-                                tools.program, *runs], tools.folder).text()
-    tools.want(f'compare by {python}', (status, out.splitlines()[1], error),
-               (0, 'same: 103 calls in 3 connections', ''))
-
-
-def is_told(tools: Tools, python: str) -> None:
-    _, full, _ = ended([python, '-c',
-                        'import sys; print("%d.%d.%d" % tuple(sys.version_info[:3]))'], TOP).text()
-    for name in COMMANDS:
-        tools.want(f'{name} by {python}', ended([python, '-B', str(TOP / 'tools' / name), '--help'],
-                                                tools.folder).text(),
-                   (3, '', f'{name}: needs Python 3.9 or later; this is {full}'))
+@unittest.skipUnless(shutil.which('mypy'), 'mypy is not there')
+def types_are_right(tools: Tools) -> None:
+    """mypy --strict finds nothing in nfs3tools."""
+    status, out, error = ended(['mypy', '--cache-dir', tools.path('cache')], TOP / 'tools',
+                               limit=None).text()
+    tools.want('mypy', (status, out if status else '', error), (0, '', ''))

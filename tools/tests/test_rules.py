@@ -1,19 +1,22 @@
-"""Tests of what `tools/compare` calls the same: any order, sent again, the headline."""
+"""Tests of what `tools/compare` calls the same: any order, sent again, the headline; and of what
+an order explains."""
 import json
+import random
 from collections.abc import Iterable, Sequence
 from typing import Any, NamedTuple
 
 from examples import messages
 from examples.messages import (
-    NFS, auth_sys, call, dirop, failed, fattr, fh, fragment, hyper, made, ok, opaque, post_op_attr,
-    sattr, success, wcc, word)
+    NFS, auth_sys, call, dirop, failed, fattr, fh, fragment, guard, hyper, made, ok, opaque,
+    post_op_attr, sattr, success, wcc, word)
 from examples.packets import Talk, pcap
 
+from ..nfs3tools.exchanges.timelines import Highest, Sighting, Spans
 from .comparisons import Comparisons
 from .scripts import in_turn
 
-(GETATTR, SETATTR, LOOKUP, ACCESS, WRITE, CREATE, MKDIR, REMOVE, RENAME, READDIR, READDIRPLUS,
- FSINFO) = 1, 2, 3, 4, 7, 8, 9, 12, 14, 16, 17, 19
+(GETATTR, SETATTR, LOOKUP, ACCESS, READLINK, WRITE, CREATE, REMOVE, RENAME, READDIR, READDIRPLUS,
+ FSSTAT, FSINFO, PATHCONF) = 1, 2, 3, 4, 5, 7, 8, 12, 14, 16, 17, 18, 19, 20
 NOENT, IO, ACCES, EXIST, STALE, SERVERFAULT, BADHANDLE = 2, 5, 13, 17, 70, 10006, 10001
 TOP = b'top'
 
@@ -98,48 +101,55 @@ def any_order(place: Comparisons, first: Sequence[Step], second: Sequence[Step])
     return compared(place, first, second, '--order', 'any')
 
 
+def differs(place: Comparisons, what: str, first: Sequence[Step], second: Sequence[Step],
+            *found: str) -> Answer:
+    """Two runs differ in any order, by these findings."""
+    said = any_order(place, first, second)
+    place.want(what, (said.status, said.found), (1, [*found]))
+    return said
+
+
+def explained(place: Comparisons, what: str, first: Sequence[Step], second: Sequence[Step],
+              kind: str = 'explained') -> Answer:
+    """Two runs are the same in any order, which explains one answer."""
+    said = any_order(place, first, second)
+    place.want(what, (said.status, [one['kind'] for one in said.json['left_out']]), (0, [kind]))
+    return said
+
+
 # --- Answers ---
 
 def a_lookup_that_fails(place: Comparisons) -> None:
     """One client, all calls in the same order: no order explains a LOOKUP that fails in one run."""
     for status in (NOENT, IO, ACCES, STALE, SERVERFAULT):
-        said = any_order(place, [*BOTH, F], [*BOTH, not_found(b'f', status)])
-        place.want(f'{status}', (said.status, said.found), (1, ['changed LOOKUP']))
+        differs(place, f'{status}', [*BOTH, F], [*BOTH, not_found(b'f', status)], 'changed LOOKUP')
 
 
 def a_lookup_of_something_else(place: Comparisons) -> None:
     """The handle of another file, another name, another user, a name that was removed."""
     made_both = [ROOT, created(b'f', b'handle f', 7), created(b'g', b'handle g', 8)]
-    other = looked(b'f', b'handle g', 8)
-    said = any_order(place, [*made_both, F, G], [*made_both, other, G])
-    place.want('handle', (said.status, set(said.found)), (1, {'changed LOOKUP'}))
-    for what, first, second in (('name', [*made_both, F], [*made_both, G]),
-                                ('name, before a change', [*BOTH, F, removed(b'h')],
-                                 [*BOTH, G, removed(b'h')])):
-        said = any_order(place, first, second)
-        place.want(what, (said.status, {one.split()[1] for one in said.found}), (1, {'LOOKUP'}))
-    said = any_order(place, [*BOTH, F], [*BOTH, F._replace(user=1)])
-    place.want('user', said.status, 1)
     gone = [*made_both, removed(b'f')]
-    said = any_order(place, [*gone, not_found(b'f')], [*gone, F])
-    place.want('gone', (said.status, said.found), (1, ['changed LOOKUP']))
+    for what, times, first, second in (
+            ('handle', 1, [*made_both, F, G], [*made_both, looked(b'f', b'handle g', 8), G]),
+            ('name', 2, [*made_both, F], [*made_both, G]),
+            ('name, before a change', 2, [*BOTH, F, removed(b'h')], [*BOTH, G, removed(b'h')]),
+            ('user', 1, [*BOTH, F], [*BOTH, F._replace(user=1)]),
+            ('gone', 1, [*gone, not_found(b'f')], [*gone, F])):
+        differs(place, what, first, second, *['changed LOOKUP'] * times)
 
 
 def what_an_order_explains(place: Comparisons) -> None:
     """A name that another client makes before or after it is looked up. The change is named."""
     new = created(b'new', b'handle new', 9, client=1)
-    found = looked(b'new', b'handle new', 9)
-    said = any_order(place, [*BOTH, not_found(b'new'), new, ROOT], [*BOTH, new, found, ROOT])
-    place.want('same', (said.status, said.lines[1].partition(':')[0]),
-               (0, 'same in another order, 1 answer explained by order'))
-    place.want('JSON', (said.json['verdict'], [one['kind'] for one in said.json['left_out']]),
-               ('same in another order', ['explained']))
-    place.want('why', said.json['left_out'][0]['why'],
-               'CREATE ?/new at connection 2 client record 1 of the second run')
-    wrong = found._replace(results=ok(fh(b'handle f'), post_op_attr(fattr(1, 7)), post_op_attr()))
-    for what, answer in (('another file', wrong), ('an error', not_found(b'new', IO))):
-        said = any_order(place, [*BOTH, not_found(b'new'), new, ROOT], [*BOTH, new, answer, ROOT])
-        place.want(what, said.status, 1)
+    found, first = looked(b'new', b'handle new', 9), [*BOTH, not_found(b'new'), new, ROOT]
+    said = explained(place, 'same', first, [*BOTH, new, found, ROOT])
+    place.want('in words', (said.lines[1].partition(':')[0], said.json['verdict'],
+                            said.json['left_out'][0]['why']),
+               ('same in another order, 1 answer explained by order', 'same in another order',
+                'CREATE ?/new at connection 2 client record 1 of the second run'))
+    for what, answer in (('another file', looked(b'new', b'handle f', 7)),
+                         ('an error', not_found(b'new', IO))):
+        place.want(what, any_order(place, first, [*BOTH, new, answer, ROOT]).status, 1)
 
 
 def listed_entries(names: Sequence[bytes], fileid: int = 50) -> Step:
@@ -162,31 +172,26 @@ def a_handle_of_no_call(place: Comparisons) -> None:
                    messages.entryplus(2, b'..', 1, fattr(2, 2), b'handle above')]
         results = ok(messages.entries(fattr(2, 3), bytes(8), entries, is_end=True))
         return Step(READDIRPLUS, fh(b'folder') + bytes(16) + word(512) + word(4096), results)
-    said = any_order(place, [ROOT, FOLDER, F, listed(), NEW], [ROOT, FOLDER, F, NEW, listed(b'z')])
-    place.want('explained', (said.status, [left['kind'] for left in said.json['left_out']]),
-               (0, ['explained']))
+    explained(place, 'listed', [ROOT, FOLDER, F, listed(), NEW],
+              [ROOT, FOLDER, F, NEW, listed(b'z')])
 
 
 def entries_that_an_order_explains(place: Comparisons) -> None:
     """A listing may lack a name that is made meanwhile, and no other."""
-    first = [ROOT, FOLDER, BEFORE, NEW, F]
-    for what, one, other in (('made', first, [ROOT, FOLDER, NEW, AFTER, F]),
-                             ('during', [ROOT, FOLDER, NEW, AFTER, F],
-                              [ROOT, FOLDER, NEW._replace(is_slow=True), BEFORE, F])):
-        said = any_order(place, one, other)
-        place.want(what, (said.status, [left['kind'] for left in said.json['left_out']]),
-                   (0, ['explained']))
+    first, later = [ROOT, FOLDER, BEFORE, NEW, F], [ROOT, FOLDER, NEW, AFTER, F]
+    for what, one, other in (('made', first, later), ('during', later, [
+            ROOT, FOLDER, NEW._replace(is_slow=True), BEFORE, F])):
+        explained(place, what, one, other)
         for words, status in (('any b a', 0), ('strict a b', 1), ('any --extra none a b', 1)):
             place.want(f'{what} {words}', place.compare('--order', *words.split())[0], status)
     for names in ([b'x', b'z'], [b'y', b'x', b'z'], [b'x', b'y', b'z', b'q']):
-        said = any_order(place, first, [ROOT, FOLDER, NEW, listed_entries(names), F])
-        place.want(f'{names}', (said.status, said.found), (1, ['changed READDIR']))
+        differs(place, f'{names}', first, [ROOT, FOLDER, NEW, listed_entries(names), F],
+                'changed READDIR')
     for what, change in (('a change that fails', NEW._replace(results=failed(EXIST, wcc()))),
                          ('another folder', NEW._replace(
                              arguments=dirop(b'other', b'z') + word(0) + sattr()))):
-        said = any_order(place, [ROOT, FOLDER, BEFORE, change, F],
-                         [ROOT, FOLDER, change, AFTER, F])
-        place.want(what, said.status, 1)
+        place.want(what, any_order(place, [ROOT, FOLDER, BEFORE, change, F],
+                                   [ROOT, FOLDER, change, AFTER, F]).status, 1)
 
 
 def what_is_left_out_is_listed(place: Comparisons) -> None:
@@ -217,13 +222,10 @@ def calls_that_fail_alone(place: Comparisons) -> None:
     """Calls that only ask count if they fail, or ask about what is unknown."""
     for status in (SERVERFAULT, IO, STALE):
         more = [Step(GETATTR, fh(b'handle f'), failed(status))] * 3
-        said = any_order(place, BOTH, [*BOTH, *more])
-        place.want(f'{status}', (said.status, said.found), (1, ['only GETATTR'] * 3))
+        differs(place, f'{status}', BOTH, [*BOTH, *more], *['only GETATTR'] * 3)
     bad = Step(GETATTR, fh(b'nobody'), failed(BADHANDLE))
-    said = any_order(place, BOTH, [*BOTH[:3], bad, BOTH[4]])
-    place.want('handle', said.status, 1)
-    said = any_order(place, BOTH, [*BOTH, not_found(b'never')])
-    place.want('name', (said.status, said.found), (1, ['only LOOKUP']))
+    place.want('handle', any_order(place, BOTH, [*BOTH[:3], bad, BOTH[4]]).status, 1)
+    differs(place, 'name', BOTH, [*BOTH, not_found(b'never')], 'only LOOKUP')
 
 
 def calls_that_are_many(place: Comparisons) -> None:
@@ -232,19 +234,8 @@ def calls_that_are_many(place: Comparisons) -> None:
     said = any_order(place, BOTH, [*BOTH, *[more] * 10])
     place.want('ten', (said.status, said.lines[1].partition(':')[0]),
                (0, 'same but for calls left out'))
-    said = any_order(place, BOTH, [*BOTH, *[more] * 11])
-    place.want('eleven', (said.status, said.found), (1, ['only GETATTR'] * 11))
+    said = differs(place, 'eleven', BOTH, [*BOTH, *[more] * 11], *['only GETATTR'] * 11)
     place.want('told', any('GETATTR: 11 more than 10' in line for line in said.lines), True)
-
-
-def calls_alone_that_tell_something_else(place: Comparisons) -> None:
-    """Another size, mode, owner or id than its run has elsewhere for the object."""
-    others: list[dict[str, Any]] = [{'size': 5}, {'mode': 0o600}, {'uid': 0}, {'fsid': 9}]
-    for other in others:
-        said = any_order(place, BOTH, [*BOTH, got(b'handle f', 7, **other)])
-        place.want(f'{other}', (said.status, said.found), (1, ['only GETATTR']))
-    said = any_order(place, BOTH, [*BOTH, got(b'handle f', 9)])
-    place.want('fileid', said.status, 1)
 
 
 def access(bits: int, user: int = 1000) -> Step:
@@ -253,58 +244,37 @@ def access(bits: int, user: int = 1000) -> Step:
 
 def changed_users(place: Comparisons) -> None:
     """Another user of one call, in its place or in another one."""
-    said = any_order(place, [*BOTH, access(1), F, G], [*BOTH, F, G, access(1, user=0)])
-    place.want('elsewhere', (said.status, said.found), (1, ['only ACCESS'] * 2))
-    said = any_order(place, [*BOTH, access(1), access(1)], [*BOTH, access(1), access(1, user=0)])
-    place.want('there', (said.status, said.found), (1, ['changed ACCESS']))
+    differs(place, 'elsewhere', [*BOTH, access(1), F, G], [*BOTH, F, G, access(1, user=0)],
+            *['only ACCESS'] * 2)
+    differs(place, 'there', [*BOTH, access(1), access(1)], [*BOTH, access(1), access(1, user=0)],
+            'changed ACCESS')
 
 
 def ids_that_follow_their_objects(place: Comparisons) -> None:
     """File ids that a server gives out again are no difference, and it is said that they follow."""
-    def run(ids: Sequence[int]) -> list[Step]:
-        names = [b'f%d' % number for number in range(3)]
-        return [ROOT, *(looked(name, b'h' + name, one) for name, one in zip(names, ids)),
-                *(got(b'h' + name, one) for name, one in zip(names, ids))]
+    def run(ids: Sequence[int], last: int | None = None) -> list[Step]:
+        some = [(b'f%d' % number, b'hf%d' % number, one) for number, one in enumerate(ids)]
+        *known, (_, handle, own) = some
+        return [ROOT, *(looked(*one) for one in some), *(got(*one[1:]) for one in known),
+                got(handle, own if last is None else last)]
     said = any_order(place, run([7, 8, 9]), run([7, 8, 7]))
     place.want('ids', (said.status, said.lines[1].partition(':')[0], said.json['verdict']),
                (0, 'same but for ids', 'same but for ids'))
-    wrong = [*run([7, 8, 7])[:-1], got(b'hf2', 8)]
-    said = any_order(place, run([7, 8, 9]), wrong)
-    place.want('a wrong one', (said.status, said.found), (1, ['changed GETATTR']))
-
-
-def written(at: int, size: int, client: int = 0) -> Step:
-    arguments = fh(b'handle f') + hyper(at) + word(4) + word(0) + opaque(b'data')
-    results = ok(wcc(None, fattr(1, 7, size)), word(4), word(0), b'verifier')
-    return Step(WRITE, arguments, results, client=client)
-
-
-def sizes_that_an_order_explains(place: Comparisons) -> None:
-    """WRITEs in another order tell other sizes, which fit the writes."""
-    first = [*BOTH, written(0, 4), written(4, 8, client=1)]
-    second = [*BOTH, written(4, 8, client=1), written(0, 8)]
-    said = any_order(place, first, second)
-    place.want('explained', (said.status, len(said.json['left_out'])), (0, 1))
-    said = any_order(place, first, [*BOTH, written(4, 8, client=1), written(0, 9)])
-    place.want('too large', (said.status, said.found), (1, ['changed WRITE']))
-    said = any_order(place, first, [*BOTH, written(0, 8), written(4, 8, client=1)])
-    place.want('in the same order', (said.status, said.found), (1, ['changed WRITE']))
+    differs(place, 'a wrong one', run([7, 8, 9]), run([7, 8, 7], 8), 'changed GETATTR')
 
 
 def calls_that_were_sent_again(place: Comparisons) -> None:
     """One that was sent again is one exchange, left out in any order."""
     again = [*BOTH, removed(b'f')._replace(sent=2, answered=2), F]
-    once = [*BOTH, removed(b'f'), F]
+    once, why = [*BOTH, removed(b'f'), F], 'sent once in the first run, 2 times in the second'
     said = compared(place, once, again, '--order', 'strict')
-    place.want('strict', (said.status, said.found), (1, ['sent again REMOVE']))
-    place.want('told', any('sent once in the first run, 2 times in the second' in line
-                           for line in said.lines), True)
-    said = any_order(place, once, again)
-    place.want('any', (said.status, [(one['kind'], one['why']) for one in said.json['left_out']]),
-               (0, [('sent again', 'sent once in the first run, 2 times in the second')]))
-    place.want('both', any_order(place, again, again).status, 0)
+    place.want('strict', (said.status, said.found, any(why in line for line in said.lines)),
+               (1, ['sent again REMOVE'], True))
+    said = explained(place, 'any', once, again, 'sent again')
+    place.want('why', said.json['left_out'][0]['why'], why)
     lost = [*BOTH, removed(b'f')._replace(sent=2), F]
-    place.want('answered once', any_order(place, once, lost).status, 0)
+    for first, second in ((again, again), (once, lost)):
+        place.want('as often, or answered once', any_order(place, first, second).status, 0)
 
 
 def other_replies_to_a_call_sent_again(place: Comparisons) -> None:
@@ -365,3 +335,245 @@ def silly_names(place: Comparisons) -> None:
     hidden = [b'.nfs%024x' % number for number in (5, 6)]
     said = any_order(place, run([*hidden, b'x']), run([hidden[1], b'x', hidden[0]]))
     place.want('same', said.status, 0)
+
+
+# --- A wrong answer, and beside it a sound one ---
+
+W, NAME = b'folder', b'handle f'
+FILE = looked(b'f', NAME, 7, folder=W)
+START = [ROOT, FOLDER, FILE, got(W, 3, kind=2), got(NAME, 7)]
+END = [got(NAME, 7)]
+
+
+def wants(place: Comparisons, what: str, first: Iterable[Step], second: Iterable[Step],
+          wanted: int) -> None:
+    """Two runs that begin alike are the same in any order, or differ."""
+    place.want(what, any_order(place, [*START, *first], [*START, *second]).status, wanted)
+
+
+def make(name: bytes = b'z', **options: Any) -> Step:
+    results = ok(made(b'handle ' + name, fattr(1, 50), wcc()))
+    return Step(CREATE, dirop(W, name) + word(0) + sattr(), results, client=1, **options)
+
+
+def set_to(mode: int | None = None, uid: int | None = None, shown: int | None = None,
+           **options: Any) -> Step:
+    """A SETATTR of another client, whose reply shows a mode."""
+    after = None if shown is None else fattr(1, 7, mode=shown)
+    return Step(SETATTR, fh(NAME) + sattr(mode=mode, uid=uid) + guard(), ok(wcc(None, after)),
+                client=1, **options)
+
+
+def listed(*names: bytes, is_end: bool = True, **attributes: int) -> Step:
+    """READDIRPLUS of the folder; the attributes are those of `f`."""
+    def entry(name: bytes, cookie: int) -> bytes:
+        fileid, more = (7, attributes) if name == b'f' else (50, {})
+        return messages.entryplus(fileid, name, cookie, fattr(1, fileid, **more), b'handle ' + name)
+    return entries_of(*(entry(name, at) for at, name in enumerate(names, 1)), is_end=is_end)
+
+
+def entries_of(*entries: bytes, is_end: bool = True) -> Step:
+    """READDIRPLUS of the folder."""
+    results = ok(messages.entries(fattr(2, 3), bytes(8), entries, is_end=is_end))
+    return Step(READDIRPLUS, fh(W) + bytes(16) + word(512) + word(4096), results)
+
+
+def wrote(end: int, size: int, client: int = 0, mode: int = 0o644, **options: Any) -> Step:
+    arguments = fh(NAME) + hyper(end - 4) + word(4) + word(0) + opaque(b'data')
+    results = ok(wcc(None, fattr(1, 7, size, mode=mode)), word(4), word(0), b'verifier')
+    return Step(WRITE, arguments, results, client=client, **options)
+
+
+def what_is_found_by_frames(place: Comparisons) -> None:
+    """Changes and answers are those that a look at all of them finds."""
+    chance = random.Random(5)
+    for _ in range(200):
+        some = [Sighting(begin, begin + chance.randrange(9), source, None)
+                for source in range(chance.randrange(12)) for begin in [chance.randrange(40)]]
+        spans, begin = Spans(some), chance.randrange(40)
+        end = begin + chance.randrange(9)
+        before = [one for one in some if one.end < begin]
+        last = max((one.begin for one in before), default=0)
+        place.want('between', sorted(spans.between(begin, end)),
+                   sorted(one for one in some if one.begin <= end and one.end >= begin))
+        place.want('latest', sorted(spans.latest(begin)),
+                   sorted(one for one in before if one.end >= last))
+        ends = [one.end for one in some]
+        first = len(ends) // 3
+        place.want('highest', Highest(ends).of(first, len(ends)), max(ends[first:], default=0))
+
+
+# --- Attributes ---
+
+def attributes_of_a_folder_in_which_something_is_made(place: Comparisons) -> None:
+    """A CREATE in a folder sets the mode and the owners of the new file, not of the folder."""
+    for attributes, wanted in (({'size': 64}, 0), ({'mode': 0o7777}, 1), ({'uid': 4242}, 1),
+                               ({'gid': 4242}, 1), ({'nlink': 9}, 1)):
+        now = post_op_attr(fattr(2, 3, **attributes))
+        asked = {'GETATTR': (GETATTR, fh(W), ok(fattr(2, 3)), ok(fattr(2, 3, **attributes))),
+                 'ACCESS': (ACCESS, fh(W) + word(1), ok(post_op_attr(fattr(2, 3)), word(1)),
+                            ok(now, word(1))),
+                 'LOOKUP': (LOOKUP, dirop(W, b'f'),
+                            ok(fh(NAME), post_op_attr(fattr(1, 7)), post_op_attr(fattr(2, 3))),
+                            ok(fh(NAME), post_op_attr(fattr(1, 7)), now))}
+        for name, (procedure, arguments, before, after) in asked.items():
+            one, other = Step(procedure, arguments, before), Step(procedure, arguments, after)
+            last = got(W, 3, kind=2, size=attributes.get('size', 0))
+            wants(place, f'{name} {attributes}', [one, make(), last], [make(), other, last],
+                  wanted)
+
+
+def a_value_that_nothing_set(place: Comparisons) -> None:
+    """After a SETATTR an answer has what it set, or what its own reply shows."""
+    old = got(NAME, 7)
+    for mode, wanted in ((0o600, 0), (0o6777, 1), (0o640, 1)):
+        new = got(NAME, 7, mode=mode)
+        wants(place, f'{mode:o}', [old, set_to(0o600)], [set_to(0o600), new], wanted)
+    for mode, wanted in ((0o600, 0), (0o644, 0), (0o777, 1)):
+        new = got(NAME, 7, mode=mode)
+        wants(place, f'{mode:o} meanwhile', [old, set_to(0o600)],
+              [set_to(0o600, is_slow=True), new], wanted)
+    for uid, wanted in ((1001, 0), (4242, 1)):
+        new = got(NAME, 7, uid=uid)
+        wants(place, f'uid {uid}', [old, set_to(uid=1001)], [set_to(uid=1001), new], wanted)
+    for mode, wanted in ((0o600, 0), (0o7777, 1)):
+        wants(place, f'{mode:o} of an entry', [listed(b'f'), set_to(0o600)],
+              [set_to(0o600), listed(b'f', mode=mode)], wanted)
+        wants(place, f'{mode:o} in a WRITE', [wrote(4, 4), set_to(0o600)],
+              [set_to(0o600), wrote(4, 4, mode=mode)], wanted)
+
+
+def a_change_that_was_sent_again(place: Comparisons) -> None:
+    """It may be carried out until its last reply, or later if it was sent more often."""
+    old, new = got(NAME, 7), got(NAME, 7, mode=0o600)
+    for answered, wanted in ((1, 0), (2, 1)):
+        change = set_to(0o600, sent=2, answered=answered)
+        wants(place, f'{answered}', [old, change, new], [old, change, old], wanted)
+
+
+def bits_that_a_write_clears(place: Comparisons) -> None:
+    """A WRITE may clear the bits of set-user-id and set-group-id, and no other ones."""
+    first = set_to(0o6755, shown=0o6755)._replace(client=0)
+    before = got(NAME, 7, mode=0o6755)
+    for mode, wanted in ((0o755, 0), (0o4755, 0), (0o6755, 0), (0o655, 1), (0o7755, 1)):
+        after, write = got(NAME, 7, size=4, mode=mode), wrote(4, 4, 1, mode)
+        wants(place, f'{mode:o}', [first, before, write], [first, write, after], wanted)
+
+
+def a_size_that_no_write_left(place: Comparisons) -> None:
+    """Without a WRITE that overlaps, a size is what the last one left."""
+    writes = [wrote(end, end, client=1) for end in (4, 8, 12)]
+    for size, wanted in ((12, 0), (4, 1), (7, 1), (1, 1), (13, 1)):
+        wants(place, f'{size}', [got(NAME, 7), *writes], [*writes, got(NAME, 7, size=size)],
+              wanted)
+    for size, wanted in ((8, 0), (12, 0), (10, 0), (4, 1), (13, 1)):
+        slow = [*writes[:2], writes[2]._replace(is_slow=True), got(NAME, 7, size=size)]
+        wants(place, f'{size} meanwhile', [got(NAME, 7), *writes], slow, wanted)
+
+
+# --- Names ---
+
+def a_listing_that_lacks_a_name(place: Comparisons) -> None:
+    """A name that was made before is listed, also if the other run lists it too early. Of a LOOKUP
+    the same holds: NOENT before a name is made, or meanwhile, and OK after that."""
+    nothing = Step(LOOKUP, dirop(W, b'z'), failed(NOENT, post_op_attr()))
+    found, slow = looked(b'z', b'handle z', 50, folder=W), make(is_slow=True)
+    for late, early in ((listed(b'f'), listed(b'f', b'z')), (nothing, found)):
+        for what, first, second, wanted in (
+                ('made', [late, make()], [make(), early], 0),
+                ('meanwhile', [slow, late], [make(), early], 0),
+                ('lacks it', [slow, early], [make(), late], 1),
+                ('both are wrong', [early, make()], [make(), late], 1),
+                ('too early', [slow, late], [early, make()], 1)):
+            wants(place, f'{late.procedure} {what}', [*first, ROOT], [*second, ROOT], wanted)
+
+
+def ids_are_replaced_by_items(place: Comparisons) -> None:
+    """The entry with a wrong id is the one that is named."""
+    def run(first: int, second: int, wrong: int) -> list[Step]:
+        names = (b'f', first), (b'g', second)
+        entries = [messages.entryplus(fileid, name, at, fattr(1, fileid), b'handle ' + name)
+                   for at, (name, fileid) in enumerate(((b'f', first), (b'g', wrong)), 1)]
+        return [ROOT, FOLDER,
+                *(looked(name, b'handle ' + name, fileid, folder=W) for name, fileid in names),
+                *(got(b'handle ' + name, fileid) for name, fileid in names), entries_of(*entries)]
+    said = any_order(place, run(10, 11, 11), run(20, 21, 20))
+    labels = {one['label'] for found in said.json['findings'] for one in found['differences']}
+    place.want('labels', (said.status, {label.split('.')[0] for label in labels}),
+               (1, {'entry "g"', 'entry "g" listed'}))
+
+
+# --- Calls of one run alone ---
+
+def no_entry_is_an_answer_of_lookup_alone(place: Comparisons) -> None:
+    """NOENT of any other question of one run alone is a difference."""
+    asked = {GETATTR: b'', ACCESS: word(1), READLINK: b'', READDIR: bytes(16) + word(512),
+             FSSTAT: b'', FSINFO: b'', PATHCONF: b''}
+    for procedure, more in asked.items():
+        results = failed(NOENT, *[post_op_attr()] * (procedure != GETATTR))
+        wants(place, f'{procedure}', END, [*END, Step(procedure, fh(NAME) + more, results)], 1)
+    gone = Step(LOOKUP, dirop(W, b'z'), failed(NOENT, post_op_attr()))
+    found = looked(b'z', b'handle z', 50, folder=W)
+    wants(place, 'LOOKUP', [make(), found], [gone, make(), found], 0)
+    wants(place, 'LOOKUP after it', [make(), found], [make(), found, gone], 1)
+
+
+def results_of(procedure: int, handle: bytes, changed: int) -> Step:
+    """A question whose results are the same each time, or with another first value."""
+    attributes = post_op_attr(fattr(1, 7))
+    numbers = {FSINFO: [*map(word, (4096 - changed, 1, 1, 4096, 1, 1, 4096)), hyper(1 << 40),
+                        word(0), word(1), word(27)],
+               PATHCONF: map(word, (32 - changed, 255, 1, 1, 0, 1)),
+               FSSTAT: [hyper(1000 - changed), *[hyper(9)] * 5, word(0)],
+               READLINK: [opaque(b'target'[changed:])]}[procedure]
+    return Step(procedure, fh(handle), ok(attributes, *numbers))
+
+
+def results_that_no_other_answer_has(place: Comparisons) -> None:
+    """Limits, links, rights and times are those of the same question, and each name comes once."""
+    for procedure in (FSINFO, PATHCONF, FSSTAT, READLINK):
+        for changed, wanted in ((0, 0), (1, 1)):
+            some = [results_of(procedure, NAME, 0), *END]
+            wants(place, f'{procedure} {changed}', some,
+                  [*some, results_of(procedure, NAME, changed)], wanted)
+    rights = [Step(ACCESS, fh(NAME) + word(asked), ok(post_op_attr(), word(granted)))
+              for asked, granted in ((7, 5), (3, 1), (3, 3), (15, 5))]
+    for right, wanted in zip(rights, (0, 0, 1, 1)):
+        wants(place, f'{right}', [rights[0], *END], [rights[0], *END, right], wanted)
+    for attributes in ({'nlink': 9}, {'mode': 0o7777}, {'size': 1}, {'uid': 1}, {'fsid': 9}):
+        wants(place, f'{attributes}', END, [*END, got(NAME, 7, **attributes)], 1)
+    both = [make(), listed(b'f', b'z'), *END]
+    for what, extra, wanted in (
+            ('whole', listed(b'f', b'z'), 0), ('twice', listed(b'f', b'z', b'f'), 1),
+            ('lacks', listed(b'z'), 1), ('gone', listed(b'f', b'z', b'y'), 1),
+            ('part', listed(b'f', is_end=False), 0),
+            ('part that lacks', listed(b'z', is_end=False), 1)):
+        wants(place, what, both, [*both, extra], wanted)
+
+
+def equal_answers_that_a_run_does_not_allow(place: Comparisons) -> None:
+    """They are noted in each form, and change no status."""
+    old, new = got(NAME, 7), got(NAME, 7, mode=0o600)
+    for last, wanted in ((old, 1), (new, 0)):
+        said = any_order(place, [*START, listed(b'f'), old, set_to(0o600), ROOT, new],
+                         [*START, set_to(0o600), listed(b'f', mode=0o600), last, ROOT, new])
+        notes = [line for line in said.lines if line.startswith('note: ')]
+        place.want(f'{wanted}', (said.status, len(notes), len(said.json.get('noted', []))),
+                   (0, wanted, wanted))
+        place.want('why', ['mode: the recorded changes and the other answers of the second run '
+                           'do not allow it' in line for line in notes], [True] * wanted)
+        place.compare('--order', 'any', '--html', 'out.html', '--junit', 'out.xml', 'a', 'b')
+        place.want('pages', [b'note: ' in (place.read(name) or b'')
+                             for name in ('out.html', 'out.xml')], [bool(wanted)] * 2)
+
+
+def why_an_answer_is_not_explained(place: Comparisons) -> None:
+    """A finding says whether its run does not allow a value, or does not know it."""
+    for mode, shown, words in (
+            (0o777, None, 'obj.mode: the recorded changes and the other answers of the second run '
+             'do not allow it'),
+            (0o600, 0o600, '')):
+        said = any_order(place, [*START, got(NAME, 7), set_to(0o600)],
+                         [*START, set_to(0o600, shown=shown), got(NAME, 7, mode=mode)])
+        remarks = [one['remark'] for one in said.json['findings'] if 'GETATTR' in one['procedure']]
+        place.want(f'{mode:o}', remarks, [words] if words else [])

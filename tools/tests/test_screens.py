@@ -26,7 +26,7 @@ from ..nfs3tools.shared.progress import Progress
 from ..nfs3tools.shared.screens import Colour, Screen, Styled, table_lines
 from .comparisons import Comparisons
 from .scripts import TOP, Tools, connection_of, sums, whole
-from .test_accepted import run
+from .test_compare import run
 
 RED, GREEN, YELLOW, END = '\x1b[31m', '\x1b[32m', '\x1b[33m', '\x1b[m'
 PLAIN = {name: value for name, value in os.environ.items()
@@ -114,46 +114,38 @@ def no_colours_elsewhere(tools: Tools) -> None:
     tools.write('a.pcap', recording())
     for tool in ('verdicts', 'calls', 'procedures'):
         plain = tools.tool(tool, 'a.pcap')[1].splitlines()
-        tools.want(f'{tool} in a pipe', '\x1b' in ''.join(plain), False)
-        tools.want(f'{tool} on a terminal',
-                   '\x1b' in ''.join(on_terminal(tools, 300, tool, 'a.pcap')[1]), True)
-        for words, variables in (((), {'NO_COLOR': '1'}), ((), {'TERM': 'dumb'}),
-                                 (('--color', 'never'), {})):
+        coloured = on_terminal(tools, 300, tool, 'a.pcap')[1]
+        always = tools.tool(tool, '--color', 'always', 'a.pcap')[1].splitlines()
+        tools.want(f'{tool} always', bare(always), plain)
+        for what, lines, is_wanted in (
+                ('in a pipe', plain, False), ('on a terminal', coloured, True),
+                ('with an empty NO_COLOR',
+                 on_terminal(tools, 300, tool, 'a.pcap', NO_COLOR='')[1], True),
+                ('always', always, True)):
+            tools.want(f'{tool} {what}', '\x1b' in ''.join(lines), is_wanted)
+        for words, variables in (([], {'NO_COLOR': '1'}), ([], {'TERM': 'dumb'}),
+                                 (['--color', 'never'], {})):
             tools.want(f'{tool} {words} {variables}',
                        on_terminal(tools, 300, tool, *words, 'a.pcap', **variables)[1],
-                       bare(on_terminal(tools, 300, tool, 'a.pcap')[1]))
-        tools.want(f'{tool} with an empty NO_COLOR',
-                   '\x1b' in ''.join(on_terminal(tools, 300, tool, 'a.pcap', NO_COLOR='')[1]), True)
-        always = tools.tool(tool, '--color', 'always', 'a.pcap')[1].splitlines()
-        tools.want(f'{tool} always', ('\x1b' in ''.join(always), bare(always)), (True, plain))
+                       bare(coloured))
     out = tools.tool('verdicts', '--json', '-', 'a.pcap')[1]
     tools.want('JSON', '\x1b' in out, False)
-
-
-def names_stay_escaped(tools: Tools) -> None:
-    """A control character in a name is `\\x` and two digits, in colours, too."""
-    tools.write('\x1b[31m.pcap', recording())
-    for tool in ('verdicts', 'procedures'):
-        text = '\n'.join(on_terminal(tools, 300, tool, '\x1b[31m.pcap')[1])
-        tools.want(tool, ('\\x1b[31m.pcap' in text, '\x1b[31m.pcap' in text), (True, False))
 
 
 def comparisons_have_colours_as_diff(tools: Tools) -> None:
     """Lines have the colour of their run, verdicts of the status."""
     place = Comparisons(tools.program, tools.folder)
     place.put_both(run(1, 1, 1), run(1, 2, 1))
-    status, lines = on_terminal(tools, 300, 'compare', 'a', 'b')
+    lines = on_terminal(tools, 300, 'compare', 'a', 'b')[1]
     tools.want('values', [line for line in lines if 'nlink=' in line],
                [f'{RED}  - obj.nlink=1{END}', f'{GREEN}  + obj.nlink=2{END}'])
-    tools.want('verdict', (status, lines[1].startswith(RED + 'differ'), lines[1].endswith(END)),
-               (1, True, True))
-    place.put('b', run(1, 1, 1))
-    tools.want('same', on_terminal(tools, 300, 'compare', 'a', 'b')[1][1],
-               f'{GREEN}same: 6 calls in 1 connection{END}')
-    place.put('b', run(1, 1, 1, names=(2, 1, 0)))
-    for words, colour in (((), YELLOW), (('--order', 'any'), GREEN)):
-        tools.want(f'turned {words}', on_terminal(tools, 300, 'compare', *words, 'a',
-                                                  'b')[1][1][:5], colour)
+    for names, words, begin in (((), [], f'{GREEN}same'), ((2, 1, 0), [], f'{YELLOW}same'),
+                                ((2, 1, 0), ['--order', 'any'], f'{GREEN}same')):
+        place.put('b', run(1, 1, 1, names=names))
+        line = on_terminal(tools, 300, 'compare', *words, 'a', 'b')[1][1]
+        tools.want(f'{names} {words}', (line[:len(begin)], line[-len(END):]), (begin, END))
+    tools.want('differ', (lines[1].startswith(RED + 'differ'), lines[1].endswith(END)),
+               (True, True))
 
 
 # --- Tables on a terminal ---
@@ -165,13 +157,12 @@ def rows_are_as_in_a_pipe(tools: Tools) -> None:
         tools.want(tool, bare(on_terminal(tools, 60, tool, 'a.pcap')[1]),
                    tools.tool(tool, 'a.pcap')[1].splitlines())
     for words in (['--total', 'a.pcap'], ['--beside', 'a.pcap', 'a.pcap']):
-        plain = tools.tool('procedures', *words)[1].splitlines()
+        plain, narrow = (tools.tool('procedures', *width, *words)[1].splitlines()
+                         for width in ([], ['--width', '80']))
         cut = [line if 'judged' in line else line[:80] for line in plain]
-        tools.want(f'{words}', bare(on_terminal(tools, 80, 'procedures', *words)[1]), cut)
-        tools.want(f'{words}, by --width',
-                   tools.tool('procedures', '--width', '80', *words)[1].splitlines(), cut)
-        tools.want(f'{words}, whole',
-                   bare(on_terminal(tools, 80, 'procedures', '--width', '0', *words)[1]), plain)
+        shown, wide = (bare(on_terminal(tools, 80, 'procedures', *width, *words)[1])
+                       for width in ([], ['--width', '0']))
+        tools.want(f'{words}', (shown, narrow, wide), (cut, cut, plain))
 
 
 def help_fits(tools: Tools) -> None:
@@ -213,22 +204,20 @@ def shares_are_those_of_the_file(tools: Tools) -> None:
     content = pcap([chance.randbytes(60_000) for _ in range(100)])
     files = {'a': content, 'a.gz': gzip.compress(content), 'a.xz': lzma.compress(content),
              'a.bz2': bz2.compress(content)}
-    for name, packed in files.items():
-        tools.write(name, packed)
+    tools.write('a', content)
     if shutil.which('zstd'):
         files['a.zst'] = ended(['zstd', '-qc', 'a'], tools.folder).out
-        tools.write('a.zst', files['a.zst'])
     for name, packed in files.items():
+        tools.write(name, packed)
         for before, size in ((0, len(packed)), (len(packed), 2 * len(packed))):
             with opened(tools.path(name)) as file:
                 source = Source(file)
                 share = share_of(source, before, size)
                 shares = [share() for _ in Recording(source).frames() if share]
-            tools.want(f'{name} after {before}',
-                       (len(shares), shares == sorted(shares), shares[-1]), (100, True, 1.0))
             # (zstd reads some megabytes ahead)
-            tools.want(f'{name} in the middle', name == 'a.zst'
-                       or abs(shares[50] - (before + len(packed) / 2) / size) < 0.3, True)
+            is_near = name == 'a.zst' or abs(shares[50] - (before + len(packed) / 2) / size) < 0.3
+            tools.want(f'{name} after {before}', (len(shares), shares == sorted(shares), shares[-1],
+                                                  is_near), (100, True, 1.0, True))
     with opened(tools.path('a')) as file:
         tools.want('no size', share_of(Source(file), 0, size_of(['-'])), None)
 
@@ -260,17 +249,15 @@ def progress_is_said_at_times(tools: Tools) -> None:
 def comparisons_say_how_far_they_are(tools: Tools) -> None:
     """Each step is said on a terminal, and nothing in a pipe."""
     place = Comparisons(tools.program, tools.folder)
-    place.put_both(run(1, 1, 1), run(1, 1, 2, names=(2, 1, 0)))
-    said = written_to(tools, 80, 'stderr', 'compare', '--order', 'any', 'a',
-                      'b')[1].split('\r\x1b[K')
-    steps = ['checking both runs', 'masking values', 'comparing both runs',
-             'bringing 12 calls together', 'writing both runs in one order']
-    tools.want('steps', ([step for step in steps if step not in said], said[-1]), ([], ''))
-    tools.want('a pipe', place.compare('--order', 'any', 'a', 'b')[2], '')
-    place.put_both(run(*[1] * 3_000), run(*[1] * 2_999, 2))
-    said = written_to(tools, 80, 'stderr', 'compare', 'a', 'b')[1].split('\r\x1b[K')
-    tools.want('many calls', 'reading the calls' in said, True)
-    place.put('b', ([], []))
-    text = written_to(tools, 80, 'stderr', 'compare', '--order', 'any', 'a', 'b')[1]
-    tools.want('an error', text.split('\r\x1b[K')[-1],
-               'compare: nothing to compare: no call of b is taken\r\n')
+    for first, second, words, steps in (
+            (run(1, 1, 1), run(1, 1, 2, names=(2, 1, 0)), ['--order', 'any'], {
+                'checking both runs', 'masking values', 'comparing both runs',
+                'bringing 12 calls together', 'writing both runs in one order', ''}),
+            (run(*[1] * 3_000), run(*[1] * 2_999, 2), [], {'reading the calls', ''}),
+            (run(1), ([], []), ['--order', 'any'],
+             {'compare: nothing to compare: no call of b is taken\r\n'})):
+        place.put_both(first, second)
+        said = written_to(tools, 80, 'stderr', 'compare', *words, 'a', 'b')[1].split('\r\x1b[K')
+        tools.want(f'{steps}', (steps - {*said}, said[-1] in steps), (set(), True))
+        if len(steps) > 2:
+            tools.want('a pipe', place.compare(*words, 'a', 'b')[2], '')

@@ -67,11 +67,10 @@ def head_and_counts(tools: Written) -> None:
         status, out, page = tools.page('procedures' if name == 'lost.pcap' else 'verdicts', name)
         heading, = page.all('h1')
         said = f'{heading.attributes.get("class", "")} {heading.text()}'
-        tools.want(name, said[:len(wanted)], wanted)
         sums = next(line for line in out.splitlines()[::-1] if ' judged (' in line)
         numbers = [int(found[1]) for word in COUNTS if (found := re.search(rf'(\d+) {word}', sums))]
-        tools.want(f'{name}: counts', [counts_of(page).get(word) for word in COUNTS], numbers)
-        tools.want(f'{name}: status', f'The status is {status}' in page.text(), True)
+        tools.want(name, (said[:len(wanted)], [counts_of(page).get(word) for word in COUNTS],
+                          f'The status is {status}' in page.text()), (wanted, numbers, True))
 
 
 def what_is_green(tools: Written) -> None:
@@ -79,34 +78,32 @@ def what_is_green(tools: Written) -> None:
     write_kinds(tools, 4)
     judged = '1 judged (1 valid, 0 refused)'
     _, _, page = tools.page('verdicts', 'lost.pcap', 'ok.pcap', 'other.pcap', 'bad.pcap')
-    tools.want('green verdicts', greens_of(page), ['ok', 'ok', judged])
     words = [[row[-1].partition(':')[0] for row in table_of(table)[1:]]
              for table in page.all('table')[:2]]
-    tools.want('verdicts', words, [['server record 2 byte 0', 'in part', 'not checked'],
-                                   ['ok', 'ok']])
+    tools.want('verdicts', (greens_of(page), words), (['ok', 'ok', judged], [
+        ['server record 2 byte 0', 'in part', 'not checked'], ['ok', 'ok']]))
     for names, wanted_open in ((('ok.pcap', 'bad.pcap'), False), (('ok.pcap',), True)):
         folded, = tools.page('verdicts', *names)[2].all('details', 'valid')
         tools.want(f'folded, {names}', 'open' in folded.attributes, wanted_open)
     _, _, page = tools.page('procedures', 'raw.pcap', 'lost.pcap')
     own = [counts.texts('li')[:2] for counts in page.all('ul', 'counts')]
     one, none = '1 judged (1 ok, 0 refused)', '0 judged (0 ok, 0 refused)'
-    tools.want('of each', own, [[one, '1 in part'], [one, '0 in part'], [none, '1 in part']])
-    tools.want('not ok', ('ok in part' in page.text(), greens_of(page)), (False, []))
+    tools.want('of each', (own, 'ok in part' in page.text(), greens_of(page)),
+               ([[one, '1 in part'], [one, '0 in part'], [none, '1 in part']], False, []))
     _, _, page = tools.page('procedures', 'ok.pcap')
     tools.want('of times', ('valid' in page.text(), greens_of(page)), (False, []))
     _, _, page = tools.page('verdicts', 'raw.pcap')
-    tools.want('raw', ([row[-1] for row in table_of(page.all('table')[0])[1:]],
-                       greens_of(page)[-1]),
-               (['1 PORTMAP GETPORT raw'], judged))
-    for words, heading_text, greens in (
-            (['bare.pcap'], '1 connection without a call is left out', [judged, 'ok']),
-            (['--allow-losses', 'lost.pcap'], 'Not all was judged', []),
-            (['--allow-not-checked', 'other.pcap'], 'Not all was judged', [])):
+    tools.want('raw', (table_of(page.all('table')[0])[1][-1], greens_of(page)[-1]),
+               ('1 PORTMAP GETPORT raw', judged))
+    for words, heading, greens, under in (
+            (['bare.pcap'], '1 connection without a call is left out', [judged, 'ok'], ''),
+            (['--allow-losses', 'lost.pcap'], 'Not all was judged', [], ' under --allow-losses'),
+            (['--allow-not-checked', 'other.pcap'], 'Not all was judged', [],
+             ' under --allow-not-checked')):
         status, _, page = tools.page('verdicts', *words)
-        under = f' under {words[0]}' if words[1:] else ''
-        tools.want(f'{words}', (status, page.texts('h1'), greens_of(page)),
-                   (0, [heading_text], greens))
-        tools.want(f'{words}: said', f'The status is 0{under}.' in page.text(), True)
+        tools.want(f'{words}', (status, page.texts('h1'), greens_of(page),
+                                f'The status is 0{under}.' in page.text()),
+                   (0, [heading], greens, True))
 
 
 def rows_printed(out: str) -> list[list[str]]:
@@ -118,10 +115,9 @@ def tables_as_printed(tools: Written) -> None:
     _, out, page = tools.page('verdicts', FIRST, *BAD)
     wrong, valid = map(table_of, page.all('div', 'cards'))
     rows, printed = [*wrong, *valid[1:]], rows_printed(out)[:-1]
-    is_ok = [row for row in printed if row[6] == 'ok']
-    tools.want('verdicts', rows, [*(row for row in printed if row not in is_ok), *is_ok])
     heads = [cell.attributes['data-head'] for cell in page.all('tr', 'row')[0].all('td')]
-    tools.want('heads', heads, rows[0])
+    printed.sort(key=lambda row: row[6] == 'ok')
+    tools.want('verdicts', (rows, heads), (printed, rows[0]))
     for words in (['--sort', 'calls', FIRST], ['--total', FIRST], ['--beside', FIRST, CONCURRENT]):
         _, out, page = tools.page('procedures', *words)
         # (numbers have separators there)
@@ -131,10 +127,8 @@ def tables_as_printed(tools: Written) -> None:
                                            for row in found), sorted(printed))
         if words[0] == '--sort':
             numbers = [int(row[1].replace(',', '')) for row in table_of(page.all('table')[0])[1:-1]]
-            tools.want('sorted', numbers, sorted(numbers, reverse=True))
-            tools.want('folded',
-                       [one.attributes.get('open') for one in page.all('details', 'others')],
-                       [None])
+            folded = [one.attributes.get('open') for one in page.all('details', 'others')]
+            tools.want('sorted', (numbers, folded), (sorted(numbers, reverse=True), [None]))
     _, _, page = tools.page('procedures', FIRST, CONCURRENT)
     names = [node.attributes['id'] for node in page.nodes() if 'id' in node.attributes]
     tools.want('names of elements', sorted(names), sorted(set(names)))
@@ -193,26 +187,25 @@ def dots_of_calls(tools: Written) -> None:
                    sorted((row['connection'], row['record']) for row in rows))
         for row in rows:
             form, _, _, words = found[row['connection'], row['record']]
-            latency = f'{int(row["latency_ns"]) / 1_000_000:.3f} ms'
             tools.want(f'{name}: {row}', (form, words[3:5], words[0].endswith(row['answer']),
                                           row['path'] in words[0]),
-                       ('bad' if row['is_error'] == 'True' else 'good', [row['frame'], latency],
+                       ('bad' if row['is_error'] == 'True' else 'good', [
+                           row['frame'], f'{int(row["latency_ns"]) / 1_000_000:.3f} ms'],
                         True, True))
     heights = sorted((float(dot[3][5]), dot[2]) for dot in dots)
     tools.want('slower is higher', [height for _, height in heights],
                sorted((height for _, height in heights), reverse=True))
-    (low, bottom), (high, top) = heights[0], heights[-1]
-    middle, height = heights[len(heights) // 2]
+    (low, bottom), (high, top), (middle, height) = (heights[at] for at in (0, -1, len(dots) // 2))
     part = math.log(middle / low) / math.log(high / low)
     tools.want('log scale', abs(bottom - part * (bottom - top) - height) < 1.5, True)
     talk = Talk()
     frames = [*talk.opened(), *exchange(talk, calls=CALLS[:3], replies=REPLIES[:2])]
-    for name, form, more in (('open.pcap', 'open', []), ('closed.pcap', 'bad', talk.closed())):
-        tools.write(name, pcap([*frames, *more]))
-        dots = dots_of(tools.page('verdicts', name)[2])
-        tools.want(name, ([dot[0] for dot in dots], dots[-1][3][4]),
-                   (['good', 'good', form], 'no latency'))
-        tools.want(f'{name}: above', dots[-1][2] < min(dot[2] for dot in dots[:2]), True)
+    for form, more in (('open', []), ('bad', talk.closed())):
+        tools.write('a.pcap', pcap([*frames, *more]))
+        dots = dots_of(tools.page('verdicts', 'a.pcap')[2])
+        tools.want(form, ([dot[0] for dot in dots], dots[-1][3][4],
+                          dots[-1][2] < min(dot[2] for dot in dots[:2])),
+                   (['good', 'good', form], 'no latency', True))
     _, _, page = tools.page('procedures', str(EXAMPLES / 'every_procedure.nfs3cap'))
     said = re.findall(r'\d+ calls have no time, and are not drawn\.', page.text())
     tools.want('a capture', (len(page.all('svg', 'line')), len(said)), (0, 1))
@@ -264,27 +257,20 @@ def many_calls(tools: Written) -> None:
 
 
 def names_and_outputs(tools: Written) -> None:
-    """Names are text, nothing else is asked for, and outputs are refused alike."""
+    """Names are text, nothing else is asked for, and each recording has its line."""
     name = 'a<script>document.title=3<.pcap'
     calls = [call(1, MOUNT, 3, 1, opaque(b'/m')),
              call(2, NFS, 3, LOOKUP, dirop(b'top', HOSTILE.encode()))]
     replies = [success(1, ok(fh(b'top'), array([]))),
                success(2, ok(fh(b'x'), post_op_attr(), post_op_attr()))]
     tools.write(name, pcap(connection_of(calls, replies)))
-    tools.write('a.pcap', pcap(whole()))
     for tool, title in zip(BOTH, ('Every call of NFS and MOUNT version 3 is valid',
                                   '2 calls, 0 without a reply')):
         _, _, page = tools.page(tool, name)
-        tools.want(f'{tool}: asks for nothing', asked_of_others(page), [])
-        tools.want(f'{tool}: title', page.texts('title')[0], f'{title}: {name}')
-        tools.want(f'{tool}: path', HOSTILE.replace('"', '\\x22') in dots_of(page)[-1][3][0], True)
-        for words in (['a.pcap'], ['x', '--json', 'x'], ['absent/x']):
-            status, _, _ = tools.tool(tool, '--html', *words, 'a.pcap')
-            tools.want(f'{tool} {words}', (status in (2, 3), tools.exists('x')), (True, False))
-        status, out, error = tools.tool(tool, '--html', '-', 'a.pcap')
-        tools.want(f'{tool} -', (status, out[:15], ' judged (' in error),
-                   (0, '<!DOCTYPE html>', True))
+        tools.want(tool, (asked_of_others(page), page.texts('title')[0], HOSTILE.replace(
+            '"', '\\x22') in dots_of(page)[-1][3][0]), ([], f'{title}: {name}', True))
     tools.write('text.pcap', b'text')
+    tools.write('a.pcap', pcap(whole()))
     status, _, page = tools.page('verdicts', '-j', '2', 'a.pcap', FIRST, 'text.pcap')
     tools.want('several', (status, len(page.all('svg', 'line')), page.texts('h1')),
                (1, 2, ['Not all could be read']))

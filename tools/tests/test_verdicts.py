@@ -20,8 +20,6 @@ from .scripts import (
     ALL, CALL, CALLS, FAULTS, FIRST, REPLIES, TOP, VERDICTS, Tools, connection_of, exchange,
     in_fragments, of_tshark, stream, sums, taken_of, whole)
 
-# words, and the status of what is in part
-ALLOWING: list[tuple[list[str], int]] = [([], 1), (['--allow-losses'], 0)]
 HEAD = 'connection 1 %s: client 192.0.2.7:700, server 192.0.2.1:2049, tcp.stream == 0'
 
 
@@ -42,29 +40,27 @@ def places(tools: Tools) -> None:
     frames += [again, talk.sent(0, content[:70]), again, talk.sent(0, content[70:]),
                talk.sent(1, ALL[1]), *talk.closed()]
     tools.write('a.pcap', pcap(frames, magic=NANOSECONDS))
-    times = {number: 'frame %d, 1970-01-01 00:00:01.%09d UTC' % (number, number - 1)
-             for number in range(1, 12)}
-    for place, lines in (
-            ('connection 1 client record 1 byte 0', [times[4], 'frame.number == 4']),
-            ('connection 1 client record 2 byte 1: BadEnum', [times[4], 'frame.number == 4']),
-            ('connection 1 client record 2 byte 2', [times[5], 'frame.number == 5']),
-            ('first: connection 1 client record 2 byte 24: Short', [times[7], 'frame.number == 7']),
-            ('second: connection 1 client record 3 byte 39: Short',
-             [times[7], 'frame.number == 7']),
-            ('connection 1 client record 3 byte 40: Short', [times[7], 'frame.number == 7']),
-            ('connection 1 server record 39 byte 23', [times[8], 'frame.number == 8']),
-            ('differ at connection 1 client record 1', [times[4], 'frame.number == 4']),
-            ('differ at connection 1 client record 2',
-             [times[4], times[5], times[7], 'frame.number in {4..5, 7}'])):
-        named = re.sub('^(?:first|second): |^differ at |: \\w+$', '',
-                       place).replace('connection 1 ', '')
-        tools.want(place, where(tools, place), (0, [HEAD % named, *lines], ''))
-    listed = '1 server 7 xid=7 NFSPROC3_NULL mtype=1 reply_stat=0'
-    tools.want(listed, where(tools, listed),
-               (0, [HEAD % 'server record 7', times[8], 'frame.number == 8'], ''))
-    for byte, frame in ((16, 4), (19, 4), (65, 4), (66, 5)):
-        lines = [f'file {byte}', times[frame], f'frame.number == {frame}']
-        tools.want(f'file {byte}', where(tools, f'file {byte}: TooManyBytes'), (0, lines, ''))
+    head = HEAD.replace('connection 1 %s', '%s')
+    for place, numbers, named in (
+            ('connection 1 client record 1 byte 0', [4], ''),
+            ('connection 1 client record 2 byte 1: BadEnum', [4], ''),
+            ('connection 1 client record 2 byte 2', [5], ''),
+            ('first: connection 1 client record 2 byte 24: Short', [7], ''),
+            ('second: connection 1 client record 3 byte 39: Short', [7], ''),
+            ('connection 1 client record 3 byte 40: Short', [7], ''),
+            ('connection 1 server record 39 byte 23', [8], ''),
+            ('differ at connection 1 client record 1', [4], ''),
+            ('differ at connection 1 client record 2', [4, 5, 7], ''),
+            ('1 server 7 xid=7 NFSPROC3_NULL mtype=1 reply_stat=0', [8],
+             'connection 1 server record 7'),
+            *((f'file {byte}: TooManyBytes', [frame], f'file {byte}')
+              for byte, frame in ((16, 4), (19, 4), (65, 4), (66, 5)))):
+        named = named or re.sub('^(?:first|second): |^differ at |: \\w+$', '', place)
+        told = head % named if named[:4] != 'file' else named
+        tools.want(place, where(tools, place), (0, [
+            told, *(f'frame {one}, 1970-01-01 00:00:01.{one - 1:09} UTC' for one in numbers),
+            f'frame.number == {numbers[0]}' if len(numbers) == 1
+            else 'frame.number in {4..5, 7}'], ''))
     places_by_standard_input(tools, frames)
 
 
@@ -72,52 +68,44 @@ def places_by_standard_input(tools: Tools, frames: list[bytes]) -> None:
     """The place, or the recording; and files that have no frames, or are not there."""
     answer = tools.tool('where', 'a.pcap',
                         stdin=b'connection 1 client record 1 byte 0: RpcVersion\n')
-    tools.want('a place from standard input', answer[1].splitlines()[-1:], ['frame.number == 4'])
-    answer = tools.tool('where', '-', 'connection 1 client record 1 byte 0', stdin=pcap(frames))
-    tools.want('a recording from standard input', answer[1].splitlines()[-1:],
-               ['frame.number == 4'])
-    for words, message in ((('-',), 'where: POSITION has to be an argument if the recording is '
-                            'standard input\n'),
-                           (('b.nfs3cap', 'file 8'),
-                            'where: b.nfs3cap is a capture, which has no frames\n')):
-        shutil.copy(TOP / 'examples/null.nfs3cap', tools.path('b.nfs3cap'))
-        tools.want(message, tools.tool('where', *words), (2, '', message))
-    tools.want('an absent file', tools.tool('where', 'absent', 'file 8'),
-               (2, '', 'where: absent: No such file or directory\n'))
+    other = tools.tool('where', '-', 'connection 1 client record 1 byte 0', stdin=pcap(frames))
+    tools.want('standard input', [one[1].splitlines()[-1:] for one in (answer, other)],
+               [['frame.number == 4']] * 2)
+    shutil.copy(TOP / 'examples/null.nfs3cap', tools.path('b.nfs3cap'))
+    for words, message in (
+            (['-'], 'POSITION has to be an argument if the recording is standard input'),
+            (['b.nfs3cap', 'file 8'], 'b.nfs3cap is a capture, which has no frames'),
+            (['absent', 'file 8'], 'absent: No such file or directory')):
+        tools.want(message, tools.tool('where', *words), (2, '', f'where: {message}\n'))
 
 
 def places_of_other_recordings(tools: Tools) -> None:
     """Fragments, frames without times, cuts and gaps."""
-    frames = whole()
+    frames, talk = whole(), Talk()
     pieces = [ethernet(piece) for number, frame in enumerate(frames)
               for piece in fragments(frame[14:], 64, number)]
-    tools.write('a.pcap', pcap(pieces))
-    tools.want('the last fragment', where(tools, 'connection 1 client record 1 byte 0')[1][-1],
-               'frame.number == 9')
-    talk = Talk()
-    tools.write('a.pcap',
-                pcap(talk.opened() + [talk.sent(0, ALL[0][at:at + 1]) for at in range(2 * CALL)]))
-    for byte, frame in ((0, 8), (39, 47), (40, 47)):
-        answer = where(tools, f'connection 1 client record 1 byte {byte}')
-        tools.want(f'byte {byte} of single bytes', answer[1][-1], f'frame.number == {frame}')
-    tools.want('all of them', where(tools, 'connection 1 client record 2')[1][-1],
-               'frame.number in {48..91}')
-    tools.write('a.pcap', section() + interface() + b''.join(map(simple, frames)))
-    tools.want('no time', where(tools, 'connection 1 client record 1 byte 0')[1][1],
-               'frame 4, without a time')
-    tools.write('a.pcap', pcap(Talk(699).opened() + whole() + whole(first=(9_000, 9_000))))
-    lines = where(tools, 'connection 2 server record 39 byte 23')[1]
-    tools.want('the third of Wireshark', lines[0].endswith('tcp.stream == 2') and lines[-1],
-               'frame.number == 31')
-    tools.write('a.pcap', pcap(frames[:4] + frames[5:]))
-    first = 2 * 344 // CALL + 1
-    tools.want('after a gap', where(tools, f'connection 1 client record {first - 7} byte 39')[1][
-        -1], 'frame.number == 5')
-    tools.write('a.pcap', pcap(frames[4:]))
-    tools.want('cut', where(tools, 'connection 1 client record 1 byte 0')[1][-1],
-               'frame.number == 1')
-    tools.want('its record', where(tools, 'connection 1 client record 8')[1][-1],
-               'frame.number in {1..2}')
+    single = pcap(talk.opened() + [talk.sent(0, ALL[0][at:at + 1]) for at in range(2 * CALL)])
+    again = pcap(Talk(699).opened() + whole() + whole(first=(9_000, 9_000)))
+    no_times = section() + interface() + b''.join(map(simple, frames))
+    # (the first record that is whole behind the gap has another number)
+    behind = 2 * 344 // CALL + 1 - 7
+    for recording, place, last in (
+            (pcap(pieces), 'client record 1 byte 0', 'number == 9'),
+            *((single, f'client record 1 byte {byte}', f'number == {frame}')
+              for byte, frame in ((0, 8), (39, 47), (40, 47))),
+            (single, 'client record 2', 'number in {48..91}'),
+            (pcap(frames[:4] + frames[5:]), f'client record {behind} byte 39', 'number == 5'),
+            (pcap(frames[4:]), 'client record 1 byte 0', 'number == 1'),
+            (pcap(frames[4:]), 'client record 8', 'number in {1..2}'),
+            (again, 'server record 39 byte 23', 'number == 31'),
+            (no_times, 'client record 1 byte 0', 'number == 4')):
+        tools.write('a.pcap', recording)
+        lines = where(tools, f'connection {1 + (recording == again)} {place}')[1]
+        tools.want(place, lines[-1], f'frame.{last}')
+        if recording in (again, no_times):
+            tools.want('what is said', ('tcp.stream == 2' in lines[0], lines[1]), (
+                recording == again, lines[1] if recording == again
+                else 'frame 4, without a time'))
 
 
 @unittest.skipUnless(shutil.which('tshark'), 'tshark is not there')
@@ -196,8 +184,7 @@ def parts_that_are_none(tools: Tools) -> None:
     status, _, _, error = verdicts(tools, 'half.pcap2')
     tools.want('a part alone', (status, error.splitlines()[0]), (1, (
         'half.pcap2: it begins in the middle of 1 connection: if it is a part of a recording, as '
-        'of `tcpdump -C`, name all parts in its '
-        "place, as 'half.pcap*'")))
+        "of `tcpdump -C`, name all parts in its place, as 'half.pcap*'")))
     for number, frame in enumerate(whole()):  # all at one time
         tools.write(f'equal{number or ""}', pcap([frame]))
     tools.want('equal times', [row[-1] for row in verdicts(tools, 'equal*')[1]], ['ok'])
@@ -207,11 +194,10 @@ def parts_that_are_none(tools: Tools) -> None:
     tools.write('run.pcap3', pcap([]))
     tools.write('run.pcap.html', b'<!doctype html>')
     tools.write('run.pcap.txt', b'')
-    told = [f'run.pcap*: run.pcap.{name} is no recording, and is skipped'
-            for name in ('html', 'txt')]
     found = verdicts(tools, '--html', 'run.pcap.html', 'run.pcap*')
     tools.want('a page beside them', ([row[-1] for row in found[1]], found[3].splitlines()),
-               (['ok'] * 2, told))
+               (['ok'] * 2, [f'run.pcap*: run.pcap.{name} is no recording, and is skipped'
+                             for name in ('html', 'txt')]))
     answer = tools.tool('where', 'run.pcap*', 'connection 1 client record 8')
     tools.want('where', (answer[0], answer[1].splitlines()[-1]),
                (0, 'run.pcap1: frame.number in {4..5}'))
@@ -225,19 +211,17 @@ def parts_that_are_none(tools: Tools) -> None:
 def recordings_that_are_compressed(tools: Tools) -> None:
     """What to type names the tool that was called."""
     tools.write('a.lz4', b'\x04\x22\x4d\x18')
-    told = 'it is compressed by %s: decompress it first, as in `%s`'
-    for words, line in (
-            (('from_pcap', 'a.lz4', 'out'), told % ('lz4', 'lz4 -dc FILE | tools/from_pcap - OUT')),
-            (('where', 'a.lz4', 'file 20'),
-             told % ('lz4', 'lz4 -dc FILE | tools/where - POSITION')),
-            (('compare', '--program', tools.program, 'a.lz4', 'a.lz4'),
-             told % ('lz4', 'tools/compare <(lz4 -dc A) <(lz4 -dc B)'))):
-        # (of two recordings the name says which it is)
-        named = f'{words[0]}: {"a.lz4: " if words[0] == "compare" else ""}'
-        tools.want(words[0], tools.tool(*words), (2, '', f'{named}{line}\n'))
-    tools.want('verdicts', verdicts(tools, 'a.lz4')[1][0][-1],
-               told % ('lz4', 'lz4 -dc FILE | tools/verdicts -'))
     os.symlink(TOP / 'tools/where', tools.path('nfs3-where'))
+    told = 'it is compressed by lz4: decompress it first, as in `%s`'
+    # (of two recordings the name says which it is)
+    for words, error in ((['from_pcap', 'a.lz4', 'out'], 'lz4 -dc FILE | tools/from_pcap - OUT'),
+                         (['where', 'a.lz4', 'file 20'], 'lz4 -dc FILE | tools/where - POSITION'),
+                         (['compare', 'a.lz4', 'a.lz4'],
+                          'tools/compare <(lz4 -dc A) <(lz4 -dc B)')):
+        named = f'{words[0]}: {"a.lz4: " if words[0] == "compare" else ""}'
+        tools.want(words[0], tools.tool(*words), (2, '', f'{named}{told % error}\n'))
+    tools.want('verdicts', verdicts(tools, 'a.lz4')[1][0][-1],
+               told % 'lz4 -dc FILE | tools/verdicts -')
     done = ended([tools.path('nfs3-where'), 'a.lz4', 'file 20'], tools.folder)
     tools.want('installed', '`lz4 -dc FILE | nfs3-where - POSITION`' in done.error.decode(), True)
 
@@ -262,13 +246,12 @@ def faults_with_their_frames(tools: Tools) -> None:
     """Wrong recordings are named with their frame, captures without one."""
     for name, (place, frame) in FAULTS.items():
         fault = place.partition(' ')[2].partition(' ')[2]
-        status, rows, last, error = verdicts(tools, str(TOP / 'examples' / (name + '.pcap')))
-        tools.want(name, (status, rows[-1][-1], error), (1, f'{fault}, frame {frame}', ''))
-        tools.want(name + ', the others', all(row[-1] == 'ok' for row in rows[:-1]), True)
-        status, rows, last, error = verdicts(tools, str(TOP / 'examples' / (name + '.nfs3cap')))
-        tools.want(name + ' as a capture', (status, rows[-1][-1], error), (1, fault, ''))
-        answer = tools.run('check', str(TOP / 'examples' / (name + '.nfs3cap')))[2]
-        found = tools.tool('where', str(TOP / 'examples' / (name + '.pcap')), stdin=answer.encode())
+        recording, capture = (str(TOP / f'examples/{name}.{kind}') for kind in ('pcap', 'nfs3cap'))
+        for file, last in ((recording, f'{fault}, frame {frame}'), (capture, fault)):
+            status, rows, _, error = verdicts(tools, file)
+            tools.want(file, (status, rows[-1][-1], error, {row[-1] for row in rows[:-1]} - {'ok'}),
+                       (1, last, '', set()))
+        found = tools.tool('where', recording, stdin=tools.run('check', capture)[2].encode())
         tools.want(name + ' by where', found[1].splitlines()[-1], f'frame.number == {frame}')
 
 
@@ -280,24 +263,19 @@ def rows_of_all_kinds(tools: Tools) -> None:
         frames += connection_of(calls, replies, port=number)
     tools.write('a.pcap', pcap(frames))
     fault = 'server record 2 byte 0: NoCall, frame %d'
-    wanted = [['a.pcap', '1', '192.0.2.7:700', '192.0.2.1:2049', '39', '39', 'ok'],
-              ['a.pcap', '2', '192.0.2.7:701', '192.0.2.1:2049', '2', '3', fault % 20],
-              ['a.pcap', '3', '192.0.2.7:702', '192.0.2.1:2049', '1', '1', 'ok'],
-              ['a.pcap', '4', '192.0.2.7:703', '192.0.2.1:2049', '2', '3', fault % 34]]
-    tools.want('four connections', verdicts(tools, 'a.pcap'), (1, wanted, sums(2, 0, 2), ''))
-    tools.want('one at a time', verdicts(tools, '-j', '1', 'a.pcap'),
-               (1, wanted, sums(2, 0, 2), ''))
-    tools.want('standard input', verdicts(tools, '-', stdin=pcap(frames))[1],
-               [['-', *row[1:]] for row in wanted])
+    wanted = [[str(number), f'192.0.2.7:{699 + number}', '192.0.2.1:2049', *more]
+              for number, more in enumerate((['39', '39', 'ok'], ['2', '3', fault % 20],
+                                             ['1', '1', 'ok'], ['2', '3', fault % 34]), 1)]
+    for words, stdin in ((['a.pcap'], None), (['-j', '1', 'a.pcap'], None), (['-'], pcap(frames))):
+        tools.want(f'{words}', verdicts(tools, *words, stdin=stdin), (
+            1, [[words[-1], *row] for row in wanted], sums(2, 0, 2), ''))
     tools.write('b.pcap', pcap(whole()))
-    shutil.copy(TOP / 'examples/two_connections.nfs3cap', tools.path('c.nfs3cap'))
-    shutil.copy(TOP / 'examples/interleaved.nfs3cap', tools.path('d.nfs3cap'))
-    status, rows, last, error = verdicts(tools, 'b.pcap', 'c.nfs3cap', 'd.nfs3cap')
-    tools.want('all ok', (status, [[row[0], *row[-3:]] for row in rows], last, error),
-               (0, [['b.pcap', '39', '39', 'ok'], *([['c.nfs3cap', '1', '1', 'ok']] * 2),
-                    ['d.nfs3cap', '7', '7', 'ok'],
-                    ['d.nfs3cap', '51', '51', 'ok'], ['d.nfs3cap', '2', '2', 'ok']],
-                sums(6, raw='1 NFSACL GETACL'), ''))
+    for name, example in (('c', 'two_connections'), ('d', 'interleaved')):
+        shutil.copy(TOP / f'examples/{example}.nfs3cap', tools.path(name))
+    status, rows, last, error = verdicts(tools, 'b.pcap', 'c', 'd')
+    tools.want('all ok', (status, [' '.join([row[0], *row[-3:]]) for row in rows], last, error),
+               (0, ['b.pcap 39 39 ok', 'c 1 1 ok', 'c 1 1 ok', 'd 7 7 ok', 'd 51 51 ok',
+                    'd 2 2 ok'], sums(6, raw='1 NFSACL GETACL'), ''))
     tools.want('no program', tools.tool('verdicts', '--program', './absent', 'b.pcap'),
                (2, '', 'verdicts: ./absent is missing\n'))
     tools.want('no processes', tools.tool('verdicts', '-j', '0', 'b.pcap')[0], 2)
@@ -305,46 +283,43 @@ def rows_of_all_kinds(tools: Tools) -> None:
 
 def rows_of_faults_alone(tools: Tools) -> None:
     """With -q rows of ok are left out."""
-    good, bad = pcap(whole()), (TOP / 'examples/bad_server_record.pcap').read_bytes()
-    for content, faults in ((good, 0), (bad, 1)):
+    for content, faults in ((pcap(whole()), 0),
+                            ((TOP / 'examples/bad_server_record.pcap').read_bytes(), 1)):
         status, rows, last, error = verdicts(tools, '-', stdin=content)
         quiet = tools.tool('verdicts', '-q', '-', stdin=content)
         *lines, counts = [re.split('  +', line) for line in quiet[1].splitlines()]
-        tools.want(f'faults: {faults}', (quiet[0], lines, counts, quiet[2]),
-                   (status, [row for row in rows if row[-1] != 'ok'], re.split('  +', last), error))
-        tools.want(f'rows: {faults}', (len(lines), len(rows) > faults), (faults, True))
+        tools.want(f'faults: {faults}', (quiet[0], lines, counts, quiet[2], len(lines)), (
+            status, [row for row in rows if row[-1] != 'ok'], re.split('  +', last), error, faults))
 
 
 def rows_of_files_that_are_not_whole(tools: Tools) -> None:
     """Each beside a good one."""
     tools.write('b.pcap', pcap(whole()))
     two = (TOP / 'examples/two_connections.nfs3cap').read_bytes()
-    first, second, as_a_whole = ['1', '-', '-', '1', '1',
-                                 'ok'], ['2', '-', '-', '1', '1', 'ok'], ['-', '-', '-', '-', '-']
-    cases: list[tuple[str, bytes, list[list[str]]]] = [
-        ('cut', two[:-1], [first, second, [*as_a_whole, f'file {len(two) - 1}: CaptureCut']]),
-        ('more', two + b'x', [first, second, [*as_a_whole, f'file {len(two)}: AfterEnd']]),
-        ('mark', two[:100] + b'\0\0\0\7' + two[104:], [first, [*as_a_whole, 'file 100: BadMark']]),
-        ('both', (TOP / 'examples/bad_server_record.nfs3cap').read_bytes()[:-1],
-         [first, ['2', '-', '-', '1', '2', 'server record 2 byte 0: NoCall']]),
-        ('text', b'no recording', [[*as_a_whole, 'it is neither pcap nor pcapng']]),
-        ('lz4', b'\x04\x22\x4d\x18',
-         [[*as_a_whole, 'it is compressed by lz4: decompress it first, as in `lz4 -dc FILE | '
-           'tools/verdicts -`']]),
-        ('xz', lzma.compress(pcap(whole()))[:-1],
-         [['1', '192.0.2.7:700', '192.0.2.1:2049', '39', '39', 'ok'],
-          [*as_a_whole, 'in part: the recording ends inside a frame (frame 16): the compressed '
-           'file is cut short']]),
-        ('damaged', pcap(whole()) + b'\xff' * 16,
-         [['1', '192.0.2.7:700', '192.0.2.1:2049', '39', '39', 'ok'],
-          [*as_a_whole,
-           'the recording is damaged after frame 15: frame 16 claims 4294967295 bytes']]),
-        ('empty', pcap([]), [[*as_a_whole, 'no connection to judge']])]
-    for name, content, rows in cases:
+    bad = (TOP / 'examples/bad_server_record.nfs3cap').read_bytes()
+    first, second = ([number, '-', '-', '1', '1', 'ok'] for number in '12')
+    good = ['1', '192.0.2.7:700', '192.0.2.1:2049', '39', '39', 'ok']
+    # (a text is said of the file as a whole)
+    cases: dict[str, tuple[bytes, list[list[str] | str]]] = {
+        'cut': (two[:-1], [first, second, f'file {len(two) - 1}: CaptureCut']),
+        'more': (two + b'x', [first, second, f'file {len(two)}: AfterEnd']),
+        'mark': (two[:100] + b'\0\0\0\7' + two[104:], [first, 'file 100: BadMark']),
+        'both': (bad[:-1], [first, ['2', '-', '-', '1', '2', 'server record 2 byte 0: NoCall']]),
+        'text': (b'no recording', ['it is neither pcap nor pcapng']),
+        'lz4': (b'\x04\x22\x4d\x18', ['it is compressed by lz4: decompress it first, as in '
+                                      '`lz4 -dc FILE | tools/verdicts -`']),
+        'xz': (lzma.compress(pcap(whole()))[:-1], [
+            good, 'in part: the recording ends inside a frame (frame 16): the compressed file is '
+            'cut short']),
+        'damaged': (pcap(whole()) + b'\xff' * 16, [
+            good, 'the recording is damaged after frame 15: frame 16 claims 4294967295 bytes']),
+        'empty': (pcap([]), ['no connection to judge'])}
+    for name, (content, rows) in cases.items():
         tools.write(name, content)
         status, found, _, _ = verdicts(tools, name, 'b.pcap')
-        tools.want(name, (status, found[:-1]), (1, [[name, *row] for row in rows]))
-        tools.want(name + ', the other', found[-1][-1], 'ok')
+        wanted = [['-'] * 5 + [row] if isinstance(row, str) else row for row in rows]
+        tools.want(name, (status, found[:-1], found[-1][-1]),
+                   (1, [[name, *row] for row in wanted], 'ok'))
 
 
 def notes_on_a_recording(tools: Tools) -> None:
@@ -357,9 +332,9 @@ def notes_on_a_recording(tools: Tools) -> None:
     status, rows, _, error = verdicts(tools, '--json', 'x.json', '--junit', 'x.xml', 'a.pcap')
     tools.want('a note', (status, [row[-1] for row in rows], error),
                (0, ['ok', 'ok'], f'a.pcap: {told}\n'))
-    found = [(row['connection'], row['state'], row['message'], row['notes'])
-             for row in rows_of(tools, 'x.json')]
-    tools.want('JSON', found, [(None, 'note', told, []), (1, 'ok', 'ok', []), (2, 'ok', 'ok', [])])
+    tools.want('JSON', [[row[key] for key in ('connection', 'state', 'message', 'notes')]
+                        for row in rows_of(tools, 'x.json')],
+               [[None, 'note', told, []], [1, 'ok', 'ok', []], [2, 'ok', 'ok', []]])
     suite = tools.xml('x.xml')[0]
     tools.want('JUnit', (suite.get('tests'), suite.findtext('system-out'),
                          [len(case) for case in suite.iter('testcase')]),
@@ -370,58 +345,46 @@ def notes_on_a_recording(tools: Tools) -> None:
                [f'a.pcap: {told}', f'b.pcap: {told}'])
 
 
-def write_files(tools: Tools, *inputs: str) -> None:
-    """Writes JUnit XML and JSON of a fault, a loss, what is left out, and a file that is none."""
+def files_for_others(tools: Tools) -> None:
+    """JUnit XML holds whatever the name of a file has; JSON has states, positions, frames and what
+    is missing. Both of a fault, a loss, what is left out, and a file that is none."""
     name = 'a\1\n<&"]]>\udcff.pcap'
     tools.write(name, (TOP / 'examples/bad_server_record.pcap').read_bytes())
     tools.write('b.pcap', pcap(whole()[:4] + whole()[5:] + Talk(800).opened()))
     tools.write('c', b'text')
-    words = ['--junit', 'x.xml', '--json', 'x.json', '--program', tools.program, name, *inputs]
-    done = ended([VERDICTS, *words], tools.folder)
-    tools.want('status', (done.status, b'Traceback' in done.error), (1, False))
-
-
-def files_for_others(tools: Tools) -> None:
-    """JUnit XML holds whatever the name of a file has."""
-    write_files(tools, 'b.pcap', 'c')
-    suites = tools.xml('x.xml')
-    suite = suites[0]
-    tools.want('the suite',
-               [suite.get(key) for key in ('name', 'tests', 'failures', 'errors', 'skipped')],
-               ['nfs3canon', '5', '2', '1', '1'])
-    in_part = 'ok in part: 30 calls, 344 bytes missing'
-    escaped = 'a\\x01\\x0a<&"]]>\\xff.pcap'
+    words = ['--junit', 'x.xml', '--json', 'x.json', '--program', tools.program, name]
+    done = ended([VERDICTS, *words, 'b.pcap', 'c'], tools.folder)
+    suite, in_part = tools.xml('x.xml')[0], 'ok in part: 30 calls, 344 bytes missing'
+    tools.want('the suite', (done.status, b'Traceback' in done.error, [
+        suite.get(key) for key in ('name', 'tests', 'failures', 'errors', 'skipped')]),
+        (1, False, ['nfs3canon', '5', '2', '1', '1']))
+    escaped, ends = 'a\\x01\\x0a<&"]]>\\xff.pcap', '192.0.2.7 to 192.0.2.1:2049'
+    left_out = 'left out: 192.0.2.7:800 and 192.0.2.1:2049: no payload'
     cases = [(case.get('classname'), case.get('name'),
               [(item.tag, item.get('message')) for item in case if item.tag != 'system-out'])
              for case in suite.iter('testcase')]
-    ends = '192.0.2.7 to 192.0.2.1:2049'  # the client's port is another in each run
+    # (the client's port is another in each run)
     tools.want('the cases', cases, [
         (escaped, 'connection 1 ' + ends, []),
         (escaped, 'connection 2 ' + ends,
          [('failure', 'server record 2 byte 0: NoCall, frame 13')]),
         ('b.pcap', 'connection 1 ' + ends, [('failure', in_part)]),
-        ('b.pcap', 'left out: 192.0.2.7:800 and 192.0.2.1:2049: no payload',
-         [('skipped', 'left out: 192.0.2.7:800 and 192.0.2.1:2049: no payload')]),
+        ('b.pcap', left_out, [('skipped', left_out)]),
         ('c', 'as a whole', [('error', 'it is neither pcap nor pcapng')])])
-    told = [item.text or '' for case in suite.iter('testcase') for item in case
-            if item.tag == 'system-out']
-    tools.want('what is told', [text.splitlines()[:2] for text in told],
-               [[in_part, 'client: 344 bytes are missing from the recording after the first 344, '
-                 'before frame 5; '
-                 f'{9 * CALL - 344} bytes of torn records are left out']])
-
-
-def rows_for_others(tools: Tools) -> None:
-    """JSON has states, positions, frames and what is missing."""
-    write_files(tools, 'b.pcap', 'c')
-    rows = rows_of(tools, 'x.json')
-    tools.want('JSON', [(row['state'], row['connection'], row['tcp_stream'], row[
-        'position'], row['reason'], row['frames'], row['missing']) for row in rows], [
-            ('ok', 1, 0, None, None, [], 0), ('refused', 2, 1, 'server record 2 byte 0', 'NoCall', [
-                {'number': 13, 'time': 1_000_012_000}], 0), ('in part', 1, 0, None, None, [], 344),
-            ('left out', None, None, None, None, [], 0), ('error', None, None, None, None, [], 0)])
-    status, _, _ = tools.tool('verdicts', '--junit', 'absent/x', 'b.pcap')
-    tools.want('a file that cannot be written', status, 3)
+    told = [(case.findtext('system-out') or '').splitlines()[:2] for case in suite.iter('testcase')]
+    tools.want('what is told', [text for text in told if text], [
+        [in_part, 'client: 344 bytes are missing from the recording after the first 344, before '
+         f'frame 5; {9 * CALL - 344} bytes of torn records are left out']])
+    tools.want('JSON', [[row[key] for key in ('state', 'connection', 'tcp_stream', 'position',
+                                              'reason', 'frames', 'missing')]
+                        for row in rows_of(tools, 'x.json')], [
+        ['ok', 1, 0, None, None, [], 0],
+        ['refused', 2, 1, 'server record 2 byte 0', 'NoCall',
+         [{'number': 13, 'time': 1_000_012_000}], 0],
+        ['in part', 1, 0, None, None, [], 344], ['left out', None, None, None, None, [], 0],
+        ['error', None, None, None, None, [], 0]])
+    tools.want('a file that cannot be written',
+               tools.tool('verdicts', '--junit', 'absent/x', 'b.pcap')[0], 3)
 
 
 def interrupted(tools: Tools) -> None:
@@ -452,15 +415,15 @@ def parts_without_quotes(tools: Tools) -> None:
     tools.write('run1.pcap', pcap(frames[:13]))
     tools.write('run2.pcap', pcap(frames[13:]))
     tools.write('other.pcap', pcap(talk_in_turns(Talk(701))[13:]))
-    line = 'run1.pcap and %s: these look like parts of one recording; put the pattern in quotes'
+    line = ('run1.pcap and run2.pcap: these look like parts of one recording; put the pattern in '
+            'quotes')
     for tool in ('verdicts', 'procedures', 'calls'):
-        for names, is_told in ((['run1.pcap', 'run2.pcap'], True),
-                               (['run2.pcap', 'run1.pcap'], True), (['run?.pcap'], False),
-                               (['run1.pcap', 'other.pcap'], False),
-                               (['run1.pcap', 'run1.pcap'], False), (['run2.pcap'], False)):
-            _, _, error = tools.tool(tool, *names)
+        for names, is_told in (('run1.pcap run2.pcap', True), ('run2.pcap run1.pcap', True),
+                               ('run?.pcap', False), ('run1.pcap other.pcap', False),
+                               ('run1.pcap run1.pcap', False), ('run2.pcap', False)):
+            _, _, error = tools.tool(tool, *names.split())
             tools.want(f'{tool} {names}', [one for one in error.splitlines() if 'look like' in one],
-                       [line % 'run2.pcap'] * is_told)
+                       [line] * is_told)
 
 
 def talk_in_turns(talk: Talk) -> list[bytes]:

@@ -19,7 +19,7 @@ import json
 import os
 import sys
 from collections import Counter
-from collections.abc import Iterable, Iterator, Sequence
+from collections.abc import Iterator, Sequence
 from dataclasses import dataclass, field
 from functools import partial
 from html import escape
@@ -86,10 +86,6 @@ class FindingRow:
     @property
     def section(self) -> str:
         return ', '.join(self.sections)
-
-    @property
-    def colour(self) -> Colour:
-        return Colour.RED if self.kind == FINDING else Colour.YELLOW
 
     @property
     def cells(self) -> tuple[str, ...]:
@@ -174,7 +170,10 @@ class RecordingFindings:
         if len(self.chosen.recordings) > 1:
             print(f'{self.recording}:')
         if rows and not self.chosen.all:
-            print(*table_lines(table_of_rows(rows), screen), sep='\n')
+            # (red is what is wrong, yellow a note, and what is accepted)
+            cells = (Styled(row.cells, Colour.RED if row.kind == FINDING else Colour.YELLOW)
+                     for row in rows)
+            print(*table_lines([Styled(FINDING_HEADS), *cells], screen), sep='\n')
         for one, row in self.all if self.chosen.all else ():
             if row in rows:
                 time = call_time(self.kept.times[one.number], self.begun)
@@ -206,7 +205,7 @@ class FindingsReport:
 
     @property
     def status(self) -> int:
-        return self.verdict_status() or int(any(row.kind == FINDING for row in self.rows))
+        return self.verdict_status() or int(self.numbers()[FINDING] > 0)
 
     def verdict_status(self) -> int:
         return status_of(self.verdicts, allowed_of(self.chosen))
@@ -221,13 +220,6 @@ class FindingsReport:
     def rules(self) -> str:
         return count(len({row.rule for row in self.rows if row.kind == FINDING}), 'rule')
 
-    def words(self) -> str:
-        """Returns how many findings there are."""
-        numbers = self.numbers()
-        taken = f', {numbers[ACCEPTED]:,} accepted' if self.chosen.accept.path else ''
-        return (f'{count(numbers[FINDING], FINDING)} by {self.rules()}, '
-                f'{count(numbers[NOTE], NOTE)}{taken}; looked at:')
-
     def members(self) -> dict[str, object]:
         """What is below the findings in JSON."""
         names = (*FINDING_HEADS[:-1], 'accepted')
@@ -240,15 +232,15 @@ class FindingsReport:
                 for entry in self.chosen.accept.entries
                 if not any(row.fits(entry) for row in self.rows)]
 
-    def lines(self) -> Iterator[str]:
-        """What is no longer found, how much was looked at, and the counts."""
-        looked = (f'  {line}' for line in self.looked.lines())
-        return chain(self.no_longer_found(), [self.words()], looked, [sums_of(self.verdicts)])
-
-
-def table_of_rows(rows: Iterable[FindingRow]) -> list[Styled]:
-    """Returns a table: red is what is wrong, yellow a note, and what is accepted."""
-    return [Styled(FINDING_HEADS), *(Styled(row.cells, row.colour) for row in rows)]
+    def lines(self) -> list[str]:
+        """What is no longer found, how many findings there are, how much was looked at, and the
+        counts."""
+        numbers = self.numbers()
+        taken = f', {numbers[ACCEPTED]:,} accepted' if self.chosen.accept.path else ''
+        return [*self.no_longer_found(),
+                f'{count(numbers[FINDING], FINDING)} by {self.rules()}, '
+                f'{count(numbers[NOTE], NOTE)}{taken}; looked at:',
+                *(f'  {line}' for line in self.looked.lines()), sums_of(self.verdicts)]
 
 
 def print_all(told: FindingsReport) -> None:

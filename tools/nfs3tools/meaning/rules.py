@@ -168,9 +168,12 @@ class Looked:
                       'no name is asked for again in a folder that is shown'),
             'commits': (self.writes, count(self.writes, 'UNSTABLE WRITE'),
                         'no WRITE is UNSTABLE')}
-        return {group: asked_or_why(number, text,
-                                    self.not_asked.get(group) or [none] * (not number))
-                for group, (number, text, none) in words.items()}
+        out = dict[str, str]()
+        for group, (number, text, none) in words.items():
+            reasons = self.not_asked.get(group) or [none] * (not number)
+            why = [f'not asked, since {", and ".join(reasons)}'] if reasons else []
+            out[group] = '; '.join([*[text] * (number > 0), *why])
+        return out
 
     def members(self) -> dict[str, object]:
         """Returns the numbers, and the words of each group."""
@@ -179,9 +182,3 @@ class Looked:
 
     def lines(self) -> Iterator[str]:
         return (f'{group}: {words}' for group, words in self.groups().items())
-
-
-def asked_or_why(number: int, text: str, reasons: list[str]) -> str:
-    """Returns what was looked at, and why not all was."""
-    why = f'not asked, since {", and ".join(reasons)}' if reasons else ''
-    return '; '.join(filter(None, [text if number else '', why]))
