@@ -141,8 +141,7 @@ calls_in_order : (calls before : List (List Item)) (stream : List ℕ)
     → HoldsAfter calls_in_turn before stream calls
 calls_in_order [] before stream one h = ([], h, refl)
 calls_in_order (call ∷ calls) before stream one (front, rest, split, of, more) =
-    holds_more calls_in_turn IsCall before calls call stream front rest split of
-    (
+    holds_more calls_in_turn IsCall before calls call stream front rest split of (
       of.2,
       λ id known.
           let m = known_call before (xid_in call) id known in
@@ -172,8 +171,7 @@ replies_in_order : (calls : List (List Item)) (replies before : List ReplyItems)
 replies_in_order calls [] before stream one answers h = ([], h, refl)
 replies_in_order calls (reply ∷ replies) before stream one answers (front, rest, split, of, more) =
     let a = answers reply (IsIn-here reply replies) in
-    holds_more (replies_to calls) IsReply before replies reply stream front rest split of
-    (
+    holds_more (replies_to calls) IsReply before replies reply stream front rest split of (
       of.2,
       ap (procedure_of calls) (sym a.2) ∙ procedure_is calls a.0 one a.1
           ∙ ap (λ (id : ProcId). Some id) a.3,

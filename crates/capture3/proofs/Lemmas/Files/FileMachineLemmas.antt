@@ -119,22 +119,26 @@ module _ (bytes : List ℕ) (byte : ℕ) where
       (λ one.
       by_test (nat_eq byte (digit Two))
       (λ e. rw (one, e) (whole_magic Two begins (eqb-true _ _ e)))
-      (λ two. rw (one, two) (MagicDiffers One bytes [] byte (digit One) refl
-      (ap (λ (b : List ℕ). b ++ digit One ∷ []) (begins ∙ append-nil bytes))
-      (λ other expected rest others. other_digits other expected rest begins others one two) refl,
-      inl refl)))
+      (λ two. rw (one, two) (
+        MagicDiffers One bytes [] byte (digit One) refl
+            (ap (λ (b : List ℕ). b ++ digit One ∷ []) (begins ∙ append-nil bytes))
+            (λ other expected rest others. other_digits other expected rest begins others one two) refl,
+        inl refl,
+      )))
   magic_leads (due ∷ more) begins =
       by_test (nat_eq byte due)
       (λ e.
       let is = eqb-true byte due e in
       rw e (AtMagic more (rw (is, append_assoc) begins)
       (ap (λ n. parsing_in One n 0 0 [] (magic_left more)) at_more)))
-      (λ e. rw e (MagicDiffers One bytes (more ++ digit One ∷ []) byte due refl
-      (ap (λ (b : List ℕ). b ++ digit One ∷ []) begins
-      ∙ append_assoc bytes (due ∷ more) (digit One ∷ []))
-      (λ other expected rest others is.
-      eqb-false byte due e (is ∙ sym (due_is due expected more rest other begins others))) refl,
-      inl refl))
+      (λ e. rw e (
+        MagicDiffers One bytes (more ++ digit One ∷ []) byte due refl
+            (ap (λ (b : List ℕ). b ++ digit One ∷ []) begins
+            ∙ append_assoc bytes (due ∷ more) (digit One ∷ []))
+            (λ other expected rest others is.
+            eqb-false byte due e (is ∙ sym (due_is due expected more rest other begins others))) refl,
+        inl refl,
+      ))
 
 -- ---- after whole connections
 
@@ -195,15 +199,17 @@ module _ (version : Version) (front : List ℕ) (connections : List Streams) (en
       (λ e. rw e (AtInside version front word [] connections entries
       (opened version (length front + 4) (total_size connections)) none opens is (ltb-true _ _ e)
       (nothing_opened (next_position front connections) version opens.small) refl))
-      (λ e. rw e (ConnectionIsTooMany (word_after word [] 1 none is) refl refl
-      (omega (arith, opens.few, ltb-false (length connections) max_connections e)) refl, inl refl))
-  marked_leads bytes word (suc (suc other)) split is =
-      (
-        MarkIsBad
-            (word_after word [] (suc (suc other)) (split ∙ sym (append-nil (front ++ word))) is)
-            refl (omega arith) refl,
+      (λ e. rw e (
+        ConnectionIsTooMany (word_after word [] 1 none is) refl refl
+            (omega (arith, opens.few, ltb-false (length connections) max_connections e)) refl,
         inl refl,
-      )
+      ))
+  marked_leads bytes word (suc (suc other)) split is = (
+    MarkIsBad
+        (word_after word [] (suc (suc other)) (split ∙ sym (append-nil (front ++ word))) is)
+        refl (omega arith) refl,
+    inl refl,
+  )
 
   closed_leads : (bytes mark rest : List ℕ) → bytes ≡ front ++ mark ++ rest → IsWord mark 1
       → length connections < max_connections → (x : Closing)
@@ -283,9 +289,12 @@ begun_leads bytes s byte are
 begun_leads bytes s byte are (AtEnd version front last connections entries split opens closes is) =
     let at_is : length bytes ≡ length front + 4 =
     omega (lengths, ap length split) in
-    rw is (ByteAfterEnd (word_after version front connections entries opens last (byte ∷ []) 0
-    (ap (λ (b : List ℕ). b ++ byte ∷ []) split) closes) refl refl
-    (ap (λ n. file_fault n AfterEnd) at_is), inl refl)
+    rw is (
+      ByteAfterEnd (word_after version front connections entries opens last (byte ∷ []) 0
+          (ap (λ (b : List ℕ). b ++ byte ∷ []) split) closes) refl refl
+          (ap (λ n. file_fault n AfterEnd) at_is),
+      inl refl,
+    )
 
 pub file_tells : (bytes : List ℕ) → AreBytes bytes → Tells Stands RefusesFile bytes (parsed bytes)
 file_tells =
