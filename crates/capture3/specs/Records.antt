@@ -1,5 +1,5 @@
 -- The stream of one side: records (RFC 5531, section 11), whose bodies are judged in turn.
-use Rattle.std.specs.Prelude.{◌≡◌, ◌⊎◌, ℕ, suc, List, [], ◌∷◌, ◌++◌, length}
+use Rattle.std.specs.Prelude.{◌≡◌, ◌⊎◌, ℕ, List, [], ◌∷◌, ◌++◌, length}
 use Rattle.xdr3.specs.declared.reason.Reason.TheVariants.{RecordCut, RecordTooLong}
 use Rattle.xdr3.specs.declared.reason.Stop.{Stop}
 use Rattle.record_mark.specs.RecordMark.{Marks, IsRecord, IsTooLong, IsOpen, IsUnfinished}

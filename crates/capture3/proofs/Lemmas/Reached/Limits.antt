@@ -1,5 +1,5 @@
 -- The entries that bytes reach are within the limits.
-use Rattle.capture3.proofs.Common.{lengths, Fault, Stop, ◌≡◌, ◌⊎◌, inl, inr, ℕ, ◌+◌, ◌<◌, ◌≤◌, List, [], ◌∷◌, ◌++◌, length, map, refl, ap, ◌∙◌, append_assoc, arith, false, concat, Joins, Item, Version, One, Two, max_connections, total_size, Streams, size, AreMixed, BeginsMixed, max_bytes, BeginsStream, Position, ShownFault, calls_in_turn, replies_to, ConnectionShows, StreamsShow, InClientStream, InServerStream, ReachesInside, AreWhole, InMagic, BetweenConnections, InConnection, Judgement, AreMessages, Holds, HoldsSoFar, RecordFault, FirstRecordFault, Converses, reply_entry, connection_entries, HaveEntries, Typed, IsFragment, IsRecord, Marks, length_of_spelling, ReplyItems, AcceptsCall, AcceptsReply, begins, spelled, AreWithinLimits, RefusesRecord, PassesLimit, CutsOpen}
+use Rattle.capture3.proofs.Common.{lengths, Fault, Stop, ◌≡◌, inl, inr, ℕ, ◌+◌, ◌<◌, ◌≤◌, List, [], ◌∷◌, ◌++◌, length, map, refl, ap, ◌∙◌, append_assoc, arith, false, concat, Joins, Item, Version, One, Two, max_connections, total_size, Streams, size, AreMixed, BeginsMixed, max_bytes, BeginsStream, calls_in_turn, replies_to, StreamsShow, InClientStream, InServerStream, ReachesInside, AreWhole, InMagic, BetweenConnections, InConnection, Judgement, AreMessages, Holds, HoldsSoFar, FirstRecordFault, Converses, reply_entry, connection_entries, HaveEntries, Typed, IsFragment, IsRecord, Marks, length_of_spelling, ReplyItems, AcceptsCall, AcceptsReply, begins, spelled, AreWithinLimits, RefusesRecord, PassesLimit, CutsOpen}
 use Rattle.capture3.specs.Entry.{Entry, Begin, Call, Turn, Reply, Close, End}
 use Rattle.capture3.proofs.Lemmas.Connections.JudgedInTurn.{calls_hold, conversed, replies_hold}
 
