@@ -1,7 +1,7 @@
 -- The messages of connections, apart from the streams that carry them.
 use Rattle.canon3.proofs.Common.{◌≡◌, ℕ, ◌+◌, ◌≤◌, ◌^◌, List, [], ◌∷◌, ◌++◌, length, map, refl, ap, ◌∙◌, subst, arith, length-append, map-append, Item, Spells, word_bytes, zero_spelling, length_of_spelling, ReplyItems, IsCall, IsReply, Streams, record_bytes, chunk_bytes, message_bytes, Joins, IsRecordOf, IsIn, HaveOneProcedure, AnswerCalls}
 use Rattle.std.specs.List.{AllByRecursion, flat_map, concat}
-use Rattle.record_mark.specs.RecordMark.{max_body, IsRecord, Marks}
+use Rattle.record_mark.specs.RecordMark.{max_body, IsRecord}
 use Rattle.record_mark.proofs.Steps.{IsWord-big_bytes, heads, one_fragment}
 use Rattle.capture3.specs.Chunks.{IsChunk, IsStream}
 use Rattle.capture3.proofs.Lemmas.Reached.Limits.{record_size}

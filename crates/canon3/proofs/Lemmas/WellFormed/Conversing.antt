@@ -1,5 +1,5 @@
 -- Messages of connections: from their streams, and in streams of their own.
-use Rattle.canon3.proofs.Common.{ℕ, ◌≤◌, List, [], ◌∷◌, length, map, ap, subst, arith, length-append, AllByRecursion, flat_map, Item, Word, zero_spelling, length_of_spelling, xid_of, Member, here, zero_spelled_all, ReplyItems, IsCall, IsReply, xid_in, Streams, size, Joins, IsRecordOf, IsIn, Converses}
+use Rattle.canon3.proofs.Common.{ℕ, ◌≤◌, List, [], ◌∷◌, length, ap, subst, arith, length-append, AllByRecursion, flat_map, Item, Word, length_of_spelling, xid_of, Member, here, zero_spelled_all, ReplyItems, IsCall, IsReply, xid_in, Streams, size, Joins, IsRecordOf, IsIn, Converses}
 use Rattle.std.proofs.lemmas.List.{map-id}
 use Rattle.std.proofs.lemmas.List.Concat.{flat_map-append}
 use Rattle.canon3.proofs.Lemmas.Numbers.RankLemmas.{member-append_left, member-append_right}
