@@ -121,7 +121,7 @@ def clause_on_the_page(tools: Tools) -> None:
                                     page.partition('| Symbol |')[2].partition('\n\n')[0], re.M))
     words = set(re.findall(r'[A-Za-z_]+|[→×⊥]', quoted[0] if quoted else ''))
     known = set(re.findall(r'[A-Za-z_]+|[→×⊥]', explained)) | {'text', 'ensures', 'whole', 'List',
-                                                               'Decides', 'of_bytes'}
+                                                               'DecidesSame', 'of_bytes'}
     tools.want('words without a line', sorted(words - known), [])
 
 

@@ -39,12 +39,12 @@ StopsComparing first second _ which = Unit {0}
 
 -- Both files are well formed, and their entries are the same up to renaming, or are not and part at
 -- the place; or an error came.
-abbrev pub Decides : (first second : Evidence) → Result Verdict SameError → Type 0
-Decides first second (Ok verdicts.Same) = (a : List Entry) × (b : List Entry) × first.has a
+abbrev pub DecidesSame : (first second : Evidence) → Result Verdict SameError → Type 0
+DecidesSame first second (Ok verdicts.Same) = (a : List Entry) × (b : List Entry) × first.has a
     × second.has b × Same a b
-Decides first second (Ok (verdicts.Differ place)) = (a : List Entry) × (b : List Entry)
+DecidesSame first second (Ok (verdicts.Differ place)) = (a : List Entry) × (b : List Entry)
     × first.has a × second.has b × (Same a b → ⊥) × Parting a b place
-Decides first second (Err error) = StopsComparing first second error.error error.which
+DecidesSame first second (Err error) = StopsComparing first second error.error error.which
 
 -- a read of this one failed
 abbrev pub is_read_of : (which one : Which) → Error → Bool

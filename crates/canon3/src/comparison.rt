@@ -7,7 +7,7 @@ ghost use Rattle.capture3.specs.Observed.{GavePrefix, Observed};
 ghost use Rattle.capture3.specs.Entries.{failure_of, source_of};
 ghost use Rattle.capture3.specs.machinery.EntriesHistory.{entries_left};
 ghost use Rattle.capture3.specs.Entry as spec;
-ghost use Rattle.canon3.specs.Comparison.{CountsReadingOf, Decides, of_bytes, of_source};
+ghost use Rattle.canon3.specs.Comparison.{CountsReadingOf, DecidesSame, of_bytes, of_source};
 ghost use Rattle.canon3.specs.machinery.ComparisonSteps.{Compares, FindsOut, IsFound, IsReadAfter, IsReadOut, HaveReceived, IsComparing, Meets, met_second, refusal_in, StepsOn};
 ghost use Rattle.canon3.specs.machinery.WritingSteps.{HasGiven, since, source_since};
 ghost use Rattle.canon3.specs.machinery.Reading.{ReadsBoth, ReadsOne, ReadsSecond};
@@ -47,12 +47,12 @@ pub fn same<A: Source, B: Source, S: BuildHasher + Drop>(
     second: &mut B,
 ) -> Result<Verdict, SameError>
     // The verdict.
-    ensures gave { Decides (of_source (A.observed first.old, A.observed first.new))
+    ensures gave { DecidesSame (of_source (A.observed first.old, A.observed first.new))
         (of_source (B.observed second.old, B.observed second.new)) result }
     ensures whole { (file other : List ℕ)
         → GavePrefix (A.observed first.old) (A.observed first.new) file
         → GavePrefix (B.observed second.old) (B.observed second.new) other
-        → Decides (of_bytes file) (of_bytes other) result }
+        → DecidesSame (of_bytes file) (of_bytes other) result }
 
     // The devices.
     ensures read_first { CountsReadingOf Which.First (A.failures first.old)
@@ -103,7 +103,7 @@ fn conclude<A: Source, B: Source, S: BuildHasher + Drop>(
     ensures gave { (start other_start : Observed)
         → IsFound (since A.observed start first.old) (since B.observed other_start second.old)
         finding
-        → Decides (of_source (source_since (since A.observed start first.new)))
+        → DecidesSame (of_source (source_since (since A.observed start first.new)))
         (of_source (source_since (since B.observed other_start second.new))) result }
     ensures reads { ReadsBoth A.failures B.failures first.old first.new
         second.old second.new result }
@@ -176,7 +176,7 @@ impl<S: BuildHasher + Drop> Comparison<S> {
         requires going_second { failure_of second.old ≡ None }
 
         // The verdict.
-        ensures gave { Decides
+        ensures gave { DecidesSame
             (of_source (A.observed (source_of first.old), A.observed (source_of first.new)))
             (of_source (B.observed (source_of second.old), B.observed (source_of second.new)))
             result }

@@ -13,7 +13,7 @@ ghost use Rattle.capture3.specs.Typed.{Typed};
 ghost use Rattle.capture3.specs.Rank.{rank, distinct, with_key};
 ghost use Rattle.canon3.specs.OneToOne.{Member, Pairs, OneToOne, IsHandle, IsInjectiveOn, AreBeside};
 ghost use Rattle.canon3.specs.Renaming.{Pairwise, Same};
-ghost use Rattle.canon3.specs.Comparison.{Decides, of_bytes, of_source};
+ghost use Rattle.canon3.specs.Comparison.{DecidesSame, of_bytes, of_source};
 ghost use Rattle.canon3.specs.EntryWriter.{WritesAll, WritesAllCounted, WritesGiven, WritesGivenCounted};
 ghost use Rattle.canon3.specs.Summary.{AreMessageCounts, ConcludesAll, ConcludesGiven};
 ghost use Rattle.canon3.specs.declared.comparison.verdict.SameError.{SameError};
@@ -139,6 +139,6 @@ pub fn left_bytes_are_given()
         → old.left ≡ Some bytes → ConcludesGiven old new result → ConcludesAll bytes result }
     ensures same { (file other : List ℕ) (first second : Observed × Observed)
         (result : Result Verdict SameError) → first.0.left ≡ Some file
-        → second.0.left ≡ Some other → Decides (of_source first) (of_source second) result
-        → Decides (of_bytes file) (of_bytes other) result }
+        → second.0.left ≡ Some other → DecidesSame (of_source first) (of_source second) result
+        → DecidesSame (of_bytes file) (of_bytes other) result }
 {}

@@ -50,7 +50,8 @@ ending calls (SideRefuses fault) = Ends (Refuses (refusal fault))
 
 -- a fault in the client stream
 abbrev pub client_refusal : ℕ → List (List Item) → RecordFault → ShownFault
-client_refusal number calls fault = shown_with (map Call calls) (fault_of_record number Client fault)
+client_refusal number calls fault =
+    shown_with (map Call calls) (fault_of_record number Client fault)
 
 -- a fault in the server stream
 abbrev pub server_refusal : ℕ → List (List Item) → List ReplyItems → RecordFault → ShownFault

@@ -47,8 +47,8 @@ pub data MixedShows (at : Position) (bytes : List ℕ) (fault : Fault) : Type 0 
       → max_bytes < at.before + size (gathered b.chunks) + count
       → fault ≡ file_fault (at.start + length b.front + 4) TooManyBytes → MixedShows at bytes fault
 
--- The side word 0 shows this fault of the streams, which are whole with it, after these entries: the
--- first fault of the client stream, or, if that has none, of the server stream.
+-- The side word 0 shows this fault of the streams, which are whole with it, after these entries:
+-- the first fault of the client stream, or, if that has none, of the server stream.
 pub data StreamsShow (number : ℕ) (bytes : List ℕ) (entries : List Entry)
     (fault : Fault) : Type 0 where
   InClientStream : (streams : Streams) (calls : List (List Item)) (stop : Stop)

@@ -71,8 +71,8 @@ pub data AreWhole (bytes : List ℕ) (entries : List Entry) : Type 0 where
       → ReachesInside version (total_size connections) rest more → entries ≡ before ++ more
       → AreWhole bytes entries
 
--- in version 2: the bytes end with the side word 0 of a connection, whose streams have a fault after
--- these entries
+-- In version 2: the bytes end with the side word 0 of a connection, whose streams have a fault
+-- after these entries.
 pub record EndsStreams (bytes : List ℕ) (entries : List Entry) : Type 0 where
   pub here : AfterConnections bytes
   pub fault : Fault

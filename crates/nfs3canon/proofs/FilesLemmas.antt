@@ -4,7 +4,7 @@ use Rattle.capture3.specs.Entries.{CountsReading}
 use Rattle.capture3.specs.Observed.{Observed}
 use Rattle.capture3.specs.declared.fault.Error.TheVariants as errors
 use Rattle.capture3.proofs.Lemmas.Reader.ObservedLemmas.{IsPrefixOf, prefix_of_kept}
-use Rattle.canon3.specs.Comparison.{CountsReadingOf, Decides, of_source}
+use Rattle.canon3.specs.Comparison.{CountsReadingOf, DecidesSame, of_source}
 use Rattle.canon3.specs.Summary.{ConcludesAll, ConcludesGiven}
 use Rattle.canon3.specs.declared.comparison.verdict.SameError.{SameError}
 use Rattle.canon3.specs.declared.comparison.verdict.Verdict.{Verdict}
@@ -131,7 +131,7 @@ module _ {R : Type 0} (remaining : R → Option (List ℕ)) (run : FilesRun) whe
       → CountsReadingOf First was.failures now.failures came
       → CountsReadingOf Second other.failures other_now.failures came
       → IfErr came (λ error. error.error ≢ errors.Write)
-      → Decides (of_source (observed_of remaining was, observed_of remaining now))
+      → DecidesSame (of_source (observed_of remaining was, observed_of remaining now))
       (of_source (observed_of remaining other, observed_of remaining other_now)) came
       → ComparesFiles run first second (outcomes.Compared came)
   compares_read first second was now other other_now unread other_unread came is counts other_counts

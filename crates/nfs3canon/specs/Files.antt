@@ -5,7 +5,7 @@ use Rattle.capture3.specs.declared.fault.Fault.{Fault}
 use Rattle.capture3.specs.Capture.{One, IsCapture, max_connections, total_size}
 use Rattle.capture3.specs.Chunks.{max_bytes}
 use Rattle.capture3.specs.SidedChunks.{Streams}
-use Rattle.canon3.specs.Comparison.{CountsReadingOf, Decides, of_bytes}
+use Rattle.canon3.specs.Comparison.{CountsReadingOf, DecidesSame, of_bytes}
 use Rattle.canon3.specs.EntryWriter.{WritesAllCounted}
 use Rattle.canon3.specs.Summary.{AreMessageCounts, ConcludesAll}
 use Rattle.canon3.specs.declared.comparison.verdict.Which.{Which}
@@ -48,7 +48,7 @@ module _ (run : FilesRun) where
       × IfErr came (λ error. error.error ≢ errors.Write)
       × ((file others : List ℕ) → MayContain (run.holds first) one file
       → MayContain (run.holds second) other others
-      → Decides (of_bytes file) (of_bytes others) came))
+      → DecidesSame (of_bytes file) (of_bytes others) came))
       ⊎ ((run.readings ≡ [])
       × ((which : Which) × (came ≡ Err (record { which = which; error = errors.Memory }))))
   ComparesFiles first second outcome =

@@ -14,7 +14,7 @@ use Rattle.canon3.specs.declared.comparison.verdict.Verdict.TheVariants as verdi
 use Rattle.canon3.specs.declared.comparison.verdict.Which.{Which}
 use Rattle.canon3.specs.declared.comparison.verdict.Which.TheVariants.{First, Second}
 use Rattle.std.specs.Prelude.{MatchResult}
-use Rattle.canon3.specs.Comparison.{Decides, StopsComparing, of_bytes, of_source}
+use Rattle.canon3.specs.Comparison.{DecidesSame, StopsComparing, of_bytes, of_source}
 use Rattle.canon3.specs.EntryWriter.{StopsWriting}
 use Rattle.canon3.specs.HandleTable.{nothing}
 use Rattle.canon3.specs.Summary.{GaveAll}
@@ -90,7 +90,8 @@ gave_error source handed (errors.Refused fault) (given, gave, met) =
 gave_error source handed _ met = tt
 
 module _ (first second : Observed × Observed) where
-  pub first_stops : (error : Error) → GaveError first error → StopsComparing (of_source first) (of_source second) error First
+  pub first_stops : (error : Error) → GaveError first error
+      → StopsComparing (of_source first) (of_source second) error First
   first_stops (errors.Refused fault) met = met
   first_stops _ met = tt
 
@@ -111,7 +112,8 @@ module _ (first second : Observed × Observed) (file other : List ℕ)
   all_other_typed : (b : List Entry) → GaveAll second b → Typed other b
   all_other_typed b all = rw ((other_prefix all.given all.gave).all all.ended) at all.typed
 
-  stops_all : (error : Error) (which : Which) → StopsComparing (of_source first) (of_source second) error which
+  stops_all : (error : Error) (which : Which)
+      → StopsComparing (of_source first) (of_source second) error which
       → StopsComparing (of_bytes file) (of_bytes other) error which
   stops_all (errors.Refused fault) First f =
       first_of_all first.1 f.given file fault (prefix f.given f.gave) f.first
@@ -121,8 +123,9 @@ module _ (first second : Observed × Observed) (file other : List ℕ)
   )
   stops_all _ which s = tt
 
-  pub decides_all : (result : Result Verdict SameError) → Decides (of_source first) (of_source second) result
-      → Decides (of_bytes file) (of_bytes other) result
+  pub decides_all : (result : Result Verdict SameError)
+      → DecidesSame (of_source first) (of_source second) result
+      → DecidesSame (of_bytes file) (of_bytes other) result
   decides_all (Ok verdicts.Same) (a, b, whole, other_whole, alike) =
       (a, b, all_typed a whole, all_other_typed b other_whole, alike)
   decides_all (Ok (verdicts.Differ place)) (a, b, whole, other_whole, unlike, parts) =
@@ -233,7 +236,8 @@ module _ {A B S H : Type 0} {builds : BuildHasher.Ghosts S H} {hashes : Hasher.G
     -- and the second has no more either
     pub ended_decides : (h : HaveEnded first second) (result : Result Verdict SameError)
         → (more : List Entry) × GaveAll source (h.a ++ more)
-        → IsReadAfter other h.b verdicts.Same result → Decides (of_source source) (of_source other) result
+        → IsReadAfter other h.b verdicts.Same result
+        → DecidesSame (of_source source) (of_source other) result
     ended_decides h (Ok answer) (rest, all) (same, more, other_all) =
         let whole = whole_first h rest all in
         let none : more ≡ [] =
@@ -251,7 +255,7 @@ module _ {A B S H : Type 0} {builds : BuildHasher.Ghosts S H} {hashes : Hasher.G
         (result : Result Verdict SameError)
         → (more : List Entry) × GaveAll source ((h.a ++ h.e ∷ []) ++ more)
         → IsReadAfter other (h.b ++ h.f ∷ []) (verdicts.Differ place) result
-        → Decides (of_source source) (of_source other) result
+        → DecidesSame (of_source source) (of_source other) result
     parted_decides place h (Ok answer) (more, all) (same, rest, other_all) =
         rw same (
           (h.a ++ h.e ∷ []) ++ more,

@@ -44,7 +44,8 @@ comes_next entries one left is_lent first few passed =
     record { is_lent = is_lent; first = first; few = omega (arith, few); passed = passed }
 
 -- what is written of all bytes, of which those that were given are a prefix
-pub all_written : {C : Type 0} (form : List Entry → List ℕ) (AreCountsOf : List ℕ → C → Type 0) (bytes : List ℕ)
+pub all_written : {C : Type 0} (form : List Entry → List ℕ) (AreCountsOf : List ℕ → C → Type 0)
+    (bytes : List ℕ)
     (first observed : Observed) (old new : Option (List ℕ)) (result : Result C Error)
     → ((given : List ℕ) → Gave first observed given → IsPrefixOf observed given bytes)
     → WritesGivenCounted AreCountsOf form (first, observed) (old, new) result

@@ -60,7 +60,8 @@ RefusedClosing (Closes at total entries) = ⊥
 RefusedClosing (Refuses shown) = Unit {0}
 
 module _ (number : ℕ) where
-  pub in_client : Nested (side_next judge_call (fault_of_record number Client)) (opening_next number)
+  pub in_client : Nested (side_next judge_call (fault_of_record number Client))
+      (opening_next number)
       (λ n. InClient) (λ n. turning) RefusedSide RefusedClosing
   in_client = record { commutes = λ n s byte. refl; ends = λ n. refused }
     where
@@ -70,7 +71,8 @@ module _ (number : ℕ) where
       refused (SideRefuses fault) h = (Refuses (refusal fault), tt, refl)
 
   pub in_server : (calls : List (List Item))
-      → Nested (side_next (judge_replies calls) (fault_of_record number Server)) (opening_next number)
+      → Nested (side_next (judge_replies calls) (fault_of_record number Server))
+      (opening_next number)
       (λ n. InServer calls) (λ n. ending calls) RefusedSide RefusedClosing
   in_server calls = record { commutes = λ n s byte. refl; ends = λ n. refused }
     where
@@ -240,7 +242,8 @@ module _ (context : Position) where
       })
       (ending_leads (bytes ++ byte ∷ []) h.front (h.last ++ byte ∷ []) h.client calls split h.first
       h.holds)
-      (side_next (judge_replies calls) (fault_of_record context.connection Server) s byte) (side_leads
+      (side_next (judge_replies calls) (fault_of_record context.connection Server) s byte)
+      (side_leads
       (the_replies calls) Server (server_position context h.front h.client) h.last s byte
       (split_bytes (bytes ++ byte ∷ []) h.front (h.last ++ byte ∷ []) split are).1 h.rest)
   opening_leads Two bytes (InMixed s) byte are h =

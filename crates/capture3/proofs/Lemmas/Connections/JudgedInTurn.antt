@@ -100,7 +100,8 @@ HoldsAfter judge before stream messages = (bodies : List (List ℕ)) × Marks st
     × AreMessages judge before bodies messages
 
 -- one record more at its start
-holds_more : {M : Type 0} (judge : Judgement M) (Is : List ℕ → M → Type 0) (before messages : List M)
+holds_more : {M : Type 0} (judge : Judgement M) (Is : List ℕ → M → Type 0)
+    (before messages : List M)
     (m : M) (stream front rest : List ℕ) → stream ≡ front ++ rest
     → (of : IsRecordOf Is front m) → judge.accepts before of.0 m
     → HoldsAfter judge (before ++ m ∷ []) rest messages
@@ -167,7 +168,8 @@ replies_answer calls (body ∷ bodies) before replies h reply member =
 
 replies_in_order : (calls : List (List Item)) (replies before : List ReplyItems)
     (stream : List ℕ) → HaveOneProcedure calls → AnswerCalls calls replies
-    → Joins (IsRecordOf IsReply) stream replies → HoldsAfter (replies_to calls) before stream replies
+    → Joins (IsRecordOf IsReply) stream replies
+    → HoldsAfter (replies_to calls) before stream replies
 replies_in_order calls [] before stream one answers h = ([], h, refl)
 replies_in_order calls (reply ∷ replies) before stream one answers (front, rest, split, of, more) =
     let a = answers reply (IsIn-here reply replies) in

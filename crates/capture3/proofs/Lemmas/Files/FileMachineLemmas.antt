@@ -122,7 +122,8 @@ module _ (bytes : List ℕ) (byte : ℕ) where
       (λ two. rw (one, two) (
         MagicDiffers One bytes [] byte (digit One) refl
             (ap (λ (b : List ℕ). b ++ digit One ∷ []) (begins ∙ append-nil bytes))
-            (λ other expected rest others. other_digits other expected rest begins others one two) refl,
+            (λ other expected rest others. other_digits other expected rest begins others one two)
+            refl,
         inl refl,
       )))
   magic_leads (due ∷ more) begins =
@@ -136,7 +137,8 @@ module _ (bytes : List ℕ) (byte : ℕ) where
             (ap (λ (b : List ℕ). b ++ digit One ∷ []) begins
             ∙ append_assoc bytes (due ∷ more) (digit One ∷ []))
             (λ other expected rest others is.
-            eqb-false byte due e (is ∙ sym (due_is due expected more rest other begins others))) refl,
+            eqb-false byte due e (is ∙ sym (due_is due expected more rest other begins others)))
+            refl,
         inl refl,
       ))
 
@@ -276,7 +278,8 @@ begun_leads bytes s byte are
     let more : bytes ++ byte ∷ [] ≡ front ++ mark ++ (rest ++ byte ∷ []) =
     simp (split, append_assoc) in
     let context : Position = next_position front connections in
-    rw is (leads_within (HasOpening version context) (EndsConnection version context) Stands RefusesFile
+    rw is (leads_within (HasOpening version context) (EndsConnection version context) Stands
+    RefusesFile
     (inside_at version (length front + 4) (total_size connections) (suc (length connections))
     entries)
     (closed version (suc (length connections)) entries) (rest ++ byte ∷ []) (bytes ++ byte ∷ [])

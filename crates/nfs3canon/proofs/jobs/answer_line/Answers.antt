@@ -5,4 +5,7 @@ pub returns-in-Ok : goal.returns-in-Ok
 returns-in-Ok g c =
     let line = map string_bytes c.args.words.items in
     let asked = c.in-Ok.ensures.asked in
-    record { answers = inl (c.in-Ok.job, asked, c.in-Ok.ensures.accepted, c.answer_job.ensures line asked) }
+    record {
+      answers =
+          inl (c.in-Ok.job, asked, c.in-Ok.ensures.accepted, c.answer_job.ensures line asked);
+    }
