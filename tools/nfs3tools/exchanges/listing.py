@@ -20,6 +20,7 @@ ITEM = re.compile(r' ([^=]+)=("[^"]*"|[^ ]*)')
 CALLED_NUMBERS = re.compile(r' ?mtype=0 rpcvers=2 prog=(\d+) vers=(\d+) proc=(\d+) ')
 STATUS_AFTER_FAULT = 2  # the status of `show` after a fault
 Items = tuple[Item, ...]
+LinePlace = tuple[int, bool, int]  # a connection, whether it is a call, and its record
 
 
 class Line(NamedTuple):
@@ -47,16 +48,9 @@ def line_of(line: str) -> Line:
                 line[items:len(line) - line.endswith('\n')])
 
 
-class LinePlace(NamedTuple):
-    """Where the message of a line is in its capture."""
-    connection: int
-    is_call: bool
-    record: int
-
-
 def place_of(line: str) -> LinePlace:
     connection, side, record = line[:line.index(' xid=')].split(' ')
-    return LinePlace(int(connection), side == 'client', int(record))
+    return int(connection), side == 'client', int(record)
 
 
 def xid_of(line: str) -> int:

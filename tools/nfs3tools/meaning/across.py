@@ -308,7 +308,8 @@ class Across(Objects):
             words = ('there', 'gone') if now else ('gone', 'there')
             self.find_name(one, folder, 'name-gone' if now else 'name-there', name, known, *words)
         elif one.procedure == LOOKUP and is_other(now, was):
-            self.find_name(one, folder, 'name-object', name, known, *map(fileid_of, (now, was)))
+            words_of_both = (f'of fileid {ids[2]}' for ids in (now, was) if isinstance(ids, tuple))
+            self.find_name(one, folder, 'name-object', name, known, *words_of_both)
 
     def rename(self, one: RecordedExchange, number: int) -> None:
         """Moves a name. If both may be links to one object, nothing may have been done."""
@@ -383,7 +384,3 @@ def findings_in(recorded: Recorded, looked: Looked, is_whole: bool) -> list[Rule
 def is_other(one: NameTarget, other: NameTarget) -> bool:
     """Whether two objects are known by their ids, and are not the same."""
     return isinstance(one, tuple) and isinstance(other, tuple) and one != other
-
-
-def fileid_of(known: NameTarget) -> str:
-    return f'of fileid {known[2]}' if isinstance(known, tuple) else 'of an object'

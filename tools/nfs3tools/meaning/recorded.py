@@ -195,8 +195,7 @@ class Recorded:
 
     def answered(self) -> Iterator[RecordedExchange]:
         """Iterates over exchanges of NFS whose call was accepted, in the order of their ends."""
-        ends = [self.end_of(number) for number in range(len(self.kept))]
-        for number in sorted(range(len(ends)), key=ends.__getitem__):
+        for number in sorted(range(len(self.kept)), key=self.end_of):
             name = self.kept.listed_name(number)
             if self.kept.firsts[number] and is_of_files(name) and name != NULL:
                 one = self.exchange(number)

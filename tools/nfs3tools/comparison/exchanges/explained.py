@@ -12,7 +12,6 @@ from __future__ import annotations
 
 from collections.abc import Iterator, Sequence
 from functools import cache
-from itertools import chain
 from typing import Any
 
 from ...exchanges.history import (
@@ -20,7 +19,7 @@ from ...exchanges.history import (
     name_key, witness_but)
 from ...exchanges.objects import DOTS
 from ...exchanges.procedures import (
-    BEFORE, DONE, LISTINGS, LOOKUP, NO_ENTRY, owners_in, statements_in, statements_of_entry)
+    BEFORE, DONE, LISTINGS, LOOKUP, NO_ENTRY, owners_in, statements_of_entry)
 from ...exchanges.values import Values
 from ..values.classes import CLASSES, Mask, Way
 from .facts import Change, ChangesOfKey, Facts
@@ -295,8 +294,7 @@ class OrderRule:
         reply = Reply(self.facts[run], run, at)
         if at in self.facts[run].ids.odd:
             return 'it has another file id than its run elsewhere'
-        statements = statements_in(reply.one.procedure, reply.one.call, reply.reply)
-        for claim in chain.from_iterable(map(reply.history.claims_in, statements)):
+        for claim in reply.history.claims_of(reply.one):
             is_allowed = self.allows(run, at, claim)
             if is_allowed is None:
                 return f'no other answer has its {claim.key[1]}'

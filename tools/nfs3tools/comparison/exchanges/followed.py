@@ -90,8 +90,7 @@ class Followed:
         for at, line in self.there.each(listings[1]()):
             changed = dict(self.of_message(at, line))
             if changed:
-                place = LinePlace(line.connection, line.is_call, line.record)
-                self.values[place] = line.procedure, changed
+                self.values[line[:3]] = line.procedure, changed
 
     def of_message(self, at: int, line: Line) -> Iterator[tuple[tuple[str, int], str]]:
         """Iterates over the items of a message that get other values."""
@@ -146,9 +145,9 @@ def with_values(taken: Taken, values: ReplacedValues) -> Taken:
     def written(connection: TakenConnection, side: Side) -> TakenStream:
         stored = Stored(taken.spool)
         for number, body in connection.stream(side).records():
-            place = LinePlace(connection.number, side == 'client', number)
+            place = connection.number, side == 'client', number
             if place in values:
-                body = with_some(body, place.is_call, *values[place])
+                body = with_some(body, place[1], *values[place])
             stored.append((LAST_FRAGMENT | len(body)).to_bytes(4, 'big') + body)
         return TakenStream(stored, None, whole(stored))
     for one in taken.connections:

@@ -4,7 +4,9 @@ from __future__ import annotations
 
 from collections.abc import Iterable, Iterator, Sequence
 from dataclasses import dataclass, replace
+from heapq import merge
 from itertools import chain, groupby, zip_longest
+from operator import itemgetter
 from typing import Literal, Optional
 
 from ...exchanges.listing import has_rest, place_of, said_in, xid_of
@@ -22,8 +24,7 @@ Order = Optional[Literal['strict', 'any']]
 GROUPS = frozenset(('ids', 'fsids')), frozenset(('cookies',)), frozenset(('createverfs',))
 
 TurnKey = tuple[bool, int]  # whether a line is of a reply, and the turn of its exchange
-KeyedLines = tuple[TurnKey, list[str]]
-NO_LINES: KeyedLines = (True, 1 << 62), []
+KeyedLines = tuple[TurnKey, int, list[str]]  # the second is the run, 0 or 1
 
 
 @dataclass(frozen=True)
@@ -219,10 +220,10 @@ class TwoListings:
     def turn_of(self, line: str) -> int:
         return xid_of(line) - 1
 
-    def messages(self, lines: Iterable[str]) -> Iterator[KeyedLines]:
+    def messages(self, run: int, lines: Iterable[str]) -> Iterator[KeyedLines]:
         """Returns the calls, and then the replies to each call, without their records' numbers."""
-        return ((key, list(map(said_in, some))) for key, some in groupby(
-            lines, lambda line: (not place_of(line).is_call, self.turn_of(line))))
+        return ((key, run, list(map(said_in, some))) for key, some in groupby(
+            lines, lambda line: (not place_of(line)[1], self.turn_of(line))))
 
     def unequal(self) -> set[int]:
         """Returns the turns of the exchanges that are listed in another way."""
@@ -230,19 +231,14 @@ class TwoListings:
         # (what is equal at the beginning is not taken apart)
         one, other = next(((one, other) for one, other in zip_longest(first, second)
                            if one != other), (None, None))
-        ones, others = (self.messages(chain([line] if line is not None else [], lines))
-                        for line, lines in ((one, first), (other, second)))
+        both = merge(self.messages(0, chain(filter(None, [one]), first)),
+                     self.messages(1, chain(filter(None, [other]), second)))
         out = set[int]()
-        (key, said), (other_key, other_said) = next(ones, NO_LINES), next(others, NO_LINES)
-        while (key, other_key) != (NO_LINES[0], NO_LINES[0]):
-            least = min(key, other_key)
-            if key != other_key or said != other_said:
-                out.add(least[1])
-                self.note(said if key == least else ())
-            if key == least:
-                key, said = next(ones, NO_LINES)
-            if other_key == least:
-                other_key, other_said = next(others, NO_LINES)
+        for (_, turn), some in groupby(both, itemgetter(0)):
+            said = {run: lines for _, run, lines in some}
+            if said.get(0) != said.get(1):
+                out.add(turn)
+                self.note(said.get(0, ()))
         return out
 
     def turns_of_values(self, unequal: set[int]) -> set[int]:

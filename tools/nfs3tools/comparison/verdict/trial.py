@@ -104,7 +104,7 @@ class Trial:
         numbers = [connection.number for connection in taken.connections]
         if numbers == list(range(1, len(numbers) + 1)):
             return lines
-        return (with_connection(line, numbers[place_of(line).connection - 1]) for line in lines)
+        return (with_connection(line, numbers[place_of(line)[0] - 1]) for line in lines)
 
     def placed(self, place: str) -> str:
         """Returns where both captures differ with the number that the connection has in the first
