@@ -117,7 +117,7 @@ class KeptExchange:
         if not self.part.paths.moves:
             return []
         handle = self.asked.handle if self.asked.entry is None else self.made
-        names = self.part.paths.names.all_of(handle) if handle else []
+        names = self.part.paths.all_of(handle) if handle else []
         return [name for name in names if name != self.path]
 
     @property

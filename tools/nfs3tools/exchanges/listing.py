@@ -53,21 +53,6 @@ def place_of(line: str) -> LinePlace:
     return int(connection), side == 'client', int(record)
 
 
-def xid_of(line: str) -> int:
-    begin = line.index(' xid=') + len(' xid=')
-    return int(line[begin:line.index(' ', begin)])
-
-
-def said_in(line: str) -> str:
-    """Returns a line from its xid on: all but where it is."""
-    return line[line.index(' xid='):]
-
-
-def has_rest(line: str) -> bool:
-    """Whether a message has raw bytes."""
-    return ' rest=' in line
-
-
 def with_connection(line: str, number: int) -> str:
     """Returns a line with another number of its connection."""
     return f'{number}{line[line.index(" "):]}'

@@ -12,7 +12,7 @@ import operator
 from array import array
 from bisect import bisect_left
 from collections import Counter, defaultdict
-from collections.abc import Callable, Container, Hashable, Iterable, Sequence
+from collections.abc import Callable, Hashable, Iterable, Sequence
 from functools import cache, cached_property, partial
 from itertools import accumulate
 from typing import NamedTuple, Optional
@@ -102,7 +102,7 @@ class Turns:
         return (number, self.digests[number]) if number == others else None
 
 
-def is_quiet(turns: tuple[Turns, Turns], pair: Pair) -> bool:
+def is_quiet(turns: Sequence[Turns], pair: Pair) -> bool:
     """Whether no change stands otherwise to a question."""
     first, second = (own.before(at) for own, at in zip(turns, pair))
     return first is not None and first == second
@@ -204,11 +204,14 @@ class Facts:
     names: those of each call that has some
     """
 
-    def __init__(self, outlines: Outlines, lines: Iterable[str], turns: Turns | None = None,
-                 wanted: Container[int] = (), objects: Container[int] | None = None) -> None:
-        """`wanted` are the exchanges that are kept. If `objects` are given, answers about other
-        handles are not read."""
-        self.outlines, self.turns, self.wanted, self.objects = outlines, turns, wanted, objects
+    def __init__(self, outlines: Outlines, lines: Iterable[str], turns: Turns | None,
+                 wanted: set[int]) -> None:
+        """`wanted` are the exchanges that are kept. Answers about handles of others are not read,
+        unless one of them lists a folder, which may have any handles."""
+        self.outlines, self.turns, self.wanted = outlines, turns, wanted
+        self.objects = None if any(outlines.procedure_of(at) in LISTINGS for at in wanted) else {
+            handle for at in wanted for handle in (*outlines.objects_of(at), outlines.found[at])
+            if handle}
         # (what an object is called in both runs, or else in its own)
         self.known_as: Callable[[str], Hashable] = cache(
             lambda handle: self.identity(handle) or ~int(handle or '0', 16))

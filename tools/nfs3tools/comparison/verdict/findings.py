@@ -11,7 +11,7 @@ from ...exchanges.listing import Exchange, Message
 from ...exchanges.objects import GIVING_HANDLES, TEACHING, UNKNOWN, Paths, below
 from ...exchanges.stored import LongValues
 from ...recordings.selection import count, plural
-from ..exchanges.any_order import Explanation
+from ..exchanges.explained import Explanation
 from ..exchanges.facts import Change
 from ..exchanges.matching import Pair
 from ..exchanges.outlines import Outlines
@@ -131,7 +131,7 @@ class ParsedExchanges:
     def path(self, at: int) -> str | None:
         """Returns the path of what a call is about. A folder whose path is not known is `?`."""
         call = self.exchanges[at].call
-        path, name = self.paths.of(call.value_of('fh') or ''), call.value_of('name')
+        path, name = self.paths.at(call.value_of('fh') or ''), call.value_of('name')
         return path if name is None else below(path or '?', name.strip('"'))
 
 
@@ -188,7 +188,7 @@ class OneOfTwo:
             for one in results_of(reply, mask):
                 if one.name == 'fh':
                     is_new = reply.procedure in GIVING_HANDLES and self.outlines.is_new(at)
-                    path = self.apart.paths.of(str(one.value)) or UNKNOWN
+                    path = self.apart.paths.at(str(one.value)) or UNKNOWN
                     one = one._replace(value='new' if is_new else path)
                 yield one
 
@@ -288,7 +288,7 @@ class Explaining:
         """Returns a difference with the paths of both values if they are file handles."""
         if one.name != 'fh' or one.first is None or one.second is None:
             return one
-        first, second = (own.apart.paths.of(str(handle))
+        first, second = (own.apart.paths.at(str(handle))
                          for own, handle in zip(self.runs, (one.first, one.second)))
         return replace(one, objects=(first, second)) if first and second else one
 

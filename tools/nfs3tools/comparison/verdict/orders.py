@@ -4,13 +4,14 @@ from __future__ import annotations
 
 from collections.abc import Iterable, Iterator, Sequence
 from dataclasses import dataclass, replace
+from functools import partial
 from heapq import merge
 from itertools import chain, groupby, zip_longest
 from operator import itemgetter
 from typing import Literal, Optional
 
-from ...exchanges.listing import has_rest, place_of, said_in, xid_of
-from ..exchanges.any_order import Explanation, TwoRuns
+from ...exchanges.listing import Line, line_of
+from ..exchanges.explained import Explanation, explanation_of
 from ..exchanges.followed import Followed, with_values
 from ..exchanges.outlines import Outlines, classes_of_items, renamed_values
 from ..exchanges.pairing import ASKING, Listing, Pairing
@@ -24,7 +25,8 @@ Order = Optional[Literal['strict', 'any']]
 GROUPS = frozenset(('ids', 'fsids')), frozenset(('cookies',)), frozenset(('createverfs',))
 
 TurnKey = tuple[bool, int]  # whether a line is of a reply, and the turn of its exchange
-KeyedLines = tuple[TurnKey, int, list[str]]  # the second is the run, 0 or 1
+# The run, 0 or 1, and of each line the procedure and the items
+KeyedLines = tuple[TurnKey, int, list[tuple[str, str]]]
 
 
 @dataclass(frozen=True)
@@ -112,19 +114,17 @@ class Orders:
             return found
         self.captures = self.trial.in_one_order(rest)
         if self.is_in_own_order():
-            return replace(found, is_rest_same=self.has_like_connections() and self.is_same(mask))
+            # (if the connections of both runs are matched in their order)
+            here, there = rest.here.connections, rest.there.connections
+            is_alike = here == there and rest.homes == list(range(len(here))) and len(
+                {len(taken.connections) for taken in self.trial.runs}) == 1
+            return replace(found, is_rest_same=is_alike and self.is_same(mask))
         return replace(found, same_under=mask) if self.is_same(mask) else found
 
     def is_in_own_order(self) -> bool:
         """Whether the order counts, or makes no difference: reordered calls are findings."""
         order = self.choices.order
         return order == 'strict' or order is None and not self.explaining.has_another_order()
-
-    def has_like_connections(self) -> bool:
-        """Whether the connections of both runs are matched in their order."""
-        here, there = self.pairing.here.connections, self.pairing.there.connections
-        first, second = (len(taken.connections) for taken in self.trial.runs)
-        return first == second and here == there and self.pairing.homes == list(range(len(here)))
 
     def found_of_all(self) -> Outcome:
         mask = self.choices.masks[0]
@@ -166,20 +166,20 @@ class Orders:
     def leave_out_explained(self, mask: Mask) -> None:
         """Leaves out what an order explains. What is left decides."""
         trial = self.trial
-        self.two = TwoRuns(trial.runs, self.pairing, lambda: trial.canonical(trial.captures),
-                           self.leaves_out)
-        self.explanation = self.two.explanation(mask)
+        self.all_paired, self.explanation = self.pairing, explanation_of(
+            trial.runs, self.pairing, partial(trial.canonical, trial.captures), self.leaves_out,
+            mask)
         if self.explanation.pairs or any(self.explanation.counted):
-            self.take(self.two.pairing, self.explanation)
+            self.take(self.all_paired, self.explanation)
         self.explaining.explanation = self.explanation
 
     def follow(self, classes: frozenset[str]) -> None:
         """Takes the second run with the first run's values of some classes."""
-        first, second = self.runs
-        values = Followed(self.two.pairing, self.two.listings(), classes).values
-        self.trial = self.trial.with_second(with_values(self.two.taken[1], values))
+        (first, second), trial = self.runs, self.trial
+        values = Followed(self.all_paired, trial.canonical(trial.captures), classes).values
+        self.trial = trial.with_second(with_values(trial.runs[1], values))
         self.runs = first, replace(second, listing=self.trial.listing(self.trial.captures[1]))
-        self.take(self.two.pairing, self.explanation)
+        self.take(self.all_paired, self.explanation)
 
     def is_same(self, mask: Mask) -> bool:
         return not self.trial.difference(self.captures, mask)
@@ -210,20 +210,19 @@ class TwoListings:
         # The renamed values of what differs in the first run, and raw bytes
         self.values, self.has_rest = set[tuple[str, str]](), False
 
-    def note(self, lines: Iterable[str]) -> None:
-        """Notes which renamed values lines have that differ."""
-        for line in lines:
-            self.has_rest |= has_rest(line)
-            self.values.update((self.classes[name], value)
-                               for name, value in self.pattern.findall(line))
+    def note(self, line: str) -> None:
+        """Notes which renamed values a line has that differs, and whether raw bytes."""
+        self.has_rest |= ' rest=' in line
+        self.values.update((self.classes[name], value)
+                           for name, value in self.pattern.findall(line))
 
-    def turn_of(self, line: str) -> int:
-        return xid_of(line) - 1
+    def turn_of(self, line: Line) -> int:
+        return line.xid - 1
 
     def messages(self, run: int, lines: Iterable[str]) -> Iterator[KeyedLines]:
         """Returns the calls, and then the replies to each call, without their records' numbers."""
-        return ((key, run, list(map(said_in, some))) for key, some in groupby(
-            lines, lambda line: (not place_of(line)[1], self.turn_of(line))))
+        return ((key, run, [line[4:] for line in some]) for key, some in groupby(
+            map(line_of, lines), lambda line: (not line.is_call, self.turn_of(line))))
 
     def unequal(self) -> set[int]:
         """Returns the turns of the exchanges that are listed in another way."""
@@ -238,7 +237,7 @@ class TwoListings:
             said = {run: lines for _, run, lines in some}
             if said.get(0) != said.get(1):
                 out.add(turn)
-                self.note(said.get(0, ()))
+                self.note(''.join(text for _, text in said.get(0, ())))
         return out
 
     def turns_of_values(self, unequal: set[int]) -> set[int]:
@@ -250,8 +249,9 @@ class TwoListings:
             some = [(name, value) for name, value in self.pattern.findall(line)
                     if (self.classes[name], value) in self.values or self.has_rest and name == 'fh'
                     and value not in seen]
-            if some and self.turn_of(line) not in unequal:
-                out.add(self.turn_of(line))
+            turn = self.turn_of(line_of(line)) if some else -1
+            if some and turn not in unequal:
+                out.add(turn)
                 self.values.difference_update((self.classes[name], value) for name, value in some)
                 seen.update(value for _, value in some)
             if not self.values and not self.has_rest:
@@ -266,13 +266,13 @@ class ListedInPlace(TwoListings):
         super().__init__(first, second, mask)
         self.outlines = outlines
 
-    def turn_of(self, line: str) -> int:
-        return self.outlines.exchange_of(*place_of(line))
+    def turn_of(self, line: Line) -> int:
+        return self.outlines.exchange_of(*line[:3])
 
     def unequal(self) -> set[int]:
         out = set[int]()
         for one, other in zip_longest(self.first(), self.second(), fillvalue=''):
             if one != other:
-                out.add(self.turn_of(one or other))
-                self.note([one])
+                out.add(self.turn_of(line_of(one or other)))
+                self.note(one)
         return out
