@@ -16,7 +16,7 @@ from __future__ import annotations
 
 from bisect import bisect_left
 from collections import defaultdict
-from collections.abc import Callable, Hashable, Iterator
+from collections.abc import Callable, Hashable, Iterable, Iterator
 from functools import cached_property
 from itertools import accumulate
 from operator import itemgetter
@@ -120,7 +120,6 @@ class History:
     # --- What answers say ---
 
     def take(self, one: CarriedOut) -> None:
-        """Takes an exchange, and what it says."""
         self.frames[one.source] = one.begin, one.answered
         if one.is_change:
             self.waiting.append(one)
@@ -128,7 +127,7 @@ class History:
             return
         for statement in statements_in(one.procedure, one.call, one.reply):
             if statement.has('type') and not statement.name:
-                items = shown_items(statement)
+                items = tuple(map(statement.value, SHOWN_ITEMS))
                 self.shown[self.known_as(statement.handle)].append(
                     (one.source, self.equal.setdefault(items, items)))
         for claim in self.names_claimed(one):
@@ -341,10 +340,6 @@ class History:
         return kind(self.changes.get(key, ()), sights)
 
 
-def shown_items(statement: Statement) -> tuple[int, ...]:
-    return tuple(statement.value(item) for item in SHOWN_ITEMS)
-
-
 def type_of(shown: list[tuple[int, tuple[int, ...]]]) -> int:
     return shown[0][1][SHOWN_ITEMS.index('type')]
 
@@ -366,40 +361,31 @@ def results_in(one: CarriedOut) -> tuple[Hashable, ...]:
 
 # --- Which names a listing has to have ---
 
-class Present:
-    """When each name of a folder is there for sure, as all answers say but one."""
-
-    def __init__(self, history: History, folder: Hashable, but: int) -> None:
-        self.history, self.folder = history, folder
-        self.times = Spans(time for name in history.names.get(folder, ()) for time in times_of(
-            name, history.timeline(name_key(folder, name)), but))
-
-    def lacking(self, listed: Listed) -> Hashable:
-        """Returns a name that a listing of the folder lacks: one that is there meanwhile, and, if
-        the listing is not at its end, that no other listing has behind its last name."""
-        begin, end = self.history.frames[listed.source]
-        later = set[str]() if listed.is_last else self.later(listed)
-        return next((time.value for time in self.times.between(begin, end)
-                     if time.begin < begin and end < time.end
-                     and time.value not in listed.names and time.value not in later), None)
-
-    def later(self, listed: Listed) -> set[str]:
-        """Returns the names that other listings have behind the last one of a listing, or in a part
-        that is not its beginning."""
-        last, out = max(listed.names, key=listed.names.__getitem__), set[str]()
-        for other in self.history.listings.get(self.folder, ()):
-            if other.source != listed.source and not other.is_first:
-                out.update(other.names)
-            elif other.source != listed.source and last in other.names:
-                turn = other.names[last]
-                out.update(name for name, at in other.names.items() if at > turn)
-        return out
+def present(history: History, folder: Hashable, but: int) -> Spans[Sighting]:
+    """Returns when each name of a folder is there for sure, as all answers say but one."""
+    return Spans(time for name in history.names.get(folder, ()) for time in times_of(
+        name, history.timeline(name_key(folder, name)), but))
 
 
-def witness_but(history: History, folder: Hashable, source: int) -> int:
-    """Returns a listing if it is one of those that say which names are not there, or -1: it is no
-    witness of itself."""
-    return source if any(one.source == source for one in history.wholes.get(folder, ())) else -1
+def lacking(history: History, folder: Hashable, listed: Listed,
+            times: Spans[Sighting]) -> Hashable:
+    """Returns a name that a listing of a folder lacks: one that is there meanwhile, and, if the
+    listing is not at its end, that no other listing has behind its last name."""
+    begin, end = history.frames[listed.source]
+    later = set[str]() if listed.is_last else names_behind(
+        listed, history.listings.get(folder, ()))
+    return next((time.value for time in times.between(begin, end)
+                 if time.begin < begin and end < time.end
+                 and time.value not in listed.names and time.value not in later), None)
+
+
+def names_behind(listed: Listed, listings: Iterable[Listed]) -> set[str]:
+    """Returns the names that other listings have behind the last one of a listing, or in a part
+    that is not its beginning."""
+    last = max(listed.names, key=listed.names.__getitem__)
+    return {name for other in listings if other.source != listed.source
+            and (last in other.names or not other.is_first) for name, at in other.names.items()
+            if not other.is_first or at > other.names[last]}
 
 
 def times_of(name: str, line: Timeline, but: int) -> Iterator[Sighting]:

@@ -101,7 +101,6 @@ class KeptExchange:
 
     @property
     def asked(self) -> Asked:
-        """What is asked, in words."""
         if self.known_asked is None:
             self.known_asked = asked_in(self.listed, self.kept.asking[self.at])
         return self.known_asked
@@ -136,7 +135,6 @@ class KeptExchange:
 
     @property
     def answers(self) -> list[str]:
-        """What each reply says, in words."""
         if self.known_answers is None:
             self.known_answers = [answer_in(self.listed, self.kept.answering[number])
                                   for number in self.kept.replies_of(self.at)]
@@ -378,5 +376,4 @@ class Kept:
 
 
 def host_of(end: str) -> str:
-    """The address of an end."""
     return end.rpartition(':')[0].strip('[]')

@@ -61,21 +61,14 @@ class Origin(NamedTuple):
     is_made: bool
 
 
-class FoundHandle(NamedTuple):
-    """A handle that a reply gave of a name in a folder, and the frame that completed it."""
+class PlacedObject(NamedTuple):
+    """A name in a folder, and the frame of the reply that gave its handle. If there is no handle it
+    is the reply to a RENAME of what was under another name before."""
     frame: int
     folder: str
     name: str
-    handle: str
-
-
-class Move(NamedTuple):
-    """A RENAME: the frame that completed its reply, and folder and name before and after."""
-    frame: int
-    folder: str
-    name: str
-    to_folder: str
-    to_name: str
+    handle: str = ''
+    before: tuple[str, str] = ('', '')
 
 
 def path_by(origin_of: Callable[[str], Origin | None], handle: str,
@@ -106,9 +99,9 @@ class Paths:
     """
 
     def __init__(self) -> None:
-        self.origins, self.moves = dict[str, Origin](), list[Move]()
+        self.origins, self.moves = dict[str, Origin](), list[PlacedObject]()
         self.known, self.turn = dict[str, str](), 0
-        self.placed, self.found = dict[tuple[str, str], str](), list[FoundHandle]()
+        self.placed, self.found = dict[tuple[str, str], str](), list[PlacedObject]()
 
     @cached_property
     def turns(self) -> list[int]:
@@ -120,16 +113,13 @@ class Paths:
         after all was learned."""
         out = defaultdict[str, list[tuple[int, Origin]]](list)
         there = dict[tuple[str, str], str]()
-        events: list[FoundHandle | Move] = [*self.found, *self.moves]
-        for event in sorted(events, key=lambda one: one.frame):
-            if isinstance(event, FoundHandle):
-                there[event.folder, event.name] = event.handle
-                continue
-            handle = there.pop((event.folder, event.name), None)
-            if handle is not None:
-                there[event.to_folder, event.to_name] = handle
-                origin = Origin(event.to_folder, event.to_name, True)
-                out[handle].append((event.frame, origin))
+        events = sorted([*self.found, *self.moves], key=lambda one: one.frame)
+        for frame, folder, name, found, before in events:
+            handle = found or there.pop(before, '')
+            if handle:
+                there[folder, name] = handle
+            if handle and not found:
+                out[handle].append((frame, Origin(folder, name, True)))
         return out
 
     def at(self, handle: str, frame: int = 0) -> str | None:
@@ -165,7 +155,7 @@ class Paths:
             place = origin.folder, origin.name
             if self.placed.get(place) != handle:
                 self.placed[place] = handle
-                self.found.append(FoundHandle(frame, *place, handle))
+                self.found.append(PlacedObject(frame, *place, handle))
         if handle and origin.name not in DOTS and (
                 known is None or origin.is_made and not known.is_made):
             self.origins[handle] = origin
@@ -176,8 +166,8 @@ class Paths:
         names may be asked for by the time."""
         call = read_call(procedure, asked)
         if procedure == RENAME and frame:
-            self.moves.append(Move(frame, call['from.fh'], call['from.name'], call['to.fh'],
-                                   call['to.name']))
+            self.moves.append(PlacedObject(frame, call['to.fh'], call['to.name'],
+                                           before=(call['from.fh'], call['from.name'])))
         folder, is_made = (None if procedure == MOUNTING else call.get('fh')), procedure != LOOKUP
         name = call.get('name', call.get('dirpath'))
         for entry, handle in handles_given(procedure, said):

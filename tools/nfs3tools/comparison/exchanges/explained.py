@@ -14,14 +14,14 @@ run, if that has no such call alone, too, and if they are few.
 from __future__ import annotations
 
 from collections import Counter
-from collections.abc import Callable, Container, Iterable, Iterator, Sequence
+from collections.abc import Callable, Iterator, Sequence
 from dataclasses import dataclass, field
 from functools import cache
 from typing import Any
 
 from ...exchanges.history import (
-    ANY_OBJECT, GONE, KEPT_ITEMS, LASTING_ITEMS, TIMES_ITEM, Claim, HistoryKey, Present, listed_in,
-    name_key, results_in, witness_but)
+    ANY_OBJECT, GONE, KEPT_ITEMS, LASTING_ITEMS, TIMES_ITEM, Claim, HistoryKey, lacking, listed_in,
+    name_key, present, results_in)
 from ...exchanges.in_words import short
 from ...exchanges.objects import DOTS
 from ...exchanges.procedures import (
@@ -80,7 +80,6 @@ class Reply:
 
     @property
     def folder(self) -> object:
-        """The folder of a listing or of a name."""
         return self.facts.known_as(self.one.call['fh'])
 
     def claim(self, label: str, value: Any, own: object) -> Claim | None:
@@ -105,11 +104,11 @@ class OrderRule:
     """The rule for two runs. Items that are `free` may differ."""
 
     def __init__(self, pairing: Pairing, facts: Sequence[Facts], mask: Mask) -> None:
-        self.facts, self.mask, self.free = facts, mask, free_items(mask)
+        self.pairing, self.facts, self.mask, self.free = pairing, facts, mask, free_items(mask)
         self.histories = [own.history for own in facts]
         self.turns = [own.turns for own in facts if own.turns]
         self.changes_of = cache(lambda key: ChangesOfKey(pairing, self.histories, key))
-        self.present = cache(Present)
+        self.present = cache(present)
 
     # --- Two answers ---
 
@@ -277,19 +276,21 @@ class OrderRule:
                     return 'it has a name that no other answer has'
         if not names or not listed.is_first:
             return ''
-        present = self.present(reply.history, reply.folder,
-                               witness_but(reply.history, reply.folder, reply.at))
-        return 'it lacks a name' if present.lacking(listed) else ''
+        # (one of the listings that say which names are not there is no witness of itself)
+        wholes = {whole.source for whole in reply.history.wholes.get(reply.folder, ())}
+        times = self.present(reply.history, reply.folder, reply.at if reply.at in wholes else -1)
+        return 'it lacks a name' if lacking(reply.history, reply.folder, listed, times) else ''
 
     # --- Two answers that are equal ---
 
-    def equal_and_wrong(self, pairing: Pairing) -> Iterator[tuple[Pair, str]]:
+    def equal_and_wrong(self) -> Iterator[tuple[Pair, str]]:
         """Iterates over pairs that say the same of a value, which one of their runs does not allow
         though a change of it stands otherwise: each with why."""
         keys = self.histories[0].changes.keys() & self.histories[1].changes.keys()
         for key in (key for key in keys if key[1] != TIMES_ITEM):
             lines = [history.timeline(key) for history in self.histories]
-            for pair in ((one.source, pairing.partners[one.source]) for one in lines[0].sights.begun
+            for pair in ((one.source, self.pairing.partners[one.source])
+                         for one in lines[0].sights.begun
                          if not lines[0].changes.of_source.get(one.source)):
                 is_asked = pair[1] != NOBODY and self.otherwise(pair, key)
                 wrong = [run for run, (line, at) in enumerate(zip(lines, pair)) if is_asked
@@ -333,15 +334,12 @@ def found_in(reply: Reply) -> object:
 class Extras:
     """The calls of a run that the other run does not have, and only ask."""
 
-    def __init__(self, rule: OrderRule, run: int, some: Iterable[int],
-                 paired: Container[int]) -> None:
-        """`paired` are the exchanges that the other run has, too."""
-        self.rule, self.run, self.some, self.facts = rule, run, sorted(some), rule.facts[run]
-        self.outlines, self.history = self.facts.outlines, self.facts.history
-        self.objects = set(self.outlines.identities) - {0}
+    def __init__(self, rule: OrderRule, run: int, some: Sequence[int]) -> None:
+        self.rule, self.run, self.some, self.facts = rule, run, some, rule.facts[run]
+        self.outlines, self.objects = self.facts.outlines, {*self.facts.outlines.identities} - {0}
         own = set(self.some)
         # Handles of calls that the other run has, too: it knows what they are.
-        self.shared = {handle for at in range(len(self.outlines)) if at in paired
+        self.shared = {handle for at in rule.pairing.matched(run)
                        for handle in (*self.outlines.objects_of(at), self.outlines.found[at])}
         self.names = {(self.outlines.object_of(at), name) for at, names in self.facts.names.items()
                       if at not in own for name in names}
@@ -383,19 +381,16 @@ class Extras:
         bit has to be that of another answer."""
         one = self.facts.messages[at][0][1]
         key = one.procedure, self.facts.known_as(one.handle)
-        own, others = (run.history.results.get(key, SaidValues()).but(source)
+        own, others = (run.facts.history.results.get(key, SaidValues()).but(source)
                        for run, source in ((self, at), (other, -1)))
         if one.procedure == ACCESS:
-            return '' if grants_as(results_in(one), own | others) else 'it grants something else'
+            asked, granted = one.call['access'], one.reply['access']
+            told: set[Any] = own | others
+            is_told = all(any(mask & bit and bits & bit == granted & bit for mask, bits in told)
+                          for place in range(asked.bit_length()) if asked & (bit := 1 << place))
+            return '' if is_told else 'it grants something else'
         is_told = one.procedure not in STEADY or results_in(one) in (own or others)
         return '' if is_told else 'no other answer has its results'
-
-
-def grants_as(own: Sequence[Any], others: Iterable[Any]) -> bool:
-    """Whether each bit for which an ACCESS asks is as another one has it."""
-    (asked, granted), told = own, list(others)
-    return all(any(mask & bit and bits & bit == granted & bit for mask, bits in told)
-               for place in range(asked.bit_length()) if asked & (bit := 1 << place))
 
 
 def refused(first: Extras, second: Extras) -> ReasonsOfCalls:
@@ -441,8 +436,9 @@ def explanation_of(taken: Sequence[Taken], pairing: Pairing,
                             if here.said[at] != there.said[to])
     extras = [[at for at in pairing.alone(run) if own.procedure_of(at) in leaves_out]
               for run, own in enumerate(pairing.runs)]
-    if unequal or any(extras):
-        identify(pairing)
+    if not unequal and not any(extras):
+        return out
+    identify(pairing)
     turns = [Turns(one, pairing, run) for run, one in enumerate(taken)
              if all(other.has_frames for other in taken)]
     doubtful = [pair for pair in unequal if turns and (
@@ -459,11 +455,10 @@ def explanation_of(taken: Sequence[Taken], pairing: Pairing,
         except Unexplained as why:
             out.remarks[pair] = str(why)
     if turns:
-        out.noted = {pair: why for pair, why in sorted(rule.equal_and_wrong(pairing))
+        out.noted = {pair: why for pair, why in sorted(rule.equal_and_wrong())
                      if pair not in unequal}
     if any(extras):
-        out.counted = refused(*(Extras(rule, run, some, set(pairing.matched(run)))
-                                for run, some in enumerate(extras)))
+        out.counted = refused(*(Extras(rule, run, some) for run, some in enumerate(extras)))
     return out
 
 

@@ -13,7 +13,7 @@ from array import array
 from bisect import bisect_left
 from collections import Counter, defaultdict
 from collections.abc import Callable, Hashable, Iterable, Sequence
-from functools import cache, cached_property, partial
+from functools import cache, cached_property
 from itertools import accumulate
 from typing import NamedTuple, Optional
 
@@ -46,10 +46,12 @@ class Turns:
     begins, ends: by exchanges, the frame with which the call begins, and that of its first reply
     done: the frame of the last reply, or STILL if it was sent more often than answered: it may be
         carried out again
+    sent, ended: when the changes were sent, and ended, sorted
+    digests: hashes of the first changes that ended: of none, of one, of two, ..
     """
 
     def __init__(self, taken: Taken, pairing: Pairing, run: int) -> None:
-        self.outlines, self.named = pairing.runs[run], partial(pairing.name_of, run)
+        self.outlines = pairing.runs[run]
         self.begins, self.ends = array('Q'), array('Q')
         connections = {one.number: one for one in taken.connections}
         replies = list['array[int]']()
@@ -68,31 +70,15 @@ class Turns:
             frames = replies[self.outlines.connection_of(at)]
             self.done[at] = STILL if len(answered) <= len(again) else max(
                 frames[record - 1] for record in answered)
+        changes = sorted(filter(self.is_change, range(len(self.outlines))),
+                         key=self.done.__getitem__)
+        self.sent = array('Q', sorted(map(self.begins.__getitem__, changes)))
+        self.ended = array('Q', map(self.done.__getitem__, changes))
+        hashes = (hash((pairing.name_of(run, at),)) for at in changes)
+        self.digests = array('q', accumulate(hashes, operator.xor, initial=0))
 
     def is_change(self, at: int) -> bool:
         return self.outlines.procedure_of(at) in CHANGING and at not in self.outlines.unmade
-
-    @cached_property
-    def changes(self) -> 'array[int]':
-        """The changes in the order in which they ended."""
-        some = filter(self.is_change, range(len(self.outlines)))
-        return array('I', sorted(some, key=self.done.__getitem__))
-
-    @cached_property
-    def sent(self) -> 'array[int]':
-        """When the changes were sent, sorted."""
-        return array('Q', sorted(map(self.begins.__getitem__, self.changes)))
-
-    @cached_property
-    def ended(self) -> 'array[int]':
-        """When the changes ended, sorted."""
-        return array('Q', map(self.done.__getitem__, self.changes))
-
-    @cached_property
-    def digests(self) -> 'array[int]':
-        """Hashes of the first changes that ended: of none, of one, of two, .."""
-        hashes = (hash((self.named(at),)) for at in self.changes)
-        return array('q', accumulate(hashes, operator.xor, initial=0))
 
     def before(self, at: int) -> Optional[ChangesBefore]:
         """Returns the changes before a call, or None if some overlap it."""
@@ -267,7 +253,6 @@ class Facts:
         self.messages[at].append((head[0] if head else text, self.carried_out(at, status, reply)))
 
     def carried_out(self, at: int, status: int | None, reply: Values) -> CarriedOut:
-        """Returns an exchange with a reply."""
         procedure, turns = self.outlines.procedure_of(at), self.turns
         call = self.calls.get(at) or handles_asked(self.outlines, at)
         if turns is None:

@@ -11,7 +11,7 @@ from __future__ import annotations
 from collections import Counter, defaultdict
 from collections.abc import Iterable, Iterator
 
-from ...exchanges.listing import Line, LinePlace
+from ...exchanges.listing import Line, LinePlace, line_of
 from ...exchanges.procedures import CREATE, LISTINGS, is_of_files
 from ...exchanges.values import Values, read_call, read_reply
 from ...recordings.records import LAST_FRAGMENT
@@ -87,8 +87,8 @@ class Followed:
                         if 'cookies' in classes
                         and (self.partners.get(folder, 0), name) in first.cookies}
         self.values: ReplacedValues = {}
-        for at, line in self.there.each(listings[1]()):
-            changed = dict(self.of_message(at, line))
+        for line in map(line_of, listings[1]()):
+            changed = dict(self.of_message(self.there.exchange_of(*line[:3]), line))
             if changed:
                 self.values[line[:3]] = line.procedure, changed
 

@@ -121,7 +121,6 @@ def members_besides_fields(finding: Finding, mask: Mask) -> dict[str, object]:
 
 
 def kind_of_entry(entry: AcceptedEntry) -> str:
-    """Returns the kind of the findings that an entry is about."""
     return 'only' if 'only' in entry else str(entry.get('kind', 'changed'))
 
 
@@ -237,7 +236,6 @@ def is_of_run(name: str, is_call: bool, mask: Mask) -> bool:
 
 
 def entry_text(entry: AcceptedEntry) -> str:
-    """Returns an entry as it is printed."""
     values = [f' {side}={entry[side]}' for side in RUNS if entry.get(side) is not None]
     side = f' in the {entry["only"]} run' if 'only' in entry else ''
     about = ' '.join([entry.get('field') or kind_of_entry(entry) + side, *entry.get('asks', ())])
