@@ -30,9 +30,9 @@ from ..comparison.exchanges.pairing import ASKING
 from ..comparison.values.classes import CLASSES, following, in_any_order, mask_text, mask_word
 from ..comparison.verdict.accepted import accepted_of, file_of, ignored_of, without_ignored
 from ..comparison.verdict.cover import Cover, covers_of, lines_of_counts, losses_of
-from ..comparison.verdict.decision import Report, compared_in_words, judged_runs, run_of
+from ..comparison.verdict.decision import (
+    Choices, NothingToCompare, Report, compared_in_words, judged_runs, run_of)
 from ..comparison.verdict.findings import RUNS, Compared, Framing, Run
-from ..comparison.verdict.orders import Choices, NothingToCompare
 from ..comparison.verdict.trial import Trial
 from ..pages import compared as pages
 from ..pages.compared import ComparedContent

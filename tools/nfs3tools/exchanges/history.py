@@ -14,9 +14,9 @@ those that a listing of it has to have.
 """
 from __future__ import annotations
 
-from bisect import bisect_left, bisect_right
+from bisect import bisect_left
 from collections import defaultdict
-from collections.abc import Callable, Hashable, Iterator
+from collections.abc import Callable, Hashable, Iterable, Iterator
 from functools import cached_property
 from itertools import accumulate
 from operator import itemgetter
@@ -28,7 +28,7 @@ from .procedures import (
     statements_in)
 from .timelines import (
     Adds, Clears, Effect, FileSize, FolderSize, Grows, LinkCount, Mode, SaidValues, Sets, Sighting,
-    Timeline, ValueChange)
+    Spans, Timeline, ValueChange)
 from .values import Values
 
 STILL = 1 << 62  # when a call ends that may still be carried out
@@ -120,7 +120,6 @@ class History:
     # --- What answers say ---
 
     def take(self, one: CarriedOut) -> None:
-        """Takes an exchange, and what it says."""
         self.frames[one.source] = one.begin, one.answered
         if one.is_change:
             self.waiting.append(one)
@@ -128,7 +127,7 @@ class History:
             return
         for statement in statements_in(one.procedure, one.call, one.reply):
             if statement.has('type') and not statement.name:
-                items = shown_items(statement)
+                items = tuple(map(statement.value, SHOWN_ITEMS))
                 self.shown[self.known_as(statement.handle)].append(
                     (one.source, self.equal.setdefault(items, items)))
         for claim in self.names_claimed(one):
@@ -170,10 +169,9 @@ class History:
                         self.known_as(one.reply['fh']) if is_done else GONE)
 
     def claims_of(self, one: CarriedOut) -> Iterator[Claim]:
-        """Iterates over what an answer says of objects and of names."""
+        """Iterates over what an answer says of objects."""
         for statement in statements_in(one.procedure, one.call, one.reply):
             yield from self.claims_in(statement)
-        yield from self.names_claimed(one)
 
     def claims_in(self, statement: Statement) -> Iterator[Claim]:
         """Iterates over what a statement says of an object that has a handle."""
@@ -342,10 +340,6 @@ class History:
         return kind(self.changes.get(key, ()), sights)
 
 
-def shown_items(statement: Statement) -> tuple[int, ...]:
-    return tuple(statement.value(item) for item in SHOWN_ITEMS)
-
-
 def type_of(shown: list[tuple[int, tuple[int, ...]]]) -> int:
     return shown[0][1][SHOWN_ITEMS.index('type')]
 
@@ -367,79 +361,46 @@ def results_in(one: CarriedOut) -> tuple[Hashable, ...]:
 
 # --- Which names a listing has to have ---
 
-class Presence(NamedTuple):
-    """The frames between which a name is in a folder for sure."""
-    begin: int
-    end: int
-    name: str
+def present(history: History, folder: Hashable, but: int) -> Spans[Sighting]:
+    """Returns when each name of a folder is there for sure, as all answers say but one."""
+    return Spans(time for name in history.names.get(folder, ()) for time in times_of(
+        name, history.timeline(name_key(folder, name)), but))
 
 
-class Present:
-    """The names of a folder, and when each is there for sure, as all answers say but one."""
-
-    def __init__(self, history: History, folder: Hashable, but: int) -> None:
-        self.history, self.folder = history, folder
-        self.times = {name: list(times_of(name, history.timeline(name_key(folder, name)), but))
-                      for name in history.names.get(folder, ())}
-        self.all = sorted(time for times in self.times.values() for time in times)
-        self.begins = [time.begin for time in self.all]
-        self.ends = sorted(time.end for time in self.all)
-
-    def is_sure(self, name: str, begin: int, end: int) -> bool:
-        """Whether a name is there between two frames."""
-        times = self.times.get(name, [])
-        at = bisect_left(times, (begin,)) - 1
-        return at >= 0 and end < times[at].end
-
-    def count(self, begin: int, end: int) -> int:
-        """Returns how many names are there between two frames."""
-        first, last = bisect_left(self.begins, begin), bisect_right(self.begins, end)
-        short = sum(time.end <= end for time in self.all[first:last])
-        return first - (bisect_right(self.ends, end) - short)
-
-    def lacking(self, listed: Listed) -> Optional[str]:
-        """Returns a name that a listing of the folder lacks: one that is there meanwhile, and, if
-        the listing is not at its end, that no other listing has behind its last name."""
-        begin, end = self.history.frames[listed.source]
-        if listed.is_last and self.count(begin, end) == sum(
-                self.is_sure(name, begin, end) for name in listed.names):
-            return None
-        later = set[str]() if listed.is_last else self.later(listed)
-        return next((time.name for time in self.all if time.begin < begin and end < time.end
-                     and time.name not in listed.names and time.name not in later), None)
-
-    def later(self, listed: Listed) -> set[str]:
-        """Returns the names that other listings have behind the last one of a listing, or in a part
-        that is not its beginning."""
-        last, out = max(listed.names, key=listed.names.__getitem__), set[str]()
-        for other in self.history.listings.get(self.folder, ()):
-            if other.source != listed.source and not other.is_first:
-                out.update(other.names)
-            elif other.source != listed.source and last in other.names:
-                turn = other.names[last]
-                out.update(name for name, at in other.names.items() if at > turn)
-        return out
+def lacking(history: History, folder: Hashable, listed: Listed,
+            times: Spans[Sighting]) -> Hashable:
+    """Returns a name that a listing of a folder lacks: one that is there meanwhile, and, if the
+    listing is not at its end, that no other listing has behind its last name."""
+    begin, end = history.frames[listed.source]
+    later = set[str]() if listed.is_last else names_behind(
+        listed, history.listings.get(folder, ()))
+    return next((time.value for time in times.between(begin, end)
+                 if time.begin < begin and end < time.end
+                 and time.value not in listed.names and time.value not in later), None)
 
 
-def witness_but(history: History, folder: Hashable, source: int) -> int:
-    """Returns a listing if it is one of those that say which names are not there, or -1: it is no
-    witness of itself."""
-    return source if any(one.source == source for one in history.wholes.get(folder, ())) else -1
+def names_behind(listed: Listed, listings: Iterable[Listed]) -> set[str]:
+    """Returns the names that other listings have behind the last one of a listing, or in a part
+    that is not its beginning."""
+    last = max(listed.names, key=listed.names.__getitem__)
+    return {name for other in listings if other.source != listed.source
+            and (last in other.names or not other.is_first) for name, at in other.names.items()
+            if not other.is_first or at > other.names[last]}
 
 
-def times_of(name: str, line: Timeline, but: int) -> Iterator[Presence]:
+def times_of(name: str, line: Timeline, but: int) -> Iterator[Sighting]:
     """Iterates over the times at which a name is there for sure: between changes that leave it, and
     before all of them if answers say so."""
     setters = line.setters
     begins = [*setters.begins, STILL]
     if is_there(line.initial(but)):
-        yield Presence(-1, begins[0], name)
+        yield Sighting(-1, begins[0], but, name)
     highest: Iterator[int] = accumulate((change.end for change in setters.begun), max)
     for end, following in zip(highest, begins[1:]):
         if end < following:
             left = [line.left(change, but) for change in setters.latest(following)]
             if all(map(is_there, left)):
-                yield Presence(end, following, name)
+                yield Sighting(end, following, but, name)
 
 
 def is_there(values: set[Hashable]) -> bool:

@@ -9,7 +9,7 @@ from __future__ import annotations
 
 import functools
 import re
-from collections.abc import Callable, Iterator, Mapping
+from collections.abc import Callable, Mapping
 from typing import NamedTuple
 
 from ..shared.layouts import RAW, VALUES, meaning_of
@@ -68,26 +68,16 @@ def beginning_of(text: str) -> str:
     return text if len(text) <= LONGEST_TEXT else SPLIT.sub('', text[:LONGEST_TEXT]) + '..'
 
 
-def settings_in(call: Values) -> Iterator[str]:
-    """Iterates over the attributes that a call sets, in words."""
-    if 'set.mode' in call:
-        yield f' {number_named("mode", call["set.mode"])}'
-    for name in ('uid', 'gid', 'size'):
-        if f'set.{name}' in call:
-            yield f' {name} {call[f"set.{name}"]}'
-    for name in ('atime', 'mtime'):
-        if call.get(f'set_{name}') == 1:
-            yield f' {name} of the server'
-        elif f'set.{name}' in call:
-            yield f' {name} {seconds(call[f"set.{name}"])}'
-
-
 def settings(call: Values) -> str:
-    return ''.join(settings_in(call))
-
-
-def device(call: Values) -> str:
-    return ' {spec1}:{spec2}'.format_map(call) if 'spec1' in call else ''
+    """Returns the device and the attributes that a call sets, in words."""
+    words = [' {spec1}:{spec2}'.format_map(call)] if 'spec1' in call else []
+    words += [f' {number_named("mode", call["set.mode"])}'] if 'set.mode' in call else []
+    words += [f' {name} {call[f"set.{name}"]}' for name in ('uid', 'gid', 'size')
+              if f'set.{name}' in call]
+    words += [f' {name} {seconds(call[key]) if key in call else "of the server"}'
+              for name, key in (('atime', 'set.atime'), ('mtime', 'set.mtime'))
+              if call.get(f'set_{name}')]
+    return ''.join(words)
 
 
 def entries_in_words(reply: Values) -> str:
@@ -105,7 +95,7 @@ ARGUMENTS: Wording = {
                          + number_named('stable', call['stable'])),
     CREATE: lambda call: number_named('how', call['how']) + settings(call), MKDIR: settings,
     SYMLINK: lambda call: f'-> {beginning_of(call["path"])}{settings(call)}',
-    MKNOD: lambda call: number_named('type', call['type']) + device(call) + settings(call),
+    MKNOD: lambda call: number_named('type', call['type']) + settings(call),
     READDIR: 'cookie {cookie} count {count}'.format_map,
     READDIRPLUS: 'cookie {cookie} count {dircount}/{maxcount}'.format_map}
 RESULTS: Wording = {

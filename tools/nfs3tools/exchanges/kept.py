@@ -101,7 +101,6 @@ class KeptExchange:
 
     @property
     def asked(self) -> Asked:
-        """What is asked, in words."""
         if self.known_asked is None:
             self.known_asked = asked_in(self.listed, self.kept.asking[self.at])
         return self.known_asked
@@ -117,7 +116,7 @@ class KeptExchange:
         if not self.part.paths.moves:
             return []
         handle = self.asked.handle if self.asked.entry is None else self.made
-        names = self.part.paths.names.all_of(handle) if handle else []
+        names = self.part.paths.all_of(handle) if handle else []
         return [name for name in names if name != self.path]
 
     @property
@@ -136,7 +135,6 @@ class KeptExchange:
 
     @property
     def answers(self) -> list[str]:
-        """What each reply says, in words."""
         if self.known_answers is None:
             self.known_answers = [answer_in(self.listed, self.kept.answering[number])
                                   for number in self.kept.replies_of(self.at)]
@@ -197,6 +195,7 @@ class Kept:
         """`values` keeps long values, which are lost without it. Without texts it is only kept when
         an exchange was, its procedure and its errors."""
         self.spool, self.values, self.has_texts = Spool(), values, has_texts
+        self.cut = values.cut if values else without_long
         self.parts, self.starts = list[KeptConnection](), list[int]()
         # What each call says, and each reply.
         self.asking, self.answering = Texts(self.spool), Texts(self.spool)
@@ -237,11 +236,50 @@ class Kept:
         self.starts.append(len(self))
         self.parts.append(KeptConnection(connection.number, connection.client_end,
                                          connection.server_end, paths, is_refused, has_all))
-        reading = Reading(self, paths)
-        call, reply = reading.call, reading.reply
+        self.rule = Answering(len(self))
         for line, completion in listed_of(program, connection, is_refused):
-            (call if is_call(line) else reply)(line, completion)
-        self.said.append(reading.said())
+            (self.take_call if is_call(line) else self.take_reply)(line, completion)
+        self.names = list(self.numbers)
+        # (a retransmission says the same)
+        self.said.append(array('q', dict(zip(self.rule.owners, self.rule.said)).values()))
+
+    def take_call(self, line: str, completion: Completion) -> None:
+        _, _, record, xid, name, text = line_of(line)
+        (size, frame, time), (at, is_first) = completion, self.rule.call(xid, text)
+        if not is_first:
+            self.again.setdefault(at, []).append(SentRecord(record, frame, time, size))
+            return
+        self.part_of.append(len(self.parts) - 1)
+        called = name_of_call(name, text)
+        self.kinds.append(self.numbers.setdefault(called, len(self.numbers)))
+        self.records.append(record)
+        self.xids.append(xid)
+        self.sizes.append(size)
+        self.frames.append(frame)
+        self.times.append(time)
+        self.firsts.append(0)
+        if self.has_texts:
+            self.asking.append(self.cut(text))
+
+    def take_reply(self, line: str, completion: Completion) -> None:
+        _, _, record, xid, name, text = line_of(line)
+        (size, frame, time), at = completion, self.rule.reply(xid)
+        number = len(self.reply_records)
+        if self.has_texts:
+            self.answering.append(self.cut(text))
+        self.reply_records.append(record)
+        self.reply_sizes.append(size)
+        self.reply_frames.append(frame)
+        self.reply_times.append(time)
+        if self.firsts[at]:
+            self.further.setdefault(at, []).append(number)
+        else:
+            self.firsts[at] = number + 1
+        error = error_in(name, text)
+        if error:
+            self.errors.setdefault(at, []).append(error)
+        elif self.has_texts and name in TEACHING:
+            self.parts[-1].paths.take(name, self.asking[at], text, frame or at + 1)
 
     def link(self) -> None:
         """Finds the calls that were sent again on a later connection of the same client and server:
@@ -338,65 +376,4 @@ class Kept:
 
 
 def host_of(end: str) -> str:
-    """The address of an end."""
     return end.rpartition(':')[0].strip('[]')
-
-
-class Reading:
-    """Reads the exchanges of a connection: first its calls, then its replies."""
-
-    def __init__(self, kept: Kept, paths: Paths) -> None:
-        self.kept, self.paths = kept, paths
-        self.rule = Answering(len(kept))
-        self.number = len(kept.parts) - 1
-        self.cut = kept.values.cut if kept.values else without_long
-
-    def call(self, line: str, completion: Completion) -> None:
-        _, _, record, xid, name, text = line_of(line)
-        kept, (at, is_first) = self.kept, self.rule.call(xid, text)
-        size, frame, time = completion
-        if not is_first:
-            kept.again.setdefault(at, []).append(SentRecord(record, frame, time, size))
-            return
-        kept.part_of.append(self.number)
-        kept.kinds.append(self.kind_of(name, text))
-        kept.records.append(record)
-        kept.xids.append(xid)
-        kept.sizes.append(size)
-        kept.frames.append(frame)
-        kept.times.append(time)
-        kept.firsts.append(0)
-        if kept.has_texts:
-            kept.asking.append(self.cut(text))
-
-    def said(self) -> Sequence[int]:
-        """Returns a hash of what the call of each exchange says."""
-        return array('q', dict(zip(self.rule.owners, self.rule.said)).values())
-
-    def kind_of(self, listed: str, text: str) -> int:
-        """Returns the number of a call's procedure."""
-        kept, name = self.kept, name_of_call(listed, text)
-        number = kept.numbers.setdefault(name, len(kept.names))
-        kept.names += [name] * (number == len(kept.names))
-        return number
-
-    def reply(self, line: str, completion: Completion) -> None:
-        _, _, record, xid, name, text = line_of(line)
-        kept, at = self.kept, self.rule.reply(xid)
-        size, frame, time = completion
-        number = len(kept.reply_records)
-        if kept.has_texts:
-            kept.answering.append(self.cut(text))
-        kept.reply_records.append(record)
-        kept.reply_sizes.append(size)
-        kept.reply_frames.append(frame)
-        kept.reply_times.append(time)
-        if kept.firsts[at]:
-            kept.further.setdefault(at, []).append(number)
-        else:
-            kept.firsts[at] = number + 1
-        error = error_in(name, text)
-        if error:
-            kept.errors.setdefault(at, []).append(error)
-        elif kept.has_texts and name in TEACHING:
-            self.paths.take(name, kept.asking[at], text, frame or at + 1)

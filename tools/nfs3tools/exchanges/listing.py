@@ -1,17 +1,17 @@
 """The listing of a capture, as `nfs3canon show` prints it: lines and messages."""
 from __future__ import annotations
 
-import contextlib
 import re
 import tempfile
 from collections.abc import Iterator
 from dataclasses import dataclass, field
 from functools import cached_property
-from typing import IO, NamedTuple
+from typing import NamedTuple
 
 from ..recordings.coverage import call_named
 from ..recordings.taken import Completion, TakenConnection
 from ..shared.layouts import RAW
+from ..shared.places import Place
 from ..shared.programs import lines_of_program
 from .stored import LongValues
 from .whose import Item, items_of
@@ -20,6 +20,7 @@ ITEM = re.compile(r' ([^=]+)=("[^"]*"|[^ ]*)')
 CALLED_NUMBERS = re.compile(r' ?mtype=0 rpcvers=2 prog=(\d+) vers=(\d+) proc=(\d+) ')
 STATUS_AFTER_FAULT = 2  # the status of `show` after a fault
 Items = tuple[Item, ...]
+LinePlace = tuple[int, bool, int]  # a connection, whether it is a call, and its record
 
 
 class Line(NamedTuple):
@@ -47,36 +48,9 @@ def line_of(line: str) -> Line:
                 line[items:len(line) - line.endswith('\n')])
 
 
-class LinePlace(NamedTuple):
-    """Where the message of a line is in its capture."""
-    connection: int
-    is_call: bool
-    record: int
-
-
 def place_of(line: str) -> LinePlace:
     connection, side, record = line[:line.index(' xid=')].split(' ')
-    return LinePlace(int(connection), side == 'client', int(record))
-
-
-def xid_of(line: str) -> int:
-    begin = line.index(' xid=') + len(' xid=')
-    return int(line[begin:line.index(' ', begin)])
-
-
-def said_in(line: str) -> str:
-    """Returns a line from its xid on: all but where it is."""
-    return line[line.index(' xid='):]
-
-
-def has_rest(line: str) -> bool:
-    """Whether a message has raw bytes."""
-    return ' rest=' in line
-
-
-def with_connection(line: str, number: int) -> str:
-    """Returns a line with another number of its connection."""
-    return f'{number}{line[line.index(" "):]}'
+    return int(connection), side == 'client', int(record)
 
 
 class Message(Line):
@@ -85,10 +59,8 @@ class Message(Line):
     values: LongValues | None = None
 
     @property
-    def place(self) -> str:
-        """The message's place, in the words of `nfs3canon`."""
-        side = 'client' if self.is_call else 'server'
-        return f'connection {self.connection} {side} record {self.record}'
+    def place(self) -> Place:
+        return Place(self.connection, 'client' if self.is_call else 'server', self.record)
 
     @cached_property
     def items(self) -> tuple[Item, ...]:
@@ -154,20 +126,13 @@ def listed_of(program: str, connection: TakenConnection,
     be written.
     """
     calls, replies = connection.client.completions(), connection.server.completions()
-    with captured(connection) as capture:
-        for line in lines_of_program(program, ['show', '/dev/stdin'],
-                                     STATUS_AFTER_FAULT if is_refused else 0, capture):
-            yield line, next(calls if is_call(line) else replies)
-
-
-@contextlib.contextmanager
-def captured(connection: TakenConnection) -> Iterator[IO[bytes]]:
-    """A temporary file with the capture of a connection."""
-    with tempfile.TemporaryFile(prefix='nfs3canon') as file:
+    with tempfile.TemporaryFile(prefix='nfs3canon') as capture:
         try:
-            file.writelines(connection.capture())
-            file.seek(0)
+            capture.writelines(connection.capture())
+            capture.seek(0)
         except OSError as failed:
             raise OSError(failed.errno, failed.strerror or str(failed),
                           'a temporary file') from failed
-        yield file
+        for line in lines_of_program(program, ['show', '/dev/stdin'],
+                                     STATUS_AFTER_FAULT if is_refused else 0, capture):
+            yield line, next(calls if is_call(line) else replies)

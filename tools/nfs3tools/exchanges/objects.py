@@ -61,21 +61,14 @@ class Origin(NamedTuple):
     is_made: bool
 
 
-class FoundHandle(NamedTuple):
-    """A handle that a reply gave of a name in a folder, and the frame that completed it."""
+class PlacedObject(NamedTuple):
+    """A name in a folder, and the frame of the reply that gave its handle. If there is no handle it
+    is the reply to a RENAME of what was under another name before."""
     frame: int
     folder: str
     name: str
-    handle: str
-
-
-class Move(NamedTuple):
-    """A RENAME: the frame that completed its reply, and folder and name before and after."""
-    frame: int
-    folder: str
-    name: str
-    to_folder: str
-    to_name: str
+    handle: str = ''
+    before: tuple[str, str] = ('', '')
 
 
 def path_by(origin_of: Callable[[str], Origin | None], handle: str,
@@ -98,29 +91,63 @@ def path_by(origin_of: Callable[[str], Origin | None], handle: str,
 
 
 class Paths:
-    """The paths of the handles of one run."""
+    """The paths of the handles of one run. If frames are known, those that objects had when, after
+    some of them were renamed.
+
+    known: the paths between two moves, most often those that are asked for next
+    placed, found: the handle that was last found under a name of a folder, and all that were
+    """
 
     def __init__(self) -> None:
-        self.origins: dict[str, Origin] = {}
-        self.known: dict[str, str] = {}  # paths so far
-        self.moves: list[Move] = []
-        # The handle that was last found under a name of a folder, and all that were, with the
-        # frame.
-        self.placed: dict[tuple[str, str], str] = {}
-        self.found: list[FoundHandle] = []
+        self.origins, self.moves = dict[str, Origin](), list[PlacedObject]()
+        self.known, self.turn = dict[str, str](), 0
+        self.placed, self.found = dict[tuple[str, str], str](), list[PlacedObject]()
 
     @cached_property
-    def names(self) -> Names:
-        """What objects were called when, after all was learned."""
-        return Names(self)
+    def turns(self) -> list[int]:
+        return sorted(one.frame for one in self.moves)
 
-    def of(self, handle: str) -> str | None:
-        """Returns the path of a handle, if one is known. A folder that is not known is `?`."""
-        return path_by(self.origins.get, handle, self.known)
+    @cached_property
+    def history(self) -> dict[str, list[tuple[int, Origin]]]:
+        """The origins of each handle that was moved, each with the frame from which on it holds,
+        after all was learned."""
+        out = defaultdict[str, list[tuple[int, Origin]]](list)
+        there = dict[tuple[str, str], str]()
+        events = sorted([*self.found, *self.moves], key=lambda one: one.frame)
+        for frame, folder, name, found, before in events:
+            handle = found or there.pop(before, '')
+            if handle:
+                there[folder, name] = handle
+            if handle and not found:
+                out[handle].append((frame, Origin(folder, name, True)))
+        return out
 
-    def at(self, handle: str, turn: int) -> str | None:
-        """Returns the path of a handle at the time of a frame, after all was learned."""
-        return self.names.path(handle, turn) if self.moves else self.of(handle)
+    def at(self, handle: str, frame: int = 0) -> str | None:
+        """Returns the path of a handle at the time of a frame, if one is known, after all was
+        learned. A folder that is not known is `?`."""
+        turn = bisect_right(self.turns, frame) if self.moves else 0
+        if turn != self.turn:
+            self.turn, self.known = turn, {}
+        return path_by(partial(self.origin, frame=frame), handle, self.known)
+
+    def origin(self, handle: str, frame: int) -> Origin | None:
+        """Returns where an object is at the time of a frame."""
+        later = self.history.get(handle, ()) if self.moves else ()
+        moved = next((origin for since, origin in reversed(later) if since <= frame), None)
+        return moved or self.origins.get(handle)
+
+    def all_of(self, handle: str) -> list[str]:
+        """Returns all paths that an object had, in their order."""
+        frames, waiting, seen = {1}, [handle], set[str]()
+        while waiting:
+            at = waiting.pop()
+            seen.add(at)
+            origins = [self.origins.get(at), *(one for _, one in self.history.get(at, ()))]
+            frames.update(since for since, _ in self.history.get(at, ()))
+            waiting += [one.folder for one in origins
+                        if one and one.folder is not None and one.folder not in seen]
+        paths = dict.fromkeys(self.at(handle, frame) for frame in sorted(frames))
+        return [path for path in paths if path is not None]
 
     def learn(self, handle: str, origin: Origin, frame: int) -> None:
         known = self.origins.get(handle)
@@ -128,7 +155,7 @@ class Paths:
             place = origin.folder, origin.name
             if self.placed.get(place) != handle:
                 self.placed[place] = handle
-                self.found.append(FoundHandle(frame, *place, handle))
+                self.found.append(PlacedObject(frame, *place, handle))
         if handle and origin.name not in DOTS and (
                 known is None or origin.is_made and not known.is_made):
             self.origins[handle] = origin
@@ -139,61 +166,10 @@ class Paths:
         names may be asked for by the time."""
         call = read_call(procedure, asked)
         if procedure == RENAME and frame:
-            self.moves.append(Move(frame, call['from.fh'], call['from.name'], call['to.fh'],
-                                   call['to.name']))
+            self.moves.append(PlacedObject(frame, call['to.fh'], call['to.name'],
+                                           before=(call['from.fh'], call['from.name'])))
         folder, is_made = (None if procedure == MOUNTING else call.get('fh')), procedure != LOOKUP
         name = call.get('name', call.get('dirpath'))
         for entry, handle in handles_given(procedure, said):
             self.learn(handle, Origin(folder, name, is_made) if entry is None
                        else Origin(folder, entry, False), frame)
-
-
-class Names:
-    """What objects were called when, after some of them were renamed: a frame says when.
-
-    history: the origins of each handle that was moved, each with the frame from which on it holds
-    """
-
-    def __init__(self, paths: Paths) -> None:
-        self.paths = paths
-        self.history = defaultdict[str, list[tuple[int, Origin]]](list)
-        # The paths between two moves, most often those that are asked for next
-        self.turns, self.turn = sorted(one.frame for one in paths.moves), 0
-        self.known = dict[str, str]()
-        there = dict[tuple[str, str], str]()
-        events: list[FoundHandle | Move] = [*paths.found, *paths.moves]
-        for event in sorted(events, key=lambda one: one.frame):
-            if isinstance(event, FoundHandle):
-                there[event.folder, event.name] = event.handle
-                continue
-            handle = there.pop((event.folder, event.name), None)
-            if handle is not None:
-                there[event.to_folder, event.to_name] = handle
-                origin = Origin(event.to_folder, event.to_name, True)
-                self.history[handle].append((event.frame, origin))
-
-    def path(self, handle: str, frame: int) -> str | None:
-        """Returns the path of a handle at the time of a frame."""
-        turn = bisect_right(self.turns, frame)
-        if turn != self.turn:
-            self.turn, self.known = turn, {}
-        return path_by(partial(self.origin, frame=frame), handle, self.known)
-
-    def origin(self, handle: str, frame: int) -> Origin | None:
-        """Returns where an object is at the time of a frame."""
-        later = self.history.get(handle, ())
-        moved = next((origin for since, origin in reversed(later) if since <= frame), None)
-        return moved or self.paths.origins.get(handle)
-
-    def all_of(self, handle: str) -> list[str]:
-        """Returns all paths that an object had, in their order."""
-        frames, waiting, seen = {1}, [handle], set[str]()
-        while waiting:
-            at = waiting.pop()
-            seen.add(at)
-            origins = [self.paths.origins.get(at), *(one for _, one in self.history.get(at, ()))]
-            frames.update(since for since, _ in self.history.get(at, ()))
-            waiting += [one.folder for one in origins
-                        if one and one.folder is not None and one.folder not in seen]
-        paths = dict.fromkeys(self.path(handle, frame) for frame in sorted(frames))
-        return [path for path in paths if path is not None]

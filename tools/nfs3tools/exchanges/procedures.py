@@ -68,7 +68,6 @@ class Statement(NamedTuple):
 
 @functools.cache
 def handle_items(procedure: str) -> list[str]:
-    """Returns the items of a call that are handles."""
     owners = OWNERS_OF_REPLIES.get(procedure, OWNER_OF_REPLIES)
     return [item for item, _ in owners if item]
 

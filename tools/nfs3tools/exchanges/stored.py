@@ -113,9 +113,6 @@ class Texts:
         # Bytes that were read, where they begin, and where the last text ended.
         self.block, self.at, self.end = b'', 0, 0
 
-    def __len__(self) -> int:
-        return len(self.begins) - 1
-
     def append(self, text: str) -> None:
         self.waiting.append(text)
         self.size += len(text)

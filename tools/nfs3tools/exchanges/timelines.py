@@ -175,7 +175,6 @@ class Timeline:
         self.after_changes = dict[ValueChange, SaidValues]()
 
     def with_effect(self, kind: type[Effect]) -> Spans[ValueChange]:
-        """Returns the changes with one kind of effect."""
         return Spans(one for one in self.changes.begun if isinstance(one.effect, kind))
 
     def allows(self, asked: Sighting) -> Optional[bool]:

@@ -18,8 +18,8 @@ from ..exchanges.values import seconds
 from ..recordings.selection import count
 from .alone import BESIDE, broken, broken_by, of_made, of_sent_times
 from .objects import (
-    HIDDEN, NO_VERIFIER, OTHERS, Epoch, FileContent, FilePart, KnownName, KnownText, NameTarget,
-    Object, Objects)
+    HIDDEN, NO_VERIFIER, OTHERS, Epoch, FileContent, FilePart, KnownName, NameTarget, Object,
+    Objects)
 from .recorded import END, NEVER, UNCHECKED, UNLINKING, Recorded, RecordedExchange
 from .rules import ACROSS, CLIENT, Evidence, Looked, RuleFinding
 
@@ -161,12 +161,12 @@ class Across(Objects):
         """READLINK returns the text that was given or read before. SYMLINK has another handle."""
         told, path = one.told[0], (one.reply if one.procedure == READLINK else one.call)['path']
         known = self.at(one, told.handle)
-        was, known.text = known.text, None
-        if told.now and was and told.now.mtime == was.mtime and path != was.path:
-            text = f'"{beginning_of(path)}", {was.source} it was "{beginning_of(was.path)}"'
-            self.find(one, known, 'readlink-text', text, was.source, waits=False)
-        if told.now:
-            known.text = KnownText(path, told.now.mtime, one.source)
+        if told.now and known.text:
+            was, mtime, source = known.text
+            if told.now.mtime == mtime and path != was:
+                text = f'"{beginning_of(path)}", {source} it was "{beginning_of(was)}"'
+                self.find(one, known, 'readlink-text', text, source, waits=False)
+        known.text = (path, told.now.mtime, one.source) if told.now else None
 
     # --- Commits ---
 
@@ -308,7 +308,8 @@ class Across(Objects):
             words = ('there', 'gone') if now else ('gone', 'there')
             self.find_name(one, folder, 'name-gone' if now else 'name-there', name, known, *words)
         elif one.procedure == LOOKUP and is_other(now, was):
-            self.find_name(one, folder, 'name-object', name, known, *map(fileid_of, (now, was)))
+            words_of_both = (f'of fileid {ids[2]}' for ids in (now, was) if isinstance(ids, tuple))
+            self.find_name(one, folder, 'name-object', name, known, *words_of_both)
 
     def rename(self, one: RecordedExchange, number: int) -> None:
         """Moves a name. If both may be links to one object, nothing may have been done."""
@@ -383,7 +384,3 @@ def findings_in(recorded: Recorded, looked: Looked, is_whole: bool) -> list[Rule
 def is_other(one: NameTarget, other: NameTarget) -> bool:
     """Whether two objects are known by their ids, and are not the same."""
     return isinstance(one, tuple) and isinstance(other, tuple) and one != other
-
-
-def fileid_of(known: NameTarget) -> str:
-    return f'of fileid {known[2]}' if isinstance(known, tuple) else 'of an object'

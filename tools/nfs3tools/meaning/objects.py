@@ -26,6 +26,7 @@ STARTED_ANEW = 'started anew'  # denies what a new start of a server may have ch
 SizeAndTime = tuple[int, Time]  # the first attributes: size and mtime
 Ids = tuple[int, int, int]  # type, fsid and fileid
 NameTarget = Union[Ids, bool]  # what a name leads to: True for an unknown object, False for none
+KnownText = tuple[str, Time, Evidence]  # of a symbolic link, its mtime, what shows them
 # Up to a cookie: its folder's mtime, the cookie, the names
 KnownListing = tuple[Time, int, list[str]]
 
@@ -108,13 +109,6 @@ class Sight(NamedTuple):
     epoch: Epoch | None
 
 
-class KnownText(NamedTuple):
-    """The text of a symbolic link, its mtime, and what shows them."""
-    path: str
-    mtime: Time
-    source: Evidence
-
-
 class KnownName(NamedTuple):
     """To which object a name leads, or a handle, and what shows it."""
     leads_to: NameTarget
@@ -160,7 +154,6 @@ class Object:
 
 
 def in_words(name: str, value: Any) -> str:
-    """Returns the value of an attribute."""
     if name in ('mtime', 'ctime'):
         return seconds(value)
     return f'0{value:o}' if name == 'mode' else str(value)

@@ -22,7 +22,6 @@ UNLINKING = REMOVING | {RENAME}  # calls that take a name away
 NEVER = sys.maxsize  # the end of a call that may still be carried out
 END = 1 << 64  # no file is larger
 EVERYWHERE = 0, END
-NO_VALUES: Values = {}
 # Errors after which a part may have been done: IO, NOSPC, DQUOT, SERVERFAULT and JUKEBOX.
 UNSURE = (5, 28, 69, 10006, 10008)
 EXIST = 17
@@ -54,7 +53,8 @@ class RecordedExchange:
         # (two servers may have one address, and differ in their ports)
         self.recorded, self.server = recorded, kept.parts[kept.part_of[number]].server
         self.procedure = name
-        self.call, self.reply = read_call(name, kept.asking[number], recorded.values), NO_VALUES
+        self.call = read_call(name, kept.asking[number], recorded.values)
+        self.reply: Values = {}
         self.status: int | None = None
         frame = self.ended = 0
         for reply in kept.replies_of(number)[:1]:
@@ -81,7 +81,6 @@ class RecordedExchange:
 
     @cached_property
     def told(self) -> list[StatedAttributes]:
-        """What the reply says of objects."""
         told = [StatedAttributes(handle, attributes(self.reply, owner + '.after.')
                                  or attributes(self.reply, owner + '.'),
                                  attributes(self.reply, owner + '.before.'))
@@ -190,13 +189,11 @@ class Recorded:
         return self.kept.reply_frames[replies[-1]] or NEVER
 
     def exchange(self, number: int) -> RecordedExchange:
-        """Returns an exchange of NFS by its number."""
         return RecordedExchange(self, number)
 
     def answered(self) -> Iterator[RecordedExchange]:
         """Iterates over exchanges of NFS whose call was accepted, in the order of their ends."""
-        ends = [self.end_of(number) for number in range(len(self.kept))]
-        for number in sorted(range(len(ends)), key=ends.__getitem__):
+        for number in sorted(range(len(self.kept)), key=self.end_of):
             name = self.kept.listed_name(number)
             if self.kept.firsts[number] and is_of_files(name) and name != NULL:
                 one = self.exchange(number)

@@ -29,6 +29,7 @@ from ..recordings.parts import files_of
 from ..recordings.selection import count, plural
 from ..reporting import telling
 from ..reporting.frames import frame_time
+from ..shared.places import Place
 from . import fields, markup
 from .fields import SIGNS, SIGN_CLASSES
 from .glance import phrases
@@ -41,7 +42,7 @@ PHRASES_AT_MOST = 6  # of what differs, under the title
 MANY = 2_000  # messages whose calls are shown
 BOTH, NO_VALUE = (0, 1), 'nothing'
 NOTHING_BUT = ('the order', 'what is masked')  # differs
-BothPlaces = tuple[Optional[str], Optional[str]]
+BothPlaces = tuple[Optional[Place], Optional[Place]]
 
 
 def both_places(first: Message | None, second: Message | None) -> BothPlaces:
@@ -359,7 +360,7 @@ class ComparedContent:
         calls, own = messages[0], (connection.first, connection.second)
         # (the place of a call is short if it is on the connection that is named above)
         places = ' | '.join(
-            (f'record {call.record}' if call.connection == number else call.place)
+            (f'record {call.record}' if call.connection == number else str(call.place))
             + telling.frames_text(call, framing)
             for call, number, framing in zip(calls, own, self.framings) if call)
         yield (f'<details class="row{" told" if mark != "=" else ""}" '
@@ -386,7 +387,7 @@ class ComparedContent:
     def message(self, first: Message | None, second: Message | None) -> Iterator[str]:
         """A message of both runs: where it is, and its fields."""
         # (the frames of the call are in the line of its row)
-        places = ' | '.join(one.place + ('' if one.is_call else telling.frames_text(one, framing))
+        places = ' | '.join(f'{one.place}{"" if one.is_call else telling.frames_text(one, framing)}'
                             for one, framing in zip((first, second), self.framings) if one)
         what = 'call' if next(filter(None, (first, second))).is_call else 'reply'
         yield f'<h4>{what}: {places}</h4>'

@@ -103,8 +103,7 @@ def of_only(some: Group) -> str:
     if len(some) > 1:
         return phrase(f'{words}: ', paths[0], and_others(some))
     asked = [f'{one.name} {one.meaning or one.value}'
-             for one in some[0].arguments
-             if not one.is_of_path and len(str(one.value)) <= LONGEST_SHOWN]
+             for one in some[0].beside_path if len(str(one.value)) <= LONGEST_SHOWN]
     return phrase(f'{words}: ', paths[0],
                   f' {up_to(FIELDS_IN_PHRASE, asked, " ")}' if asked else '')
 

@@ -94,7 +94,7 @@ def of_arguments(finding: Finding) -> list[str]:
     """Returns the arguments of a call that one run alone has, but for those that its path names."""
     sign = '+' if finding.first is None else '-'
     return [f'{sign} {one.label}={value_with_meaning(one.name, one.value, one.meaning)}'
-            for one in finding.arguments if not one.is_of_path or finding.path is None]
+            for one in (finding.beside_path if finding.path is not None else finding.arguments)]
 
 
 def groups_alike(findings: Iterable[Finding]) -> list[list[Finding]]:
@@ -348,7 +348,7 @@ def of_finding(finding: Finding, framings: Sequence[Framing]) -> dict[str, Any]:
 
 def both_positions(one: Finding, framings: Sequence[Framing]) -> dict[str, Any]:
     """Returns where the messages of both runs are."""
-    return {run: message and {'position': message.place, 'frames': list(framing(message))}
+    return {run: message and {'position': str(message.place), 'frames': list(framing(message))}
             for run, message, framing in zip(RUNS, (one.first, one.second), framings)}
 
 

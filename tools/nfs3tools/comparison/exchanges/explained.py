@@ -5,28 +5,36 @@ A difference between two answers to one question is explained if
 - a change of this very value stands otherwise to the question in both runs (`facts`), and
 - each of both answers is one that the history of its own run allows at that time (`history`).
 
-What a history does not know must be equal. A call of one run alone is left out if it only asks, and
-if the history of its run allows all of its answer. compare.1 has the same in more words.
+What a history does not know must be equal. compare.1 has the same in more words.
+
+A client's caches decide how often it asks. So a call of one run alone that only asks is left out if
+it has one answer that the history of its run allows, if what it asks about is known in the other
+run, if that has no such call alone, too, and if they are few.
 """
 from __future__ import annotations
 
-from collections.abc import Iterator, Sequence
+from collections import Counter
+from collections.abc import Callable, Iterator, Sequence
+from dataclasses import dataclass, field
 from functools import cache
-from itertools import chain
 from typing import Any
 
 from ...exchanges.history import (
-    ANY_OBJECT, GONE, KEPT_ITEMS, LASTING_ITEMS, TIMES_ITEM, Claim, HistoryKey, Present, listed_in,
-    name_key, witness_but)
+    ANY_OBJECT, GONE, KEPT_ITEMS, LASTING_ITEMS, TIMES_ITEM, Claim, HistoryKey, lacking, listed_in,
+    name_key, present, results_in)
+from ...exchanges.in_words import short
 from ...exchanges.objects import DOTS
 from ...exchanges.procedures import (
-    BEFORE, DONE, LISTINGS, LOOKUP, NO_ENTRY, owners_in, statements_in, statements_of_entry)
+    ACCESS, BEFORE, DONE, LISTINGS, LOOKUP, NO_ENTRY, STEADY, owners_in, statements_of_entry)
+from ...exchanges.timelines import SaidValues
 from ...exchanges.values import Values
+from ...recordings.taken import Taken
 from ..values.classes import CLASSES, Mask, Way
-from .facts import Change, ChangesOfKey, Facts
+from .facts import Change, ChangesOfKey, Facts, Turns, is_quiet
+from .followed import partners_of
 from .matching import Pair
 from .outlines import is_silly
-from .pairing import NOBODY, Pairing
+from .pairing import NOBODY, Listing, Pairing
 
 TIMES_OF_FILES = frozenset(('atime', 'mtime', 'ctime', 'used'))
 # Values that follow their objects and entries.
@@ -36,7 +44,10 @@ NOT_KNOWN, NOT_ALLOWED = (
     'not known: no recorded change and no other answer of the {} run says what it was',
     'the recorded changes and the other answers of the {} run do not allow it')
 RUN_WORDS = ('first', 'second')
+FEW, SHARE = 10, 10  # so many calls of a procedure, or one of so many
 EntryKey = object  # the name of an entry, or the object of one whose name is masked
+Question = tuple[str, int, tuple[str, ...]]  # the procedure, the object, and the name
+ReasonsOfCalls = tuple[dict[int, str], dict[int, str]]  # calls of both runs, each with a reason
 
 
 class Unexplained(Exception):
@@ -69,7 +80,6 @@ class Reply:
 
     @property
     def folder(self) -> object:
-        """The folder of a listing or of a name."""
         return self.facts.known_as(self.one.call['fh'])
 
     def claim(self, label: str, value: Any, own: object) -> Claim | None:
@@ -93,12 +103,12 @@ class Reply:
 class OrderRule:
     """The rule for two runs. Items that are `free` may differ."""
 
-    def __init__(self, pairing: Pairing, facts: tuple[Facts, Facts], mask: Mask) -> None:
-        self.facts, self.mask, self.free = facts, mask, free_items(mask)
+    def __init__(self, pairing: Pairing, facts: Sequence[Facts], mask: Mask) -> None:
+        self.pairing, self.facts, self.mask, self.free = pairing, facts, mask, free_items(mask)
         self.histories = [own.history for own in facts]
         self.turns = [own.turns for own in facts if own.turns]
         self.changes_of = cache(lambda key: ChangesOfKey(pairing, self.histories, key))
-        self.present = cache(Present)
+        self.present = cache(present)
 
     # --- Two answers ---
 
@@ -266,19 +276,21 @@ class OrderRule:
                     return 'it has a name that no other answer has'
         if not names or not listed.is_first:
             return ''
-        present = self.present(reply.history, reply.folder,
-                               witness_but(reply.history, reply.folder, reply.at))
-        return 'it lacks a name' if present.lacking(listed) else ''
+        # (one of the listings that say which names are not there is no witness of itself)
+        wholes = {whole.source for whole in reply.history.wholes.get(reply.folder, ())}
+        times = self.present(reply.history, reply.folder, reply.at if reply.at in wholes else -1)
+        return 'it lacks a name' if lacking(reply.history, reply.folder, listed, times) else ''
 
     # --- Two answers that are equal ---
 
-    def equal_and_wrong(self, pairing: Pairing) -> Iterator[tuple[Pair, str]]:
+    def equal_and_wrong(self) -> Iterator[tuple[Pair, str]]:
         """Iterates over pairs that say the same of a value, which one of their runs does not allow
         though a change of it stands otherwise: each with why."""
         keys = self.histories[0].changes.keys() & self.histories[1].changes.keys()
         for key in (key for key in keys if key[1] != TIMES_ITEM):
             lines = [history.timeline(key) for history in self.histories]
-            for pair in ((one.source, pairing.partners[one.source]) for one in lines[0].sights.begun
+            for pair in ((one.source, self.pairing.partners[one.source])
+                         for one in lines[0].sights.begun
                          if not lines[0].changes.of_source.get(one.source)):
                 is_asked = pair[1] != NOBODY and self.otherwise(pair, key)
                 wrong = [run for run, (line, at) in enumerate(zip(lines, pair)) if is_asked
@@ -295,8 +307,7 @@ class OrderRule:
         reply = Reply(self.facts[run], run, at)
         if at in self.facts[run].ids.odd:
             return 'it has another file id than its run elsewhere'
-        statements = statements_in(reply.one.procedure, reply.one.call, reply.reply)
-        for claim in chain.from_iterable(map(reply.history.claims_in, statements)):
+        for claim in reply.history.claims_of(reply.one):
             is_allowed = self.allows(run, at, claim)
             if is_allowed is None:
                 return f'no other answer has its {claim.key[1]}'
@@ -316,3 +327,146 @@ def found_in(reply: Reply) -> object:
     if reply.one.status != DONE:
         return GONE if reply.one.status == NO_ENTRY else None
     return reply.facts.known_as(reply.reply['fh'])
+
+
+# --- Calls of one run alone ---
+
+class Extras:
+    """The calls of a run that the other run does not have, and only ask."""
+
+    def __init__(self, rule: OrderRule, run: int, some: Sequence[int]) -> None:
+        self.rule, self.run, self.some, self.facts = rule, run, some, rule.facts[run]
+        self.outlines, self.objects = self.facts.outlines, {*self.facts.outlines.identities} - {0}
+        own = set(self.some)
+        # Handles of calls that the other run has, too: it knows what they are.
+        self.shared = {handle for at in rule.pairing.matched(run)
+                       for handle in (*self.outlines.objects_of(at), self.outlines.found[at])}
+        self.names = {(self.outlines.object_of(at), name) for at, names in self.facts.names.items()
+                      if at not in own for name in names}
+
+    def asked(self, at: int) -> Question:
+        """Returns what a call asks, whoever asks."""
+        return (self.outlines.procedure_of(at), self.outlines.object_of(at),
+                self.facts.names.get(at, ()))
+
+    def more_than(self, other: 'Extras') -> dict[str, str]:
+        """Returns the procedures of which this run has too many more calls, each in words."""
+        own, its = (Counter(map(one.outlines.procedure_of, one.some)) for one in (self, other))
+        totals = Counter(map(self.outlines.procedure_of, range(len(self.outlines))))
+        return {procedure: f'{short(procedure)}: {more:,} more than {most:,}'
+                for procedure, number in own.items()
+                if (more := number - its[procedure]) > (
+                    most := max(FEW, totals[procedure] // SHARE))}
+
+    def wrong(self, at: int, other: 'Extras') -> str:
+        """Returns why a call is no matter of caches, or nothing."""
+        replies = self.facts.messages[at]
+        if len(replies) != 1:
+            return 'it has no reply' if not replies else 'it has several replies'
+        one = replies[0][1]
+        if one.status is None:
+            return 'it is not accepted'
+        if one.status != DONE and (one.status, one.procedure) != (NO_ENTRY, LOOKUP):
+            return 'it has failed'
+        folder = self.outlines.object_of(at)
+        if self.outlines.folders[at] not in self.shared and folder not in other.objects:
+            return 'the other run does not know the object'
+        names = [(folder, name) for name in self.facts.names.get(at, ())]
+        if not other.names.issuperset(names):
+            return 'the other run does not know the name'
+        return self.rule.wrong_answer(self.run, at) or self.wrong_results(at, other)
+
+    def wrong_results(self, at: int, other: 'Extras') -> str:
+        """Returns why its results are not those of the same question, or nothing. Of ACCESS each
+        bit has to be that of another answer."""
+        one = self.facts.messages[at][0][1]
+        key = one.procedure, self.facts.known_as(one.handle)
+        own, others = (run.facts.history.results.get(key, SaidValues()).but(source)
+                       for run, source in ((self, at), (other, -1)))
+        if one.procedure == ACCESS:
+            asked, granted = one.call['access'], one.reply['access']
+            told: set[Any] = own | others
+            is_told = all(any(mask & bit and bits & bit == granted & bit for mask, bits in told)
+                          for place in range(asked.bit_length()) if asked & (bit := 1 << place))
+            return '' if is_told else 'it grants something else'
+        is_told = one.procedure not in STEADY or results_in(one) in (own or others)
+        return '' if is_told else 'no other answer has its results'
+
+
+def refused(first: Extras, second: Extras) -> ReasonsOfCalls:
+    """Returns the calls of both runs that are differences all the same, each with the reason."""
+    common = set(map(first.asked, first.some)) & set(map(second.asked, second.some))
+    out: ReasonsOfCalls = {}, {}
+    for run, other, found in ((first, second, out[0]), (second, first, out[1])):
+        more = run.more_than(other)
+        for at in run.some:
+            again = 'the other run has such a call alone, too' * (run.asked(at) in common)
+            why = run.wrong(at, other) or more.get(run.outlines.procedure_of(at), again)
+            if why:
+                found[at] = why
+    return out
+
+
+# --- The whole ---
+
+@dataclass
+class Explanation:
+    """What an order explains.
+
+    pairs: those whose answers differ, with the changes that explain it
+    counted: calls of the first and of the second run alone that only ask and count all the same,
+        each with the reason
+    remarks: why answers of others are not explained, if it is not for want of a change
+    noted: pairs whose answers are equal, and which their run does not allow, with why
+    """
+    pairs: dict[Pair, list[Change]] = field(default_factory=dict)
+    counted: ReasonsOfCalls = field(default_factory=lambda: (dict[int, str](), dict[int, str]()))
+    remarks: dict[Pair, str] = field(default_factory=dict)
+    noted: dict[Pair, str] = field(default_factory=dict)
+
+
+def explanation_of(taken: Sequence[Taken], pairing: Pairing,
+                   listings: Callable[[], tuple[Listing, Listing]], leaves_out: frozenset[str],
+                   mask: Mask) -> Explanation:
+    """Returns what an order explains of two runs. `listings` returns those of the canonical forms
+    without a mask, which are read if something differs as an order may explain: some change stands
+    otherwise to it, or it lists folders, in which masked names may have other places."""
+    out, (here, there) = Explanation(), pairing.runs
+    unequal = dict.fromkeys((at, to) for at, to in pairing.pairs()
+                            if here.said[at] != there.said[to])
+    extras = [[at for at in pairing.alone(run) if own.procedure_of(at) in leaves_out]
+              for run, own in enumerate(pairing.runs)]
+    if not unequal and not any(extras):
+        return out
+    identify(pairing)
+    turns = [Turns(one, pairing, run) for run, one in enumerate(taken)
+             if all(other.has_frames for other in taken)]
+    doubtful = [pair for pair in unequal if turns and (
+        here.procedure_of(pair[0]) in LISTINGS or not is_quiet(turns, pair))]
+    if not doubtful and not any(extras):
+        return out
+    rule = OrderRule(pairing, [
+        Facts(own, listing(), turns[run] if turns else None,
+              {pair[run] for pair in doubtful}.union(extras[run]))
+        for run, (own, listing) in enumerate(zip(pairing.runs, listings()))], mask)
+    for pair in doubtful:
+        try:
+            out.pairs[pair] = rule.explained(pair)
+        except Unexplained as why:
+            out.remarks[pair] = str(why)
+    if turns:
+        out.noted = {pair: why for pair, why in sorted(rule.equal_and_wrong())
+                     if pair not in unequal}
+    if any(extras):
+        out.counted = refused(*(Extras(rule, run, some) for run, some in enumerate(extras)))
+    return out
+
+
+def identify(pairing: Pairing) -> None:
+    """Gives objects without a path one identity in both runs, if they are most often in exchanges
+    that belong together: a recording may begin after the mount."""
+    partners = partners_of(pairing)
+    for other, handle in partners.items():
+        if not pairing.there.identities[other] and not pairing.here.identities[handle]:
+            identity = hash(('without a path', handle))
+            pairing.here.identities[handle] = pairing.there.identities[other] = identity

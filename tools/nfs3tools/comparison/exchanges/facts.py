@@ -12,8 +12,8 @@ import operator
 from array import array
 from bisect import bisect_left
 from collections import Counter, defaultdict
-from collections.abc import Callable, Container, Hashable, Iterable, Sequence
-from functools import cache, cached_property, partial
+from collections.abc import Callable, Hashable, Iterable, Sequence
+from functools import cache, cached_property
 from itertools import accumulate
 from typing import NamedTuple, Optional
 
@@ -46,10 +46,12 @@ class Turns:
     begins, ends: by exchanges, the frame with which the call begins, and that of its first reply
     done: the frame of the last reply, or STILL if it was sent more often than answered: it may be
         carried out again
+    sent, ended: when the changes were sent, and ended, sorted
+    digests: hashes of the first changes that ended: of none, of one, of two, ..
     """
 
     def __init__(self, taken: Taken, pairing: Pairing, run: int) -> None:
-        self.outlines, self.named = pairing.runs[run], partial(pairing.name_of, run)
+        self.outlines = pairing.runs[run]
         self.begins, self.ends = array('Q'), array('Q')
         connections = {one.number: one for one in taken.connections}
         replies = list['array[int]']()
@@ -68,31 +70,15 @@ class Turns:
             frames = replies[self.outlines.connection_of(at)]
             self.done[at] = STILL if len(answered) <= len(again) else max(
                 frames[record - 1] for record in answered)
+        changes = sorted(filter(self.is_change, range(len(self.outlines))),
+                         key=self.done.__getitem__)
+        self.sent = array('Q', sorted(map(self.begins.__getitem__, changes)))
+        self.ended = array('Q', map(self.done.__getitem__, changes))
+        hashes = (hash((pairing.name_of(run, at),)) for at in changes)
+        self.digests = array('q', accumulate(hashes, operator.xor, initial=0))
 
     def is_change(self, at: int) -> bool:
         return self.outlines.procedure_of(at) in CHANGING and at not in self.outlines.unmade
-
-    @cached_property
-    def changes(self) -> 'array[int]':
-        """The changes in the order in which they ended."""
-        some = filter(self.is_change, range(len(self.outlines)))
-        return array('I', sorted(some, key=self.done.__getitem__))
-
-    @cached_property
-    def sent(self) -> 'array[int]':
-        """When the changes were sent, sorted."""
-        return array('Q', sorted(map(self.begins.__getitem__, self.changes)))
-
-    @cached_property
-    def ended(self) -> 'array[int]':
-        """When the changes ended, sorted."""
-        return array('Q', map(self.done.__getitem__, self.changes))
-
-    @cached_property
-    def digests(self) -> 'array[int]':
-        """Hashes of the first changes that ended: of none, of one, of two, .."""
-        hashes = (hash((self.named(at),)) for at in self.changes)
-        return array('q', accumulate(hashes, operator.xor, initial=0))
 
     def before(self, at: int) -> Optional[ChangesBefore]:
         """Returns the changes before a call, or None if some overlap it."""
@@ -102,7 +88,7 @@ class Turns:
         return (number, self.digests[number]) if number == others else None
 
 
-def is_quiet(turns: tuple[Turns, Turns], pair: Pair) -> bool:
+def is_quiet(turns: Sequence[Turns], pair: Pair) -> bool:
     """Whether no change stands otherwise to a question."""
     first, second = (own.before(at) for own, at in zip(turns, pair))
     return first is not None and first == second
@@ -204,11 +190,14 @@ class Facts:
     names: those of each call that has some
     """
 
-    def __init__(self, outlines: Outlines, lines: Iterable[str], turns: Turns | None = None,
-                 wanted: Container[int] = (), objects: Container[int] | None = None) -> None:
-        """`wanted` are the exchanges that are kept. If `objects` are given, answers about other
-        handles are not read."""
-        self.outlines, self.turns, self.wanted, self.objects = outlines, turns, wanted, objects
+    def __init__(self, outlines: Outlines, lines: Iterable[str], turns: Turns | None,
+                 wanted: set[int]) -> None:
+        """`wanted` are the exchanges that are kept. Answers about handles of others are not read,
+        unless one of them lists a folder, which may have any handles."""
+        self.outlines, self.turns, self.wanted = outlines, turns, wanted
+        self.objects = None if any(outlines.procedure_of(at) in LISTINGS for at in wanted) else {
+            handle for at in wanted for handle in (*outlines.objects_of(at), outlines.found[at])
+            if handle}
         # (what an object is called in both runs, or else in its own)
         self.known_as: Callable[[str], Hashable] = cache(
             lambda handle: self.identity(handle) or ~int(handle or '0', 16))
@@ -264,7 +253,6 @@ class Facts:
         self.messages[at].append((head[0] if head else text, self.carried_out(at, status, reply)))
 
     def carried_out(self, at: int, status: int | None, reply: Values) -> CarriedOut:
-        """Returns an exchange with a reply."""
         procedure, turns = self.outlines.procedure_of(at), self.turns
         call = self.calls.get(at) or handles_asked(self.outlines, at)
         if turns is None:

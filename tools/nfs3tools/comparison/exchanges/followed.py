@@ -11,7 +11,7 @@ from __future__ import annotations
 from collections import Counter, defaultdict
 from collections.abc import Iterable, Iterator
 
-from ...exchanges.listing import Line, LinePlace
+from ...exchanges.listing import Line, LinePlace, line_of
 from ...exchanges.procedures import CREATE, LISTINGS, is_of_files
 from ...exchanges.values import Values, read_call, read_reply
 from ...recordings.records import LAST_FRAGMENT
@@ -87,11 +87,10 @@ class Followed:
                         if 'cookies' in classes
                         and (self.partners.get(folder, 0), name) in first.cookies}
         self.values: ReplacedValues = {}
-        for at, line in self.there.each(listings[1]()):
-            changed = dict(self.of_message(at, line))
+        for line in map(line_of, listings[1]()):
+            changed = dict(self.of_message(self.there.exchange_of(*line[:3]), line))
             if changed:
-                place = LinePlace(line.connection, line.is_call, line.record)
-                self.values[place] = line.procedure, changed
+                self.values[line[:3]] = line.procedure, changed
 
     def of_message(self, at: int, line: Line) -> Iterator[tuple[tuple[str, int], str]]:
         """Iterates over the items of a message that get other values."""
@@ -146,9 +145,9 @@ def with_values(taken: Taken, values: ReplacedValues) -> Taken:
     def written(connection: TakenConnection, side: Side) -> TakenStream:
         stored = Stored(taken.spool)
         for number, body in connection.stream(side).records():
-            place = LinePlace(connection.number, side == 'client', number)
+            place = connection.number, side == 'client', number
             if place in values:
-                body = with_some(body, place.is_call, *values[place])
+                body = with_some(body, place[1], *values[place])
             stored.append((LAST_FRAGMENT | len(body)).to_bytes(4, 'big') + body)
         return TakenStream(stored, None, whole(stored))
     for one in taken.connections:

@@ -262,18 +262,12 @@ class Outlines:
         return [self.replies[at], *self.further.get(at, ())] if self.replies[at] else []
 
     def exchange_of(self, connection: int, is_call: bool, record: int) -> int:
-        """Returns the exchange of a message."""
         return self.owners[connection][is_call][record - 1]
-
-    def each(self, lines: Iterable[str]) -> Iterator[tuple[int, Line]]:
-        """Iterates over the lines of a listing of the run, each with its exchange."""
-        return ((self.exchange_of(line.connection, line.is_call, line.record), line)
-                for line in map(line_of, lines))
 
     def located(self, lines: Iterable[str],
                 some: Container[int] | None = None) -> Iterator[tuple[int, Line]]:
-        """The same of all exchanges or of some, but for retransmissions, and for replies that say
-        the same again."""
+        """Iterates over the lines of a listing of the run, of all exchanges or of some, each with
+        its exchange, but for retransmissions, and for replies that say the same again."""
         for text in lines:
             connection, is_call, record = place_of(text)
             at = self.owners[connection][is_call][record - 1]

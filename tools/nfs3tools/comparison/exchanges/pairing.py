@@ -75,9 +75,8 @@ class Pairing:
 
     def name_of(self, run: int, at: int) -> int:
         """Returns what an exchange of a run is called in both: the same as its partner."""
-        if run == 0:
-            return at if self.partners[at] != NOBODY else -2 - 2 * at
-        return self.owners[at] if self.owners[at] != NOBODY else -3 - 2 * at
+        other = (self.partners, self.owners)[run][at]
+        return -2 - run - 2 * at if other == NOBODY else (at, other)[run]
 
     def matched(self, run: int) -> 'array[int]':
         """Returns the exchanges of a run that have a partner, in the order of the first run."""
@@ -180,14 +179,13 @@ class Pairing:
     def by_turn(self, keys: KeysOfRuns) -> None:
         """Binds exchanges of one key in their order: in matched connections first, then in any."""
         here, there = keys
-        for is_at_home in (True, False):
-            waiting = defaultdict[Hashable, deque[int]](deque)
-            for to in self.alone(1):
-                home = (self.places_of_homes.get(self.there.connection_of(to)) if is_at_home
-                        else None)
-                waiting[there(to), home].append(to)
+        at_home: KeysOfRuns = (
+            lambda at: (here(at), self.here.connection_of(at)),
+            lambda to: (there(to), self.places_of_homes.get(self.there.connection_of(to))))
+        for key, other_key in (at_home, keys):
+            waiting = grouped(self.alone(1), other_key)
             for at in self.alone(0):
-                own = waiting.get((here(at), self.here.connection_of(at) if is_at_home else None))
+                own = waiting.get(key(at))
                 if own:
                     self.bind(at, own.popleft())
 
@@ -254,9 +252,8 @@ def matched_connections(here: Outlines, there: Outlines) -> list[int]:
             homes[place] = other
             taken.add(other)
     for own, its in keys:
-        waiting = defaultdict[Hashable, deque[int]](deque)
-        for other in (other for other in range(len(there.starts)) if other not in taken):
-            waiting[begin_of(there, other, its)].append(other)
+        waiting = grouped((other for other in range(len(there.starts)) if other not in taken),
+                          lambda other: begin_of(there, other, its))
         for place in (place for place, home in enumerate(homes) if home == NOBODY):
             alike = waiting.get(begin_of(here, place, own))
             if alike:
@@ -276,8 +273,8 @@ def out_of_order(pairs: Sequence[Pair]) -> list[Pair]:
     return [pair for pair in pairs if pair not in kept]
 
 
-def grouped(some: Iterable[int], key: Key) -> dict[Hashable, list[int]]:
-    out = defaultdict[Hashable, list[int]](list)
+def grouped(some: Iterable[int], key: Key) -> dict[Hashable, deque[int]]:
+    out = defaultdict[Hashable, deque[int]](deque)
     for at in some:
         out[key(at)].append(at)
     return out

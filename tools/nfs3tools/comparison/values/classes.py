@@ -92,7 +92,6 @@ Mask = dict[str, Way]
 
 
 def default_mask() -> Mask:
-    """Returns how each class is masked that is masked by default."""
     return {one.name: one.way for one in CLASSES if one.is_default}
 
 

@@ -8,7 +8,7 @@ import glob
 import json
 import re
 from collections import Counter, defaultdict
-from collections.abc import Iterable, Iterator, Mapping, Sequence
+from collections.abc import Callable, Iterable, Iterator, Mapping, Sequence
 from dataclasses import replace
 from fnmatch import fnmatchcase
 from itertools import compress
@@ -25,8 +25,6 @@ ACCEPTED_VERSION = 2  # of the form of the file
 # Findings that are stated by their kind: calls in another place, sent again, and other numbers of
 # replies.
 PLAIN_KINDS = ('moved', 'sent again', 'replies')
-MEMBERS = {'procedure', 'path', 'is_call', 'field', 'first', 'second', 'only', 'kind', 'asks',
-           'status', 'says', 'times'}
 # What an entry needs besides, by what it is about.
 NEEDED_MEMBERS = {'only': {'asks', 'status', 'says'}, 'replies': {'first', 'second', 'says'}}
 WILD, BRACKETED = frozenset('*?['), re.compile(r'\[([*?[])\]')
@@ -123,7 +121,6 @@ def members_besides_fields(finding: Finding, mask: Mask) -> dict[str, object]:
 
 
 def kind_of_entry(entry: AcceptedEntry) -> str:
-    """Returns the kind of the findings that an entry is about."""
     return 'only' if 'only' in entry else str(entry.get('kind', 'changed'))
 
 
@@ -177,8 +174,8 @@ def fault_of_entry(entry: object) -> str | None:
     procedure, which = entry.get('procedure'), {'field', 'only', 'kind'} & entry.keys()
     if procedure != ANY and (not isinstance(procedure, str) or procedure not in BY_NAME):
         return f'no procedure: {procedure} (as in NFSPROC3_GETATTR, or *)'
-    if entry.keys() - MEMBERS:
-        return f'no member of an entry: {min(entry.keys() - MEMBERS)}'
+    if entry.keys() - MEMBERS.keys():
+        return f'no member of an entry: {min(entry.keys() - MEMBERS.keys())}'
     if len(which) != 1:
         return 'it needs one of field, only and kind'
     lacks = NEEDED_MEMBERS.get(kind_of_entry(entry), set()) - entry.keys()
@@ -187,26 +184,23 @@ def fault_of_entry(entry: object) -> str | None:
     if {'first', 'second'} & entry.keys() and 'field' not in entry and entry['kind'] != 'replies':
         return 'values need a field'
     return next((f'{name} cannot be {json.dumps(value)}' for name, value in entry.items()
-                 if not is_value(name, value)), None)
-
-
-def is_value(name: str, value: object) -> bool:
-    """Whether a member of an entry may have a value."""
-    if name in ('path', 'first', 'second'):
-        return value is None or is_text(value)
-    if name == 'is_call':
-        return isinstance(value, bool)
-    if name in ('asks', 'says'):
-        return isinstance(value, list) and all(map(is_text, value))
-    if name == 'times':
-        return isinstance(value, int) and not isinstance(value, bool) and value > 0
-    choices = {'only': RUNS, 'kind': PLAIN_KINDS}.get(name)
-    return is_text(value) and (choices is None or value in choices)
+                 if not MEMBERS[name](value)), None)
 
 
 def is_text(value: object) -> bool:
     """Whether a value is a text that a file may have: JSON can spell halves of characters."""
     return isinstance(value, str) and not any('\ud800' <= one <= '\udbff' for one in value)
+
+
+# The members of an entry, each with whether it may have a value.
+MEMBERS: dict[str, Callable[[Any], bool]] = {
+    **dict.fromkeys(('procedure', 'field', 'status'), is_text),
+    **dict.fromkeys(('path', 'first', 'second'), lambda value: value is None or is_text(value)),
+    **dict.fromkeys(('asks', 'says'),
+                    lambda value: isinstance(value, list) and all(map(is_text, value))),
+    'only': RUNS.__contains__, 'kind': PLAIN_KINDS.__contains__,
+    'is_call': lambda value: isinstance(value, bool),
+    'times': lambda value: type(value) is int and value > 0}
 
 
 def file_of(findings: Iterable[Finding], mask: Mask) -> bytes:
@@ -242,7 +236,6 @@ def is_of_run(name: str, is_call: bool, mask: Mask) -> bool:
 
 
 def entry_text(entry: AcceptedEntry) -> str:
-    """Returns an entry as it is printed."""
     values = [f' {side}={entry[side]}' for side in RUNS if entry.get(side) is not None]
     side = f' in the {entry["only"]} run' if 'only' in entry else ''
     about = ' '.join([entry.get('field') or kind_of_entry(entry) + side, *entry.get('asks', ())])

@@ -56,7 +56,6 @@ class Cover:
 
     @property
     def missing(self) -> int:
-        """The bytes that the recording lacks."""
         return sum(one.missing for one in self.covered)
 
     def is_good(self, allowed: Allowed) -> bool:

@@ -5,7 +5,6 @@ from __future__ import annotations
 from collections import Counter
 from collections.abc import Iterable, Iterator
 from dataclasses import dataclass, field
-from typing import NamedTuple
 
 from ...exchanges.listing import Items, Message, value_in
 from ...exchanges.procedures import LISTINGS, READ, WRITE
@@ -247,14 +246,10 @@ def in_both(ours: Items, theirs: Items) -> Iterator[tuple[Item, Item]]:
             at += 1
 
 
-# Entries by their keys, and by how many of a key are before. A broken directory may have several of
-# a name.
-Entries = dict[tuple[str, int], Items]
-
-
-def by_name(entries: Iterable[tuple[str, Items]]) -> Entries:
-    counts = Counter[str]()
-    out: Entries = {}
+def by_name(entries: Iterable[tuple[str, Items]]) -> dict[tuple[str, int], Items]:
+    """Returns entries by their keys, and by how many of a key are before. A broken directory may
+    have several of a name."""
+    counts, out = Counter[str](), dict[tuple[str, int], Items]()
     for key, entry in entries:
         out[key, counts[key]] = entry
         counts[key] += 1
@@ -274,36 +269,21 @@ def of_entry(first: str | None, second: str | None, remark: str = '') -> Differe
 
 # --- Calls of one run alone ---
 
-class Argument(NamedTuple):
-    """An argument: its name, the name with whose it is, its value, the value's name if it has one,
-    and whether it is a part of the call's path."""
-    name: str
-    label: str
-    value: Value
-    meaning: str
-    is_of_path: bool
-
-
-def arguments_of(call: Message, mask: Mask) -> Iterator[Argument]:
+def arguments_of(call: Message, mask: Mask) -> tuple[Item, ...]:
     """Returns the arguments of a call. Values that are masked as zero are left out, and words that
     only say what follows."""
-    about = set(ABOUT)
-    for item in call.after(LAST_OF_HEAD):
-        name, value = item[:2]
-        if name in CHOICES or name in TIMES and value != SERVER_TIME or is_zero(name, value, mask):
-            continue
-        yield Argument(name, item.label, value, item.meaning, name in about)
-        about.discard(name)
+    return tuple(item for item in call.after(LAST_OF_HEAD) if item.name not in CHOICES
+                 and (item.name not in TIMES or item.value == SERVER_TIME)
+                 and not is_zero(item, mask))
 
 
-def results_of(reply: Message, mask: Mask) -> Iterator[Argument]:
+def results_of(reply: Message, mask: Mask) -> Iterator[Item]:
     """Returns what a reply says after its head, as the arguments of a call."""
-    return (Argument(item.name, item.label, item.value, item.meaning, False)
-            for item in reply.after('status')
-            if item.name not in MARKS_OF_PARTS and not is_zero(*item[:2], mask, False))
+    return (item for item in reply.after('status')
+            if item.name not in MARKS_OF_PARTS and not is_zero(item, mask, False))
 
 
-def is_zero(name: str, value: Value, mask: Mask, is_call: bool = True) -> bool:
-    """Returns whether an item of a call, or of a reply, is masked as zero."""
+def is_zero(item: Item, mask: Mask, is_call: bool = True) -> bool:
     return any(mask.get(one.name) is Way.ZERO and not one.has_names and not one.is_of_changes
-               and one.has(name, is_call) and one.has_value(str(value)) for one in CLASSES)
+               and one.has(item.name, is_call) and one.has_value(str(item.value))
+               for one in CLASSES)

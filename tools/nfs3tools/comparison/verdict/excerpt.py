@@ -12,7 +12,6 @@ from ...exchanges.listing import Exchange
 from ..exchanges.matching import Pair
 from ..exchanges.pairing import NOBODY, Pairing
 
-
 PAIRS_AROUND = 3  # that are shown before and after what differs
 SHOWN_AT_MOST = 2_000  # pairs that differ
 

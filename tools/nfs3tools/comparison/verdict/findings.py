@@ -10,14 +10,15 @@ from ...exchanges.in_words import short
 from ...exchanges.listing import Exchange, Message
 from ...exchanges.objects import GIVING_HANDLES, TEACHING, UNKNOWN, Paths, below
 from ...exchanges.stored import LongValues
+from ...exchanges.whose import Item
 from ...recordings.selection import count, plural
-from ..exchanges.any_order import Explanation
+from ..exchanges.explained import Explanation
 from ..exchanges.facts import Change
 from ..exchanges.matching import Pair
 from ..exchanges.outlines import Outlines
 from ..exchanges.pairing import NOBODY, Listing, Pairing
 from ..values.classes import Mask
-from .differences import Argument, Comparison, Difference, arguments_of, results_of
+from .differences import ABOUT, Comparison, Difference, arguments_of, results_of
 from .excerpt import ExcerptRow, Shown
 
 RUNS = ('first', 'second')
@@ -51,9 +52,9 @@ class Finding:
     path: str | None = None
     differences: tuple[Difference, ...] = ()
     remark: str = ''
-    arguments: tuple[Argument, ...] = ()
+    arguments: tuple[Item, ...] = ()
     statuses: tuple[str, str] = ('', '')
-    results: tuple[Argument, ...] = ()
+    results: tuple[Item, ...] = ()
 
     @property
     def message(self) -> Message:
@@ -65,6 +66,12 @@ class Finding:
     @property
     def run(self) -> str:
         return RUNS[self.first is None]
+
+    @property
+    def beside_path(self) -> list[Item]:
+        """The arguments but for the first handle and the first name, which its path names."""
+        about = {one.name: one for one in reversed(self.arguments) if one.name in ABOUT}
+        return [one for one in self.arguments if one != about.get(one.name)]
 
 
 @dataclass
@@ -131,7 +138,7 @@ class ParsedExchanges:
     def path(self, at: int) -> str | None:
         """Returns the path of what a call is about. A folder whose path is not known is `?`."""
         call = self.exchanges[at].call
-        path, name = self.paths.of(call.value_of('fh') or ''), call.value_of('name')
+        path, name = self.paths.at(call.value_of('fh') or ''), call.value_of('name')
         return path if name is None else below(path or '?', name.strip('"'))
 
 
@@ -166,7 +173,6 @@ class OneOfTwo:
                 self.silent += silent
 
     def number_told(self) -> int:
-        """Returns how many exchanges are reported that it has alone."""
         return len(self.reported) + sum(self.connections.values())
 
     def alone(self, kind: str, at: int, remark: str = '', mask: Mask | None = None) -> Finding:
@@ -175,20 +181,20 @@ class OneOfTwo:
         one, path = self.apart.exchanges[at], None if kind == 'connection' else self.apart.path(at)
         finding = Finding(kind, one.call, None, path, remark=remark)
         if mask is not None:
-            finding = replace(finding, arguments=tuple(arguments_of(one.call, mask)),
+            finding = replace(finding, arguments=arguments_of(one.call, mask),
                               statuses=(statuses_of(one), ''),
                               results=tuple(self.results(at, mask)))
         return finding if self.number == 0 else replace(
             finding, first=None, second=one.call, statuses=finding.statuses[::-1])
 
-    def results(self, at: int, mask: Mask) -> Iterator[Argument]:
+    def results(self, at: int, mask: Mask) -> Iterator[Item]:
         """Iterates over what the replies of an exchange say. Of an object it is the path, or that
         nobody knows it before."""
         for reply in self.apart.exchanges[at].replies:
             for one in results_of(reply, mask):
                 if one.name == 'fh':
                     is_new = reply.procedure in GIVING_HANDLES and self.outlines.is_new(at)
-                    path = self.apart.paths.of(str(one.value)) or UNKNOWN
+                    path = self.apart.paths.at(str(one.value)) or UNKNOWN
                     one = one._replace(value='new' if is_new else path)
                 yield one
 
@@ -288,12 +294,11 @@ class Explaining:
         """Returns a difference with the paths of both values if they are file handles."""
         if one.name != 'fh' or one.first is None or one.second is None:
             return one
-        first, second = (own.apart.paths.of(str(handle))
+        first, second = (own.apart.paths.at(str(handle))
                          for own, handle in zip(self.runs, (one.first, one.second)))
         return replace(one, objects=(first, second)) if first and second else one
 
     def of_both(self, kind: str, pair: Pair, remark: str) -> Finding:
-        """Returns what is said of the calls of a pair."""
         first, second = (own.apart.exchanges[at].call for own, at in zip(self.runs, pair))
         return Finding(kind, first, second, self.runs[0].apart.path(pair[0]), remark=remark)
 
@@ -390,7 +395,7 @@ def of_pair(one: Exchange, other: Exchange, path: str | None,
                              f'{len(other.replies)} in the second')
 
 
-def further_results(one: Exchange, other: Exchange, mask: Mask) -> Iterator[Argument]:
+def further_results(one: Exchange, other: Exchange, mask: Mask) -> Iterator[Item]:
     """Iterates over what the replies say that one exchange has alone. Of a file handle it is
     whether the first reply has it."""
     for reply in (*one.replies[len(other.replies):], *other.replies[len(one.replies):]):

@@ -9,7 +9,6 @@ from functools import partial
 from itertools import chain
 from pathlib import Path
 
-from ...exchanges.listing import place_of, with_connection
 from ...recordings.taken import Taken
 from ...shared.outputs import write_temporary
 from ...shared.places import Place
@@ -55,7 +54,6 @@ class Trial:
         return Trial(self.program, folder, [self.runs[0], second], self.progress)
 
     def named(self) -> list[str]:
-        """Returns two new names."""
         self.number += 1
         return [str(self.folder / f'{letter}{self.number}') for letter in RUN_LETTERS]
 
@@ -104,7 +102,8 @@ class Trial:
         numbers = [connection.number for connection in taken.connections]
         if numbers == list(range(1, len(numbers) + 1)):
             return lines
-        return (with_connection(line, numbers[place_of(line).connection - 1]) for line in lines)
+        parts = (line.partition(' ') for line in lines)
+        return (f'{numbers[int(number) - 1]} {rest}' for number, _, rest in parts)
 
     def placed(self, place: str) -> str:
         """Returns where both captures differ with the number that the connection has in the first
