@@ -575,8 +575,9 @@ def run(seed: int, number: int, wrong: Wrong | None = None) -> tuple[bytes, Serv
                           scripts_of(seed)[number]), server
 
 
-def wrongs(done: list[Done], chance: random.Random) -> Iterator[Wrong]:
-    """Values that no server could say."""
+def wrongs(done: list[Done], absent: set[bytes], chance: random.Random) -> Iterator[Wrong]:
+    """Values that no server could say. Of a name that a LOOKUP of the other run does not find, NOENT
+    would be no difference."""
     modes = {one.node.mode & ~bits for one in done if one.node
              for bits in (0, 0o2000, 0o4000, SET_ID)}
     for one in done[4:]:
@@ -590,7 +591,7 @@ def wrongs(done: list[Done], chance: random.Random) -> Iterator[Wrong]:
                        and other.step.procedure not in (LOOKUP, READDIR, READDIRPLUS)
                        and other.sent < one.answered and other.answered > one.sent
                        for other in done if name not in SHARED):
-                if one.step.procedure == LOOKUP and one.step.name == name:
+                if one.step.procedure == LOOKUP and one.step.name == name not in absent:
                     yield Wrong(one.turn, 'NOENT')
                 elif one.step.procedure in (READDIR, READDIRPLUS):
                     yield Wrong(one.turn, 'name', name=name)
@@ -598,10 +599,13 @@ def wrongs(done: list[Done], chance: random.Random) -> Iterator[Wrong]:
 
 def both_pairs(seed: int, place: Comparisons) -> None:
     """A sound pair of a seed is the same, and one with a wrong value differs."""
-    place.write('a', run(seed, 0)[0])
+    first, other_server = run(seed, 0)
+    place.write('a', first)
     second, server = run(seed, 1)
+    absent = {one.step.name for one in other_server.done
+              if one.step.procedure == LOOKUP and one.step.name not in one.names}
     chance = random.Random(seed)
-    some = [*wrongs(server.done, chance)]
+    some = [*wrongs(server.done, absent, chance)]
     kind = chance.choice(sorted({one.item for one in some}))
     wrong = chance.choice([one for one in some if one.item == kind])
     for what, other, wanted in (('sound', second, 0), (str(wrong), run(seed, 1, wrong)[0], 1)):
