@@ -576,8 +576,8 @@ def run(seed: int, number: int, wrong: Wrong | None = None) -> tuple[bytes, Serv
 
 
 def wrongs(done: list[Done], absent: set[bytes], chance: random.Random) -> Iterator[Wrong]:
-    """Values that no server could say. Of a name that a LOOKUP of the other run does not find, NOENT
-    would be no difference."""
+    """Values that no server could say. If a LOOKUP of the other run does not find a name, NOENT of
+    it would be no difference."""
     modes = {one.node.mode & ~bits for one in done if one.node
              for bits in (0, 0o2000, 0o4000, SET_ID)}
     for one in done[4:]:
