@@ -22,7 +22,7 @@ pub record Position : Type 0 where
 abbrev pub file_fault : ℕ → Reason → Fault
 file_fault at reason = record { place = File at; reason = reason }
 
--- in the record after these messages of the side, counted from 1
+-- a fault of the record after these messages of the side; records are counted from 1
 abbrev pub place_at : {M : Type 0} → ℕ → Side → List M → Stop → Fault
 place_at connection side messages stop =
     record { place = Record connection side (suc (length messages)) stop.at; reason = stop.reason }

@@ -11,7 +11,7 @@ use Rattle.nfs3_types.specs.Stable.{stable_words}
 use Rattle.rpc_head.specs.declared.values.call.ProcId.{ProcId}
 use Rattle.procs3.specs.Shapes.{create_how, create_ok, dirpath, entry, entry_plus, file_range, mknod_what, mount_results}
 
--- a name, the arguments and the results
+-- a name, the arguments and the results (RFC 1813, sections 3.3 and 5.2)
 abbrev pub Procedure : Type 0
 Procedure = List ℕ × Shape × Shape
 
@@ -20,7 +20,7 @@ Procedure = List ℕ × Shape × Shape
 abbrev pub nfs : String → Shape → Shape → Shape → Procedure
 nfs name arguments done failed = (codes "NFSPROC3_" ++ codes name, arguments, results done failed)
 
--- ---- arguments and results of one procedure, with their names in the RFC
+-- ---- arguments and results by their names in RFC 1813, sections 3.3.6, 3.3.7, 3.3.16 to 3.3.20
 
 abbrev pub read3resok : Shape
 read3resok = post_op_attr then word "count" then boolean "eof" then opaque Var "data" no_maximum
@@ -111,11 +111,11 @@ abbrev pub layout_in : (Procedure → Shape) → List Procedure → ℕ → Layo
 layout_in column procedures n =
     get_or (map (λ row. exactly (column row)) procedures) n (remaining (called "rest"))
 
--- the arguments of a call
+-- the arguments of a call (RFC 1813, sections 3.3 and 5.2)
 unfoldable pub arguments_of : ProcId → Layout
 arguments_of id = layout_in (λ row. row.1) (procedures_of id) id.proc_no
 
--- the results of a successful call
+-- the results of a successful call (RFC 1813, sections 3.3 and 5.2)
 unfoldable pub results_of : ProcId → Layout
 results_of id = layout_in (λ row. row.2) (procedures_of id) id.proc_no
 
@@ -129,6 +129,6 @@ has_list id =
 abbrev pub name_in : List Procedure → ℕ → Option (List ℕ)
 name_in procedures n = get_or (map (λ row. Some row.0) procedures) n None
 
--- the name of a procedure of NFS version 3 or MOUNT version 3
+-- the name of a procedure of NFS version 3 or MOUNT version 3 (RFC 1813, sections 3.3 and 5.2)
 abbrev pub name_of_procedure : ProcId → Option (List ℕ)
 name_of_procedure id = name_in (procedures_of id) id.proc_no

@@ -11,7 +11,7 @@ use Rattle.rpc_head.specs.Shapes.{call_head, reply_head}
 unfoldable pub start_of_type : ℕ → Shape
 start_of_type mtype = word "xid" then listed "mtype" (mtype ∷ [])
 
--- A call begins with the words xid (0), mtype (1), rpcvers (2), prog (3), vers (4) and proc (5).
+-- a call's words from 0: xid, mtype, rpcvers, prog (3), vers (4), proc (5) (RFC 5531, section 9)
 abbrev pub procedure_in : List Item → ProcId
 procedure_in items =
     record { prog = word_in items 3; vers = word_in items 4; proc_no = word_in items 5 }
@@ -22,7 +22,7 @@ call_layout arguments =
     after (start_of_type 0 then call_head) (λ items. arguments (procedure_in items))
 
 -- An accepted reply begins with xid (0), mtype (1), reply_stat (2), verf_flavor (3), verf_body (4)
--- and accept_stat (5). Results follow if both stats are 0: MSG_ACCEPTED and SUCCESS.
+-- and accept_stat (5). Results follow MSG_ACCEPTED (0) with SUCCESS (0) (RFC 5531, section 9).
 abbrev pub has_results : List Item → Bool
 has_results items = (word_in items 2 == 0) && (word_in items 5 == 0)
 
