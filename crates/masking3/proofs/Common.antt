@@ -42,10 +42,10 @@ pub use Rattle.std.proofs.lemmas.Slice.Eq.{bytes_eq-Decides}
 pub use Rattle.std.specs.Io.KnownBytes.{Appends}
 pub use Rattle.std.specs.List.{AllByRecursion, flat_map, list_all}
 pub use Rattle.std.specs.Prelude.{IsTrue, None, Option, Some, bytes_eq, fold, get_or, if◌then◌else◌, nat_eq, not, ⊤, ◌&&◌, ◌==◌, ◌||◌}
-pub use Rattle.xdr3.proofs.Lemmas.Shapes.ShapeParts.{HasParts, Part, fixed_part, hyper_part, opaque_part, parts_weaker, rest_part, size_part, word_part, write_verf_part}
+pub use Rattle.xdr3.proofs.Lemmas.Shapes.ShapeParts.{HasParts, Part, counted_has_parts, fixed_part, hyper_part, opaque_part, parts_weaker, rest_part, size_part, word_part, write_verf_part}
 pub use Rattle.xdr3.specs.Item.{AreBytes, Fixed, Handle, Hyper, Item, Opaque, Rest, Spells, SpellsItem, Text, Var, Word, WriteVerf, residue, word_bytes, zero_spelling, zero_spelling_of}
 pub use Rattle.xdr3.specs.Layout.{FitsLayout, Layout, after, exactly, remaining, word_in}
-pub use Rattle.xdr3.specs.Shape.{Fits, Shape, both, choose, counted, fixed, hyper, is_listed, joined, linked, links, nothing, opaque, sized, word_named, write_verf, ◌then◌}
+pub use Rattle.xdr3.specs.Shape.{Fits, Shape, both, choose, fixed, hyper, is_listed, linked, links, nothing, opaque, sized, repeated, word_named, write_verf, ◌then◌}
 pub use Rattle.xdr3.specs.Named.{listed, word}
 unfoldable pub use Rattle.xdr3.specs.Visit.{Adds, Keeps}
 pub use Rattle.masking3.specs.Classes.{class_of, class_of_fixed, class_of_hyper, class_of_word, class_value, classes, position, row, zero_stays}

@@ -5,11 +5,11 @@ use Rattle.xdr3.specs.declared.reason.Reason.TheVariants.{RpcVersion}
 use Rattle.xdr3.specs.Item.{Var, called}
 use Rattle.xdr3.specs.Named.{listed, word}
 use Rattle.xdr3.specs.Shape.{Shape, ◌then◌, nothing, opaque}
-use Rattle.xdr3.proofs.Lemmas.Shapes.ShapeParts.{HasParts, Part, parts_if, parts_weaker, word_part}
+use Rattle.xdr3.proofs.Lemmas.Shapes.ShapeParts.{HasParts, Part, counted_has_parts, parts_if, parts_weaker, word_part}
 use Rattle.rpc_head.specs.Messages.{start_of_type}
 use Rattle.rpc_head.specs.machinery.HeadEnds.{auth_stats}
 use Rattle.rpc_head.specs.Shapes.{accept, auth_sys, call_head, credential, deny, gids, message_start, parameters, reply_head, verifier, versions}
-use Rattle.procs3.proofs.ProtocolParts.{AreProtocolParts, IsProtocolPart}
+use Rattle.procs3.proofs.ProtocolParts.{AreProtocolParts, IsProtocolPart, IsUnnumbered}
 
 verifier_parts : AreProtocolParts verifier
 unfolding verifier called
@@ -17,7 +17,10 @@ verifier_parts = assumption
 
 auth_sys_parts : AreProtocolParts auth_sys
 unfolding auth_sys parameters gids called
-auth_sys_parts = assumption
+auth_sys_parts = assumption (
+  counted_has_parts IsProtocolPart (called "gids") 16 (word "group") (assumption) (assumption),
+  counted_has_parts IsUnnumbered (called "gids") 16 (word "group") tt (assumption),
+)
 
 credential_parts : AreProtocolParts credential
 unfolding credential called

@@ -6,10 +6,10 @@ use Rattle.std.specs.Prelude.{nat_eq, ◌||◌, if◌then◌else◌}
 use Rattle.xdr3.specs.Item.{Item, called}
 use Rattle.xdr3.specs.Shape.{Shape, fixed, hyper, nothing, optional_named, word_named}
 use Rattle.xdr3.specs.Layout.{Layout, exactly, remaining}
-use Rattle.xdr3.proofs.Lemmas.Shapes.ShapeParts.{RowHasParts, parts_if, row_if}
+use Rattle.xdr3.proofs.Lemmas.Shapes.ShapeParts.{RowHasParts, counted_has_parts, parts_if, row_if}
 use Rattle.rpc_head.specs.declared.values.call.ProcId.{ProcId}
 use Rattle.rpc_head.specs.Messages.{has_results}
-use Rattle.nfs3_types.specs.Shapes.{attributes, dir_op, export, flavor, group, guard, handle, mount_ok, mounted, post_op_attr, post_op_fh, results, settable, time, time_how_named, time_named, wcc, wcc_attr}
+use Rattle.nfs3_types.specs.Shapes.{attributes, dir_op, export, flavor, group, guard, handle, mount_ok, mounted, no_maximum, post_op_attr, post_op_fh, results, settable, time, time_how_named, time_named, wcc, wcc_attr}
 use Rattle.procs3.specs.Shapes.{create_how, create_ok, device, dirpath, entry, entry_plus, file_range, mknod_what, mount_results}
 use Rattle.procs3.specs.Table.{Procedure, arguments_of, mount_procedures, nfs_procedures, results_of}
 use Rattle.procs3.proofs.TableLemmas.{layout_of_procedure}
@@ -99,7 +99,10 @@ dir_op_parts = assumption handle_parts
 
 mount_ok_parts : AreProtocolParts mount_ok
 unfolding mount_ok flavor called
-mount_ok_parts = assumption handle_parts
+mount_ok_parts = assumption (
+  handle_parts,
+  counted_has_parts IsProtocolPart (called "flavors") no_maximum flavor (assumption) (assumption),
+)
 
 mounted_parts : AreProtocolParts mounted
 unfolding mounted called

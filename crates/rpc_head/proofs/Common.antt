@@ -27,5 +27,4 @@ unfoldable pub use Rattle.xdr3.specs.Item.{called}
 unfoldable pub use Rattle.rpc_head.specs.Shapes.{accept, deny, gids, message_start, reply_head, verifier}
 pub use Rattle.rpc_head.specs.declared.scans.call.Opening.{Opening}
 pub use Rattle.rpc_head.specs.declared.values.message_start.MessageStart.{MessageStart}
-pub use Rattle.rpc_head.specs.machinery.HeadEnds.{group_words}
 pub use Rattle.rpc_head.specs.machinery.HeadRuns.{short_after}

@@ -1,23 +1,23 @@
 -- The user and the groups of a caller, which are read as runs.
 use Rattle.rpc_head.proofs.Common.{IfErr, OnOk, big_number, GetError, Item, Word, Scans, Stops, MovesOn, View, Adds, adds_joined, short_after, called, gids}
-use Rattle.std.proofs.Common.{inl, inr, ◌≡◌, ℕ, zero, suc, ◌+◌, ◌-◌, ◌*◌, ◌/◌, ◌<◌, ◌≤◌, true, false, List, [], ◌∷◌, ◌++◌, length, take, drop, replicate, Result, Ok, Err, refl, sym, ap, subst, ◌∙◌, arith}
+use Rattle.std.proofs.Common.{inl, inr, ◌≡◌, ℕ, zero, suc, ◌+◌, ◌-◌, ◌*◌, ◌/◌, ◌<◌, ◌≤◌, true, false, List, [], ◌∷◌, length, take, drop, replicate, Result, Ok, Err, refl, ap, subst, ◌∙◌, arith}
 use Rattle.std.proofs.lemmas.Bool.{cases_lt, le-leb, lt-leb, lt-ltb}
 use Rattle.std.proofs.lemmas.List.{drop-drop, take-replicate}
 use Rattle.xdr3.specs.declared.plain.PlainField.{PlainField}
 use Rattle.xdr3.specs.declared.reason.GetError.TheVariants as errors
 use Rattle.xdr3.specs.declared.reason.Reason.TheVariants.{BadEnum, Short, TooLong}
 use Rattle.xdr3.specs.Plain.{run_shape, run_size, shape_of, width}
-use Rattle.xdr3.specs.Reading.{Outcome, ◌>>=◌, number_at, reading, run_at, times_at, word_at}
+use Rattle.xdr3.specs.Reading.{number_at, reading, run_at, word_at}
 use Rattle.xdr3.specs.Named.{word}
-use Rattle.xdr3.specs.Shape.{◌then◌, is_any, is_at_most, nothing}
+use Rattle.xdr3.specs.Shape.{◌then◌, array_named, is_any, is_at_most, nothing, repeated}
 use Rattle.xdr3.proofs.Lemmas.Scans.ScanLemmas.{last_scans, last_stops, moves_both}
-use Rattle.rpc_head.specs.machinery.HeadEnds.{group_words, owner}
+use Rattle.rpc_head.specs.machinery.HeadEnds.{owner}
 use Rattle.rpc_head.proofs.HeadRunLemmas.{later_stop, one_short, run_accepts, run_ends, run_refuses, run_word, stops_at}
 
 -- ---- the groups
 
 fields_shape : (n : ℕ) (g : PlainField) → shape_of g ≡ word "group"
-    → run_shape (replicate n g) ≡ group_words n
+    → run_shape (replicate n g) ≡ repeated n (word "group")
 fields_shape zero g is = refl
 fields_shape (suc n) g is = let more = fields_shape n g is in rw (is, more) refl
 
@@ -26,30 +26,12 @@ fields_size zero g is = refl
 fields_size (suc n) g is = let more = fields_size n g is in omega (arith, is, more)
 
 pub groups_shape : (n : ℕ) (g : PlainField) → n ≤ 16 → shape_of g ≡ word "group"
-    → run_shape (take n (replicate 16 g)) ≡ group_words n
+    → run_shape (take n (replicate 16 g)) ≡ repeated n (word "group")
 groups_shape n g few is = ap run_shape (take-replicate n 16 g few) ∙ fields_shape n g is
 
 pub groups_size : (n : ℕ) (g : PlainField) → n ≤ 16 → width g ≡ 4
     → run_size (take n (replicate 16 g)) ≡ 4 * n
 groups_size n g few is = ap run_size (take-replicate n 16 g few) ∙ fields_size n g is
-
-glue : Outcome (List Item) → (ℕ → Outcome (List Item)) → Outcome (List Item)
-glue r next = r >>= λ x. next x.1 >>= λ y. Ok (x.0 ++ y.0, y.1)
-
-glue_same : (r : Outcome (List Item)) (f g : ℕ → Outcome (List Item)) → ((at : ℕ) → f at ≡ g at)
-    → glue r f ≡ glue r g
-unfolding glue
-glue_same (Ok x) f g same =
-    ap (λ (r : Outcome (List Item)). r >>= λ y. Ok (x.0 ++ y.0, y.1)) (same x.1)
-glue_same (Err stop) f g same = refl
-
-times_reads : (n : ℕ) (body : List ℕ) (at : ℕ)
-    → reading (group_words n) body at ≡ times_at (reading (word "group")) n body at
-unfolding reading glue
-times_reads zero body at = refl
-times_reads (suc n) body at =
-    glue_same (reading (word "group") body at) (λ k. reading (group_words n) body k)
-    (λ k. times_at (reading (word "group")) n body k) (λ k. times_reads n body k)
 
 -- ---- the user, the group and the number of groups
 
@@ -84,7 +66,7 @@ few_is_not n more = lt-leb n 16 more
 pub count_refused : (v v1 : View) (run : List ℕ) → run_at 12 v.body v.at ≡ Ok (run, v1.at)
     → 16 < big_number 4 (drop 8 run)
     → Stops owner v (errors.Stop (record { at = v.at + 8; reason = TooLong }))
-unfolding reading owner gids
+unfolding reading owner gids array_named
 count_refused v v1 run e more =
     let w = owned v v1 run e in
     let count =
@@ -94,7 +76,7 @@ count_refused v v1 run e more =
 
 gids_short : (body : List ℕ) (at place : ℕ) → length body < at + 4 → place ≡ at
     → reading gids body at ≡ Err (record { at = place; reason = Short })
-unfolding reading gids
+unfolding reading gids array_named
 gids_short body at place h is = rw (lt-ltb (length body) (at + 4) h, is) refl
 
 pub owner_short : (v : View) → length v.body < v.at + 12 → v.at ≤ length v.body
@@ -126,9 +108,9 @@ pub owner_scans : {V : Type 0} (stands : V → List Item → Type 0) (run : List
     → Adds stands s0 s1 (Word (called "uid") (big_number 4 run)
     ∷ Word (called "gid") (big_number 4 (drop 4 run))
     ∷ Word (called "gids") (big_number 4 (drop 4 (drop 4 run))) ∷ [])
-    → Scans stands (group_words (big_number 4 (drop 8 run))) (v1, s1) (v2, s2)
+    → Scans stands (repeated (big_number 4 (drop 8 run)) (word "group")) (v1, s1) (v2, s2)
     → Scans stands owner (v0, s0) (v2, s2)
-unfolding Scans reading owner gids
+unfolding Scans reading owner gids array_named
 owner_scans stands run v0 v1 v2 s0 s1 s2 e moves few a y =
     let w = owned v0 v1 run e in
     let n = big_number 4 (drop 8 run) in
@@ -137,13 +119,12 @@ owner_scans stands run v0 v1 v2 s0 s1 s2 e moves few a y =
     run_accepts (is_at_most 16) TooLong v0.body (big_number 4 (drop 8 run)) (v0.at + 8) v1.at
     (w.gids ∙ ap (λ (to : ℕ). Ok (big_number 4 (drop 8 run), to)) end)
     (few_is (big_number 4 (drop 8 run)) few) in
-    let there : reading (group_words (big_number 4 (drop 8 run))) v0.body v1.at ≡ Ok (y.0, v2.at) =
+    let there : reading (repeated (big_number 4 (drop 8 run)) (word "group")) v0.body v1.at
+    ≡ Ok (y.0, v2.at) =
     subst
     (λ (body : List ℕ).
-    reading (group_words (big_number 4 (drop 8 run))) body v1.at ≡ Ok (y.0, v2.at))
+    reading (repeated (big_number 4 (drop 8 run)) (word "group")) body v1.at ≡ Ok (y.0, v2.at))
     moves.same_body y.1 in
-    let parts : times_at (reading (word "group")) (big_number 4 (drop 8 run)) v0.body v1.at
-    ≡ Ok (y.0, v2.at) = sym (times_reads (big_number 4 (drop 8 run)) v0.body v1.at) ∙ there in
     let d8 : drop 4 (drop 4 run) ≡ drop 8 run = drop-drop 4 4 run in
     let passed : Adds stands s0 s1 (Word (called "uid") (big_number 4 run)
     ∷ Word (called "gid") (big_number 4 (drop 4 run))
@@ -155,7 +136,7 @@ owner_scans stands run v0 v1 v2 s0 s1 s2 e moves few a y =
     ∷ Word (called "gids") (big_number 4 x) ∷ [])) d8 a in (
       Word (called "uid") (big_number 4 run) ∷ Word (called "gid") (big_number 4 (drop 4 run))
           ∷ Word (called "gids") (big_number 4 (drop 8 run)) ∷ y.0,
-      rw (w.uid, w.gid, count, parts) refl,
+      rw (w.uid, w.gid, count, there) refl,
       moves_both v0 v1 v2 moves y.2,
       adds_joined stands s0 s1 s2
           (Word (called "uid") (big_number 4 run) ∷ Word (called "gid") (big_number 4 (drop 4 run))
@@ -166,8 +147,8 @@ owner_scans stands run v0 v1 v2 s0 s1 s2 e moves few a y =
 
 pub groups_stop : (run : List ℕ) (v0 v1 : View) (error : GetError)
     → run_at 12 v0.body v0.at ≡ Ok (run, v1.at) → MovesOn v0 v1 → big_number 4 (drop 8 run) ≤ 16
-    → Stops (group_words (big_number 4 (drop 8 run))) v1 error → Stops owner v0 error
-unfolding Stops reading owner gids
+    → Stops (repeated (big_number 4 (drop 8 run)) (word "group")) v1 error → Stops owner v0 error
+unfolding Stops reading owner gids array_named
 groups_stop run v0 v1 error e moves few h = λ stop is.
     let w = owned v0 v1 run e in
     let end : v0.at + 12 ≡ v1.at = run_ends 12 v0.body run v0.at v1.at e in
@@ -175,13 +156,13 @@ groups_stop run v0 v1 error e moves few h = λ stop is.
     run_accepts (is_at_most 16) TooLong v0.body (big_number 4 (drop 8 run)) (v0.at + 8) v1.at
     (w.gids ∙ ap (λ (to : ℕ). Ok (big_number 4 (drop 8 run), to)) end)
     (few_is (big_number 4 (drop 8 run)) few) in
-    let there : reading (group_words (big_number 4 (drop 8 run))) v0.body v1.at ≡ Err stop =
+    let there : reading (repeated (big_number 4 (drop 8 run)) (word "group")) v0.body v1.at
+    ≡ Err stop =
     subst
-    (λ (body : List ℕ). reading (group_words (big_number 4 (drop 8 run))) body v1.at ≡ Err stop)
+    (λ (body : List ℕ).
+    reading (repeated (big_number 4 (drop 8 run)) (word "group")) body v1.at ≡ Err stop)
     moves.same_body (h stop is) in
-    let cut : times_at (reading (word "group")) (big_number 4 (drop 8 run)) v0.body v1.at
-    ≡ Err stop = sym (times_reads (big_number 4 (drop 8 run)) v0.body v1.at) ∙ there in
-    rw (w.uid, w.gid, count, cut) refl
+    rw (w.uid, w.gid, count, there) refl
 
 -- the same for the groups' own answer
 
@@ -191,7 +172,7 @@ pub owner_scanned : {V X : Type 0} (stands : V → List Item → Type 0) (run : 
     → Adds stands s0 s1 (Word (called "uid") (big_number 4 run)
     ∷ Word (called "gid") (big_number 4 (drop 4 run))
     ∷ Word (called "gids") (big_number 4 (drop 4 (drop 4 run))) ∷ [])
-    → OnOk r (Scans stands (group_words (big_number 4 (drop 8 run))) (v1, s1) (v2, s2))
+    → OnOk r (Scans stands (repeated (big_number 4 (drop 8 run)) (word "group")) (v1, s1) (v2, s2))
     → OnOk r (Scans stands owner (v0, s0) (v2, s2))
 owner_scanned stands run v0 v1 v2 s0 s1 s2 (Ok x) e moves few a h =
     owner_scans stands run v0 v1 v2 s0 s1 s2 e moves few a h
@@ -199,7 +180,7 @@ owner_scanned stands run v0 v1 v2 s0 s1 s2 (Err error) e moves few a h = h
 
 pub owner_stopped : {X : Type 0} (run : List ℕ) (v0 v1 : View) (r : Result X GetError)
     → run_at 12 v0.body v0.at ≡ Ok (run, v1.at) → MovesOn v0 v1 → big_number 4 (drop 8 run) ≤ 16
-    → IfErr r (λ error. Stops (group_words (big_number 4 (drop 8 run))) v1 error)
+    → IfErr r (λ error. Stops (repeated (big_number 4 (drop 8 run)) (word "group")) v1 error)
     → IfErr r (λ error. Stops owner v0 error)
 owner_stopped run v0 v1 (Ok x) e moves few h = h
 owner_stopped run v0 v1 (Err error) e moves few h = groups_stop run v0 v1 error e moves few h

@@ -13,12 +13,12 @@ pub use Rattle.xdr3.specs.Gives.{Fails, Gives, IsRead}
 pub use Rattle.xdr3.specs.Item.{AreBytes, Fixed, Hyper, Item, Kind, Opaque, Rest, Spells, SpellsItem, Word, WriteVerf, residue, word_bytes, zero_spelling, zero_spelling_of}
 pub use Rattle.xdr3.specs.Layout.{Layout, RefusesLayout, after, exactly, remaining}
 unfoldable pub use Rattle.xdr3.specs.Layout.{reading_layout}
-pub use Rattle.xdr3.specs.Reading.{Outcome, from_window, links_at, number_at, opaque_at, refused, run_at, times_at, window_at, word_at, ◌>>=◌}
+pub use Rattle.xdr3.specs.Reading.{Outcome, from_window, links_at, number_at, opaque_at, refused, run_at, window_at, word_at, ◌>>=◌}
 unfoldable pub use Rattle.xdr3.specs.Reading.{reading}
 pub use Rattle.xdr3.specs.Reason.{in_window}
 unfoldable pub use Rattle.xdr3.specs.Scan.{Scans, ScansWord, Stops, StopsWord}
-pub use Rattle.xdr3.specs.Shape.{Fits, IsShort, Reads, Refusal, Refuses, RefusesLink, RefusesWindow, RefusesWord, Shape, Then, ThenWord, both, choose, counted, fixed, hyper, is_at_most, is_bool, joined, linked, links, nothing, opaque, sized, write_verf}
-unfoldable pub use Rattle.xdr3.specs.Shape.{optional_named}
+pub use Rattle.xdr3.specs.Shape.{Fits, IsShort, Reads, Refusal, Refuses, RefusesLink, RefusesWindow, RefusesWord, Shape, Then, ThenWord, both, choose, fixed, hyper, is_at_most, is_bool, linked, links, nothing, opaque, sized, repeated, write_verf}
+unfoldable pub use Rattle.xdr3.specs.Shape.{array_named, optional_named}
 pub use Rattle.xdr3.specs.View.{MovesOn, View, view_at}
 unfoldable pub use Rattle.xdr3.specs.Visit.{Adds, AddsSome, AreWithinLimit}
 pub use Rattle.xdr3.specs.declared.reason.GetError.{GetError}

@@ -4,7 +4,7 @@ use Rattle.std.specs.Prelude.{ℕ, List}
 use Rattle.xdr3.specs.declared.reason.Reason.{Reason}
 use Rattle.xdr3.specs.declared.reason.Reason.TheVariants.{BadBool, BadEnum}
 use Rattle.xdr3.specs.Item.{Kind, called}
-use Rattle.xdr3.specs.Shape.{Shape, is_bool, is_listed, nothing, optional_named, word_named}
+use Rattle.xdr3.specs.Shape.{Shape, array_named, is_bool, is_listed, nothing, optional_named, word_named}
 use Rattle.xdr3.specs.Shape as shapes
 
 -- one of the listed words, and then the shape that it chooses; any other word has the reason (RFC
@@ -42,7 +42,7 @@ abbrev pub linked : String → Shape → Shape
 linked name shape = shapes.linked (called name) shape
 
 abbrev pub array : String → ℕ → Shape → Shape
-array name max shape = shapes.counted (called name) max shape
+array name max shape = array_named (called name) max shape
 
 abbrev pub sized : String → Shape → Shape
 sized name shape = shapes.sized (called name) shape

@@ -7,7 +7,7 @@ use Rattle.xdr3.specs.declared.reason.Reason.TheVariants.{Short, BadBool, TooLon
 use Rattle.xdr3.specs.Reason.{in_window}
 use Rattle.xdr3.specs.Item.{Kind, Item, Word, Hyper, Opaque, AreBytes, word_bytes, residue}
 use Rattle.xdr3.specs.Layout.{Layout, after, FitsLayout, ReadsLayout, RefusesLayout}
-use Rattle.xdr3.specs.Shape.{Shape, choose, hyper, opaque, nothing, both, linked, counted, sized, is_bool, is_at_most, Fits, Reads, RefusesWord, Refuses}
+use Rattle.xdr3.specs.Shape.{Shape, choose, hyper, opaque, nothing, both, linked, array_named, sized, is_bool, is_at_most, Fits, Reads, RefusesWord, Refuses}
 
 -- ---- places
 
@@ -101,14 +101,14 @@ pub record LinkedByParts (name : List ℕ) (shape : Shape) : Type 0 where
 pub record CountedByParts (name : List ℕ) (max : ℕ) (shape : Shape) : Type 0 where
   pub reads : (n : ℕ) (bytes first left : List ℕ) (items : List Item) → BeginsWith n bytes first
       → n ≤ max → ReadsTimes shape n first items left
-      → Reads (counted name max shape) bytes (Word name n ∷ items) left
+      → Reads (array_named name max shape) bytes (Word name n ∷ items) left
   pub refuses_count : (bytes : List ℕ) (at : ℕ) (reason : Reason)
       → RefusesWord (is_at_most max) TooLong bytes at reason
-      → Refuses (counted name max shape) bytes at reason
+      → Refuses (array_named name max shape) bytes at reason
   pub refuses_part : (n k : ℕ) (bytes first more : List ℕ) (items : List Item) (at further : ℕ)
       (reason : Reason) → BeginsWith n bytes first → n ≤ max → k < n
       → ReadsTimes shape k first items more → Refuses shape more further reason
-      → IsPlaceIn bytes more at further → Refuses (counted name max shape) bytes at reason
+      → IsPlaceIn bytes more at further → Refuses (array_named name max shape) bytes at reason
 
 pub record SizedByParts (name : List ℕ) (shape : Shape) : Type 0 where
   pub reads : (n : ℕ) (bytes window left : List ℕ) (items : List Item)

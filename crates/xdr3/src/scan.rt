@@ -7,7 +7,7 @@ ghost use Rattle.xdr3.specs.Item.{Handle, Text, Var};
 ghost use Rattle.xdr3.specs.Layout.{Layout, remaining};
 ghost use Rattle.xdr3.specs.Scan.{Scans, ScansLayout, ScansWord, Stops, StopsWord};
 ghost use Rattle.xdr3.specs.machinery.WindowScans.{ScansInside, StopsInside};
-ghost use Rattle.xdr3.specs.Shape.{Shape, counted, fixed, hyper, is_any, is_at_most, is_bool, is_listed, linked, opaque, optional_named, sized, write_verf};
+ghost use Rattle.xdr3.specs.Shape.{Shape, array_named, fixed, hyper, is_any, is_at_most, is_bool, is_listed, linked, opaque, optional_named, sized, write_verf};
 
 use crate::input::Input;
 use crate::pass;
@@ -275,9 +275,10 @@ pub fn scan_counted<T: Scan, V: Visit>(
     visitor: &mut V,
 ) -> Result<(), GetError>
     ensures ok { OnOk result
-        (Scans V.stands (counted name.now max T.shape)
+        (Scans V.stands (array_named name.now max T.shape)
         (input.old, visitor.old) (input.new, visitor.new)) }
-    ensures err { IfErr result (λ error. Stops (counted name.now max T.shape) input.old error) }
+    ensures err { IfErr result
+        (λ error. Stops (array_named name.now max T.shape) input.old error) }
 {
     let count = scan_at_most(name, max, input, visitor)?;
     'parts: for _ in 0..count {

@@ -1,10 +1,10 @@
 -- The ends of heads, as they are scanned.
-use Rattle.std.specs.Prelude.{◌≡◌, ℕ, zero, suc, ◌==◌, if◌then◌else◌, List, [], ◌∷◌, Ok}
+use Rattle.std.specs.Prelude.{◌≡◌, ℕ, ◌==◌, if◌then◌else◌, List, [], ◌∷◌, Ok}
 use Rattle.xdr3.specs.Layout.{word_in}
 use Rattle.xdr3.specs.Item.{Item, Var}
 use Rattle.xdr3.specs.Reading.{reading}
 use Rattle.xdr3.specs.Named.{listed, opaque, word}
-use Rattle.xdr3.specs.Shape.{Shape, ◌then◌, nothing}
+use Rattle.xdr3.specs.Shape.{Shape, ◌then◌}
 use Rattle.xdr3.specs.View.{MovesOn, View}
 use Rattle.xdr3.specs.Visit.{Adds}
 use Rattle.rpc_head.specs.Shapes.{accept, auth_sys, gids, versions}
@@ -25,11 +25,6 @@ auth_stats = 0 ∷ 1 ∷ 2 ∷ 3 ∷ 4 ∷ 5 ∷ 6 ∷ 7 ∷ 8 ∷ 9 ∷ 10 ∷ 
 abbrev pub denied_for : ℕ → Shape
 denied_for stat =
     if stat == 0 then versions else listed "auth_stat" auth_stats
-
--- so many groups
-abbrev pub group_words : ℕ → Shape
-group_words zero = nothing
-group_words (suc n) = word "group" then group_words n
 
 -- the items of an accepted reply's head from the accept_stat on, which is this
 unfoldable pub ScansAccept : {V : Type 0} → (V → List Item → Type 0) → ℕ → (old new : View × V)

@@ -5,10 +5,10 @@
 ghost use Rattle.std.specs.Prelude.{◌≤◌, [], ◌∷◌, IfErr, IfOk, OnOk};
 ghost use Rattle.rpc_head.specs.Shapes as shapes;
 ghost use Rattle.xdr3.specs.Scan.{Scans, ScansWord, Stops, StopsWord};
-ghost use Rattle.rpc_head.specs.machinery.HeadEnds.{credential_of, group_words, owner};
+ghost use Rattle.rpc_head.specs.machinery.HeadEnds.{credential_of, owner};
 ghost use Rattle.xdr3.specs.Item.{Text, Var, called};
-ghost use Rattle.xdr3.specs.Named.{opaque};
-ghost use Rattle.xdr3.specs.Shape.{is_listed};
+ghost use Rattle.xdr3.specs.Named.{opaque, word};
+ghost use Rattle.xdr3.specs.Shape.{is_listed, repeated};
 
 use crate::scans::word::{first_short, scan_listed_or, stop, word_in};
 use crate::values::credential::{AuthSys, Cred, Parameters, Verf};
@@ -112,8 +112,9 @@ fn scan_owner<V: Visit>(input: &mut Input, visitor: &mut V) -> Result<(), GetErr
 fn scan_groups<V: Visit>(count: u32, input: &mut Input, visitor: &mut V) -> Result<(), GetError>
     requires { count ≤ 16 }
     ensures ok { OnOk result
-        (Scans V.stands (group_words count) (input.old, visitor.old) (input.new, visitor.new)) }
-    ensures err { IfErr result (λ error. Stops (group_words count) input.old error) }
+        (Scans V.stands (repeated count (word "group")) (input.old, visitor.old)
+        (input.new, visitor.new)) }
+    ensures err { IfErr result (λ error. Stops (repeated count (word "group")) input.old error) }
 {
     scan_plain(&GROUPS[..count as usize], 4 * count, input, visitor)
 }

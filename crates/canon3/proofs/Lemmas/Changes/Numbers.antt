@@ -1,7 +1,7 @@
 -- Messages, conversations and captures under canonical numbers.
 use Rattle.canon3.proofs.Common.{◌≡◌, ℕ, ◌<◌, ◌≤◌, ◌^◌, List, [], ◌∷◌, ◌++◌, length, map, refl, sym, ap, ◌∙◌, arith, append_assoc, append-nil, nat_eq, bytes_eq, Decides-eqb, Item, Opaque, Handle, WriteVerf, ProcId, Spells, zero_spelling, rank, numbered_item, numbered_message, numbered, canonical, handles, verifiers, Member, ReplyItems, xid_in, call_head, reply_head, arguments_of, max_bytes, Entry, Call, Turn, Close, call_xids, reply_entry, Typed}
 use Rattle.xdr3.specs.Named.{listed}
-use Rattle.xdr3.specs.Shape.{Shape, choose, hyper, fixed, write_verf, opaque, nothing, both, linked, counted, sized, Fits}
+use Rattle.xdr3.specs.Shape.{Shape, choose, hyper, fixed, write_verf, opaque, nothing, both, linked, sized, Fits}
 use Rattle.xdr3.specs.Layout.{Layout, exactly, remaining, after}
 use Rattle.xdr3.proofs.Lemmas.Shapes.ShapeParts.{HasParts, Part, RowHasParts, opaque_part, parts_weaker, row_weaker, write_verf_part}
 use Rattle.rpc_head.specs.Messages.{procedure_in}
@@ -48,7 +48,6 @@ module _ (hs vs : List (List ℕ)) where
   takes nothing h = tt
   takes (both a b) h = (takes a h.0, takes b h.1)
   takes (linked name s) h = ((λ n j e. e), takes s h.1)
-  takes (counted name max s) h = ((λ n j e. e), takes s h.1)
   takes (sized name s) h = (
     (λ n j e. e),
     size_stays IsNumbered s

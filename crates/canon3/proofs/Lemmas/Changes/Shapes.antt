@@ -2,7 +2,7 @@
 -- same.
 use Rattle.canon3.proofs.Common.{◌≡◌, ℕ, suc, ◌≤◌, Bool, List, [], ◌∷◌, ◌++◌, length, refl, sym, ap, subst, arith, length-append, map, AllByRecursion, flat_map, Item, Word, Hyper, Fixed, WriteVerf, Opaque, Rest, Spells, SpellsItem, zero_spelling, zero_spelling_of, Pairwise, none, more, ⊤}
 use Rattle.std.specs.Prelude.{IsTrue}
-use Rattle.xdr3.specs.Shape.{Shape, choose, hyper, fixed, write_verf, opaque, nothing, both, linked, counted, sized, Fits, links, joined}
+use Rattle.xdr3.specs.Shape.{Shape, choose, hyper, fixed, write_verf, opaque, nothing, both, linked, sized, Fits, links}
 use Rattle.xdr3.specs.Layout.{Layout, exactly, remaining, after, FitsLayout}
 use Rattle.xdr3.proofs.Lemmas.Shapes.ShapeParts.{HasParts}
 use Rattle.canon3.proofs.Lemmas.WellFormed.Items.{IsEach, all_fitting}
@@ -67,7 +67,6 @@ module _ (R : Item → Item → Type 0) where
   Takes nothing = ⊤
   Takes (both a b) = Takes a × Takes b
   Takes (linked name s) = WordStays name × Takes s
-  Takes (counted name max s) = WordStays name × Takes s
   Takes (sized name s) =
       WordStays name × ((items others : List Item) → Fits s items → Become items others
       → SizeStays items others) × Takes s
@@ -144,12 +143,6 @@ module _ (R : Item → Item → Type 0) where
       parts_become s (λ part other q d. fits_become s part other t.1 q d) (Word name 1 ∷ [])
       (word_becomes name t.0 1) p.0 a.0 p.1 a.2 in
       (r.0, r.1, cc (a.4, r.3, word_becomes name t.0 0 a.1 a.3))
-  fits_become (counted name max s) items others t p c =
-      let f = first_becomes (Word name (length p.0)) (joined p.0) items others p.3 c in
-      let r =
-      parts_become s (λ part other q d. fits_become s part other t.1 q d) [] none_become p.0 f.1
-      p.1 f.3 in
-      (r.0, r.1, omega (arith, p.2, r.2), cc (f.4, t.0 (length p.0) f.0 f.2, r.2, r.3))
   fits_become (sized name s) items others t p c =
       let size : ℕ = length (zero_spelling p.0) in
       let f = first_becomes (Word name size) p.0 items others p.3 c in

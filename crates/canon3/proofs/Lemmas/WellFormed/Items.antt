@@ -3,7 +3,7 @@ use Rattle.std.proofs.Common.{◌≡◌, ℕ, zero, suc, ◌+◌, ◌%◌, ◌/�
 use Rattle.canon3.proofs.Common.{⊤, AllByRecursion, flat_map, handle_in, verifier_in, handles_in, verifiers_in, Member, here, there, IsHandle, IsVerifier, Item, Word, Hyper, Fixed, WriteVerf, Opaque, Rest, Handle, AreBytes, SpellsItem, Spells, residue, word_bytes, zero_spelling_of, zero_spelling, zero_spelled_all, AreBytes-nil, AreBytes-append}
 use Rattle.std.specs.Int.{bytes_high_first, byte_at}
 use Rattle.std.proofs.lemmas.List.{length-replicate}
-use Rattle.xdr3.specs.Shape.{Shape, choose, hyper, fixed, write_verf, opaque, nothing, both, linked, counted, sized, Fits, links}
+use Rattle.xdr3.specs.Shape.{Shape, choose, hyper, fixed, write_verf, opaque, nothing, both, linked, sized, Fits, links}
 use Rattle.xdr3.specs.Layout.{Layout, exactly, remaining, after, FitsLayout}
 use Rattle.xdr3.proofs.Lemmas.Reading.Items.{Spells-one, Spells-single}
 use Rattle.xdr3.proofs.Lemmas.Shapes.ShapeParts.{HasParts, Part, RowHasParts, fixed_part, hyper_part, opaque_part, rest_part, size_part, word_part, write_verf_part}
@@ -64,12 +64,6 @@ module _ (P : Item → Type 0) where
       (all_flat_map P (λ part. Word name 1 ∷ part) p.0 (all_weaker _
       (λ part. AllAre (Word name 1 ∷ part)) (λ part q. (h.0 1, all_fitting s part h.1 q)) p.0 p.1))
       (h.0 0, tt))
-  all_fitting (counted name max s) items h p =
-      rw p.3 (
-        h.0 (length p.0),
-        all_flat_map P (λ part. part) p.0
-            (all_weaker _ _ (λ part. all_fitting s part h.1) p.0 p.1),
-      )
   all_fitting (sized name s) items h p =
       rw p.3 (h.0 (length (zero_spelling p.0)), all_fitting s p.0 h.1 p.1)
 

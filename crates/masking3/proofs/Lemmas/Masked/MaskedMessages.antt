@@ -1,5 +1,5 @@
 -- Messages with masked values and texts are messages of the same procedures, and no longer.
-use Rattle.masking3.proofs.Common.{◌≡◌, ℕ, ◌<◌, ◌≤◌, ◌^◌, Bool, List, [], ◌∷◌, length, refl, sym, ap, ◌∙◌, arith, IsTrue, nat_eq, Option, None, Some, big_bytes, length-bytes_high_first, Item, Word, Hyper, Fixed, Text, Spells, SpellsItem, zero_spelling, zero_spelling_of, Layout, exactly, remaining, after, ProcId, procedure_in, called, arguments_of, Side, Client, Server, max_bytes, Decides-eqb, ⊤, none, more, Class, ItemSpot, InCall, InReply, Way, Keep, Zero, Number, Ways, class_of, class_of_word, class_value, by_way, is_zero_that_stays, masked_item, masked_items, substitute, with_value, with_text, text_by, raw_by, next_spot, way_of, Raw, Part, fixed_part, hyper_part, opaque_part, rest_part, size_part, word_part, write_verf_part, parts_weaker, call_head, reply_head, FitsCall, FitsReply, is_headed_call, is_headed_reply, reply_next, Shape, both, choose, counted, fixed, hyper, linked, listed, nothing, opaque, sized, write_verf, before, IsEach, are_bytes_of_number, zero_spelled_one, cond_either, equivalence, length-with_keys}
+use Rattle.masking3.proofs.Common.{◌≡◌, ℕ, ◌<◌, ◌≤◌, ◌^◌, Bool, List, [], ◌∷◌, length, refl, sym, ap, ◌∙◌, arith, IsTrue, nat_eq, Option, None, Some, big_bytes, length-bytes_high_first, Item, Word, Hyper, Fixed, Text, Spells, SpellsItem, zero_spelling, zero_spelling_of, Layout, exactly, remaining, after, ProcId, procedure_in, called, arguments_of, Side, Client, Server, max_bytes, Decides-eqb, ⊤, none, more, Class, ItemSpot, InCall, InReply, Way, Keep, Zero, Number, Ways, class_of, class_of_word, class_value, by_way, is_zero_that_stays, masked_item, masked_items, substitute, with_value, with_text, text_by, raw_by, next_spot, way_of, Raw, Part, fixed_part, hyper_part, opaque_part, rest_part, size_part, word_part, write_verf_part, parts_weaker, call_head, reply_head, FitsCall, FitsReply, is_headed_call, is_headed_reply, reply_next, Shape, both, choose, fixed, hyper, linked, listed, nothing, opaque, sized, write_verf, before, IsEach, are_bytes_of_number, zero_spelled_one, cond_either, equivalence, length-with_keys}
 use Rattle.canon3.proofs.Lemmas.Changes.Conversations.{IsLike}
 use Rattle.canon3.proofs.Lemmas.Changes.Messages.{ChangesTo, HeadsStay, call_becomes, message_anew, procedure_becomes, reply_becomes}
 use Rattle.canon3.proofs.Lemmas.Changes.Shapes.{Become, IsSpelledAnew, ItemStaysAsLong, RowTakes, Takes, WordStays, size_stays}
@@ -105,8 +105,6 @@ module _ (ways : Ways) (seen : Class → List ℕ) where
       takes nothing h = tt
       takes (both a b) h = (takes a (λ t o. (h t o).0), takes b (λ t o. (h t o).1))
       takes (linked name s) h =
-          (word_stays name (λ t o. (h t o).0), takes s (λ t o. (h t o).1))
-      takes (counted name max s) h =
           (word_stays name (λ t o. (h t o).0), takes s (λ t o. (h t o).1))
       takes (sized name s) h = (
         word_stays name (λ t o. (h t o).0),

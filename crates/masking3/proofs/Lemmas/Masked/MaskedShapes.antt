@@ -1,8 +1,8 @@
 -- Each shape of the protocol takes masked values: a word of a class takes any value, and chooses
 -- nothing.
-use Rattle.masking3.proofs.Common.{cond_either, ◌≡◌, ℕ, Bool, false, List, AllByRecursion, refl, ⊤, ◌||◌, IsTrue, bytes_eq, nat_eq, if◌then◌else◌, Option, None, Some, Item, Text, Layout, exactly, remaining, after, HasParts, Part, fixed_part, rest_part, opaque_part, ProcId, has_results, called, Side, Client, Server, Class, ItemSpot, InCall, class_of_word, Shape, ◌then◌, choose, counted, hyper, linked, listed, nothing, both, sized, word, accept, auth_sys, call_head, credential, deny, gids, parameters, reply_head, verifier, arguments_of, results_of}
-use Rattle.xdr3.specs.Shape.{optional_named}
-use Rattle.nfs3_types.specs.Shapes.{attributes, dir_op, export, flavor, group, guard, handle, mount_ok, mounted, post_op_attr, post_op_fh, results, settable, time_how_named, time_named, wcc, wcc_attr}
+use Rattle.masking3.proofs.Common.{cond_either, ◌≡◌, ℕ, zero, suc, Bool, false, List, AllByRecursion, refl, ⊤, ◌||◌, IsTrue, bytes_eq, nat_eq, if◌then◌else◌, Option, None, Some, Item, Text, Layout, exactly, remaining, after, HasParts, Part, counted_has_parts, fixed_part, rest_part, opaque_part, ProcId, has_results, called, Side, Client, Server, Class, ItemSpot, InCall, class_of_word, Shape, ◌then◌, choose, repeated, hyper, linked, listed, nothing, both, sized, word, accept, auth_sys, call_head, credential, deny, gids, parameters, reply_head, verifier, arguments_of, results_of}
+use Rattle.xdr3.specs.Shape.{array_named, optional_named}
+use Rattle.nfs3_types.specs.Shapes.{attributes, dir_op, export, flavor, group, guard, handle, mount_ok, mounted, no_maximum, post_op_attr, post_op_fh, results, settable, time_how_named, time_named, wcc, wcc_attr}
 use Rattle.procs3.specs.Shapes.{create_how, create_ok, device, dirpath, entry, entry_plus, file_range, mknod_what, mount_results}
 use Rattle.procs3.specs.Table.{mount_procedures, nfs_procedures}
 use Rattle.procs3.proofs.TableLemmas.{layout_of_procedure}
@@ -30,7 +30,6 @@ TakesMasks spot (choose name accepted reason next) =
     TakesWord (class_of_word spot name) accepted next × ((n : ℕ) → TakesMasks spot (next n))
 TakesMasks spot (both a b) = TakesMasks spot a × TakesMasks spot b
 TakesMasks spot (linked name s) = (class_of_word spot name ≡ None) × TakesMasks spot s
-TakesMasks spot (counted name max s) = (class_of_word spot name ≡ None) × TakesMasks spot s
 TakesMasks spot (sized name s) =
     (class_of_word spot name ≡ None) × HasParts KeepsSize s × TakesMasks spot s
 TakesMasks spot _ = ⊤
@@ -54,6 +53,15 @@ module _ (spot : ItemSpot) where
       → TakesMasks spot (optional_named name s)
   unfolding optional_named
   optional_takes name s w h = (rw w tt, λ n. cond_either (TakesMasks spot) (nat_eq n 0) tt h)
+
+  times_take : (n : ℕ) (s : Shape) → TakesMasks spot s → TakesMasks spot (repeated n s)
+  times_take zero s h = tt
+  times_take (suc n) s h = (h, times_take n s h)
+
+  counted_takes : (name : List ℕ) (max : ℕ) (s : Shape) → class_of_word spot name ≡ None
+      → TakesMasks spot s → TakesMasks spot (array_named name max s)
+  unfolding array_named
+  counted_takes name max s w h = (rw w tt, λ n. times_take n s h)
 
   post_op_attr_takes : TakesMasks spot post_op_attr
   unfolding post_op_attr called
@@ -156,7 +164,10 @@ module _ (spot : ItemSpot) where
 
 credential_takes : TakesMasks InCall credential
 unfolding credential auth_sys parameters gids called
-credential_takes = (tt, λ n. cond_either (TakesMasks InCall) (nat_eq n 0) tt (assumption))
+credential_takes =
+    let groups = counted_takes InCall (called "gids") 16 (word "group") refl (assumption) in
+    let size = counted_has_parts KeepsSize (called "gids") 16 (word "group") tt (assumption) in
+    (tt, λ n. cond_either (TakesMasks InCall) (nat_eq n 0) tt (assumption (groups, size)))
 
 -- ---- a word for another group of an export has none
 
@@ -170,8 +181,12 @@ module _ (spot : ItemSpot) (on : IsOn Server spot) where
   mount_results_take : AllByRecursion (λ row. TakesMasks spot row.2) mount_procedures
   unfolding flavor handle called mount_ok mount_procedures mount_results mounted
   mount_results_take =
-      let found : TakesMasks spot mount_results =
-      (tt, λ k. cond_either (TakesMasks spot) (nat_eq k 0) (assumption) tt) in
+      let found : TakesMasks spot mount_results = (
+        tt,
+        λ k. cond_either (TakesMasks spot) (nat_eq k 0)
+            (assumption
+            (counted_takes spot (called "flavors") no_maximum flavor (search) (assumption))) tt,
+      ) in
       search (exports_at spot on) depth 20 fits 5000
 
   -- what follows the head of a reply

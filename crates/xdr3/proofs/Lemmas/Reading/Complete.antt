@@ -1,5 +1,5 @@
 -- What is so is read: items that fit and are spelled are given, and what is refused is answered.
-use Rattle.xdr3.proofs.Common.{◌≡◌, ℕ, zero, suc, ◌+◌, ◌-◌, ◌^◌, ◌<◌, ◌≤◌, Bool, true, false, ltb, eqb, List, [], ◌∷◌, ◌++◌, length, take, drop, Result, Ok, refl, sym, ap, subst, ◌∙◌, append_assoc, arith, inl, inr, AllByRecursion, take_at, length-append, length-take, append-nil, drop-take, length-bytes_high_first, Reason, Short, BadBool, TooLong, AuthLength, Stop, Kind, Item, Word, Hyper, Fixed, WriteVerf, Opaque, word_bytes, residue, Spells, zero_spelling, in_window, big_number, Shape, choose, hyper, fixed, write_verf, opaque, nothing, both, linked, counted, sized, is_bool, is_at_most, links, joined, Fits, Refusal, IsShort, Then, ThenWord, RefusesWord, RefusesLink, RefusesWindow, Refuses, Outcome, refused, run_at, number_at, word_at, links_at, times_at, from_window, window_at, reading}
+use Rattle.xdr3.proofs.Common.{◌≡◌, ℕ, zero, suc, ◌+◌, ◌-◌, ◌^◌, ◌<◌, ◌≤◌, Bool, true, false, ltb, eqb, List, [], ◌∷◌, ◌++◌, length, take, drop, Result, Ok, refl, sym, ap, subst, ◌∙◌, append_assoc, arith, inl, inr, AllByRecursion, take_at, length-append, length-take, append-nil, drop-take, length-bytes_high_first, Reason, Short, BadBool, TooLong, AuthLength, Stop, Kind, Item, Word, Hyper, Fixed, WriteVerf, Opaque, word_bytes, residue, Spells, zero_spelling, in_window, big_number, Shape, choose, hyper, fixed, write_verf, opaque, nothing, both, linked, sized, is_bool, is_at_most, links, Fits, Refusal, IsShort, Then, ThenWord, RefusesWord, RefusesLink, RefusesWindow, Refuses, Outcome, refused, run_at, number_at, word_at, links_at, from_window, window_at, reading}
 use Rattle.std.proofs.lemmas.Bool.{le-leb, eq-eqb, ne_eqb, le-ltb}
 use Rattle.xdr3.proofs.Lemmas.Reading.Bytes.{run_given, is_cut, number_given, drop_front, front_ends}
 use Rattle.xdr3.proofs.Lemmas.Reading.Items.{Spells-split, Spells-single, length_of_spelling}
@@ -496,101 +496,6 @@ linked_complete name s ih = record {
       ∙ stopped (at + (length r.1 + r.3)) (at + after) reason reason (omega (arith, r.8)) refl;
 }
 
--- ---- counted arrays
-
-times_read : (one : List ℕ → ℕ → Outcome (List Item)) (Fitting : List Item → Type 0) (R : Refusal)
-    → IsComplete Fitting R one
-    → (parts : List (List Item)) (body : List ℕ) (at : ℕ) (front left : List ℕ) → at ≤ length body
-    → AllByRecursion Fitting parts → Spells (joined parts) front → drop at body ≡ front ++ left
-    → times_at one (length parts) body at ≡ Ok (joined parts, at + length front)
-times_read one Fitting R ih [] body at front left h f s e =
-    given [] [] at (at + length front) refl (omega (arith, ap length s))
-times_read one Fitting R ih (part ∷ parts) body at front left h f s e =
-    let p = Spells-split part (joined parts) front s in
-    let split : drop at body ≡ p.0 ++ (p.1 ++ left) =
-    e ∙ ap (λ (b : List ℕ). b ++ left) p.4 ∙ append_assoc p.0 p.1 left in
-    let place = stands body p.0 (p.1 ++ left) at h split in
-    let first : one body at ≡ Ok (part, at + length p.0) =
-    ih.reads body at part p.0 (p.1 ++ left) h f.0 p.2 split in
-    let rest : times_at one (length parts) body (at + length p.0)
-    ≡ Ok (joined parts, at + length p.0 + length p.1) =
-    times_read one Fitting R ih parts body (at + length p.0) p.1 left place.within f.1 p.3
-    place.later in
-    rw (first, rest) (given (part ++ joined parts) (part ++ joined parts)
-    (at + length p.0 + length p.1) (at + length front) refl
-    (omega (arith, ap length p.4, length-append p.0 p.1)))
-
-times_stop : (one : List ℕ → ℕ → Outcome (List Item)) (Fitting : List Item → Type 0) (R : Refusal)
-    → IsComplete Fitting R one
-    → (parts : List (List Item)) (n : ℕ) (body : List ℕ) (at after : ℕ) (reason : Reason)
-    (front left : List ℕ) → at ≤ length body → length parts < n → AllByRecursion Fitting parts
-    → Spells (joined parts) front → drop at body ≡ front ++ left → R left after reason
-    → times_at one n body at ≡ refused (at + (length front + after)) reason
-times_stop one Fitting R ih parts zero body at after reason front left h few f s e r =
-    absurd (omega arith)
-times_stop one Fitting R ih [] (suc n) body at after reason front left h few f s e r =
-    let none : drop at body ≡ left = e ∙ ap (λ (b : List ℕ). b ++ left) s in
-    let stop : one body at ≡ refused (at + after) reason =
-    ih.stops body at after reason h (subst (λ (l : List ℕ). R l after reason) (sym none) r) in
-    rw stop (stopped (at + after) (at + (length front + after)) reason reason
-    (omega (arith, ap length s)) refl)
-times_stop one Fitting R ih (part ∷ parts) (suc n) body at after reason front left h few f s e r =
-    let p = Spells-split part (joined parts) front s in
-    let split : drop at body ≡ p.0 ++ (p.1 ++ left) =
-    e ∙ ap (λ (b : List ℕ). b ++ left) p.4 ∙ append_assoc p.0 p.1 left in
-    let place = stands body p.0 (p.1 ++ left) at h split in
-    let first : one body at ≡ Ok (part, at + length p.0) =
-    ih.reads body at part p.0 (p.1 ++ left) h f.0 p.2 split in
-    let rest : times_at one n body (at + length p.0)
-    ≡ refused (at + length p.0 + (length p.1 + after)) reason =
-    times_stop one Fitting R ih parts n body (at + length p.0) after reason p.1 left place.within
-    (omega arith) f.1 p.3 place.later r in
-    rw (first, rest) (stopped (at + length p.0 + (length p.1 + after)) (at + (length front + after))
-    reason reason (omega (arith, ap length p.4, length-append p.0 p.1)) refl)
-
-counted_complete : (name : List ℕ) (max : ℕ) (s : Shape) → ShapeIsComplete s
-    → ShapeIsComplete (counted name max s)
-unfolding reading
-counted_complete name max s ih = record {
-  reads = λ body at items front left h f t e.
-      let n = length f.0 in
-      let w =
-      front_word name (length f.0) (joined f.0) body front left at h
-      (subst (λ (xs : List Item). Spells xs front) f.3 t) e in
-      let word : word_at (is_at_most max) TooLong body at ≡ Ok (length f.0, at + 4) =
-      word_reads (is_at_most max) TooLong body w.head (w.back ++ left) (length f.0) at h w.word
-      (le-leb (length f.0) max f.2) w.is in
-      let rest : times_at (reading s) (length f.0) body (at + 4)
-      ≡ Ok (joined f.0, at + 4 + length w.back) =
-      times_read (reading s) (Fits s) (Refuses s) ih f.0 body (at + 4) w.back left w.within f.1
-      w.spells w.next in
-      rw (word, rest) (given (Word name (length f.0) ∷ joined f.0) items (at + 4 + length w.back)
-      (at + length front) f.3 w.place);
-  stops = λ body at after reason h r.
-      elim r [
-        | inl word ↦
-            let stop : word_at (is_at_most max) TooLong body at ≡ refused (at + after) reason =
-            word_stops (is_at_most max) TooLong body at after reason h word in
-            rw stop refl
-        | inr t ↦
-            let n = t.0 in
-            let b = t.2 in
-            let f = b.4 in
-            let w =
-            front_word name t.0 (joined f.0) body b.1 b.2 at h
-            (subst (λ (xs : List Item). Spells xs b.1) f.3 b.5) b.6 in
-            let word : word_at (is_at_most max) TooLong body at ≡ Ok (t.0, at + 4) =
-            word_reads (is_at_most max) TooLong body w.head (w.back ++ b.2) t.0 at h w.word
-            (le-leb t.0 max t.1) w.is in
-            let stop : times_at (reading s) t.0 body (at + 4)
-            ≡ refused (at + 4 + (length w.back + b.3)) reason =
-            times_stop (reading s) (Fits s) (Refuses s) ih f.0 t.0 body (at + 4) b.3 reason w.back
-            b.2 w.within f.2 f.1 w.spells w.next b.7 in
-            rw (word, stop) (stopped (at + 4 + (length w.back + b.3)) (at + after) reason reason
-            (omega (arith, w.place, b.8)) refl)
-      ];
-}
-
 -- ---- windows
 
 window_drop : (body window left : List ℕ) (at len : ℕ) → drop at body ≡ window ++ left
@@ -704,5 +609,4 @@ complete (opaque kind name max) = opaque_complete kind name max
 complete nothing = nothing_complete
 complete (both a b) = both_complete a b (complete a) (complete b)
 complete (linked name s) = linked_complete name s (complete s)
-complete (counted name max s) = counted_complete name max s (complete s)
 complete (sized name s) = sized_complete name s (complete s)

@@ -1,5 +1,5 @@
 -- For which reasons bytes are refused that a shape or a row does not read.
-use Rattle.xdr3.proofs.Common.{◌≡◌, ◌<◌, inl, inr, ℕ, Bool, List, length, subst, sym, Reason, Item, in_window, ⊤, Layout, exactly, remaining, after, RefusesLayout, Shape, choose, hyper, fixed, write_verf, opaque, nothing, both, linked, counted, sized, Refusal, IsShort, Then, RefusesWord, RefusesLink, RefusesWindow, Refuses}
+use Rattle.xdr3.proofs.Common.{◌≡◌, ◌<◌, inl, inr, ℕ, Bool, List, length, subst, sym, Reason, Item, in_window, ⊤, Layout, exactly, remaining, after, RefusesLayout, Shape, choose, hyper, fixed, write_verf, opaque, nothing, both, linked, sized, Refusal, IsShort, Then, RefusesWord, RefusesLink, RefusesWindow, Refuses}
 use Rattle.xdr3.specs.declared.reason.Reason.TheVariants.{BadMagic, CaptureCut, BadMark, AfterEnd, TooManyConnections, TooManyBytes, RecordCut, RecordTooLong, Short, Trailing, BadBool, BadEnum, TooLong, RpcVersion, Flavor, AuthLength, WrongSide, NoCall, XidConflict}
 use Rattle.xdr3.proofs.Lemmas.Shapes.ShapeParts.{HasParts, Part, RowHasParts, word_part}
 
@@ -90,9 +90,6 @@ refused_for (both a b) h bytes at reason (inr p) =
     then_for _ _ (refused_for b h.1) bytes at reason p
 refused_for (linked name s) h bytes at reason p =
     then_for _ _ (link_for name (Refuses s) (refused_for s h.1)) bytes at reason p
-refused_for (counted name max s) h bytes at reason (inl p) = word_for _ TooLong tt bytes at reason p
-refused_for (counted name max s) h bytes at reason (inr (n, is, p)) =
-    then_for _ _ (refused_for s h.1) bytes at reason p
 refused_for (sized name s) h bytes at reason (inl p) = word_for _ TooLong tt bytes at reason p
 refused_for (sized name s) h bytes at reason (inr (n, is, p)) =
     then_for _ _ (window_for n _ _ (refused_for s h.1)) bytes at reason p

@@ -1,6 +1,6 @@
 -- What reading gives is so: items that were read fit and are spelled, and what is refused is
 -- refused.
-use Rattle.xdr3.proofs.Common.{◌≡◌, ℕ, zero, suc, ◌+◌, ◌-◌, ◌^◌, ◌<◌, ◌≤◌, Bool, true, false, cond, ltb, eqb, List, [], ◌∷◌, ◌++◌, length, take, drop, Result, Ok, Err, refl, sym, ap, subst, ◌∙◌, append_assoc, arith, inl, inr, ◌⊎◌, AllByRecursion, take_at, take-append-drop, length-append, length-take, length-drop, append-nil, drop-take, drop_all, big_bytes, Reason, Short, BadBool, TooLong, AuthLength, Stop, Kind, Item, Word, Hyper, Fixed, WriteVerf, Opaque, AreBytes, word_bytes, residue, SpellsItem, zero_spelling, Shape, choose, hyper, fixed, write_verf, opaque, nothing, both, linked, counted, sized, is_bool, is_at_most, links, joined, Fits, Refusal, IsShort, Then, ThenWord, RefusesWord, RefusesWindow, Refuses, in_window, Outcome, ◌>>=◌, refused, run_at, number_at, word_at, opaque_at, links_at, times_at, from_window, window_at, reading}
+use Rattle.xdr3.proofs.Common.{◌≡◌, ℕ, zero, suc, ◌+◌, ◌-◌, ◌^◌, ◌<◌, ◌≤◌, Bool, true, false, cond, ltb, eqb, List, [], ◌∷◌, ◌++◌, length, take, drop, Result, Ok, Err, refl, sym, ap, subst, ◌∙◌, append_assoc, arith, inl, inr, ◌⊎◌, AllByRecursion, take_at, take-append-drop, length-append, length-take, length-drop, append-nil, drop-take, drop_all, big_bytes, Reason, Short, BadBool, TooLong, AuthLength, Stop, Kind, Item, Word, Hyper, Fixed, WriteVerf, Opaque, AreBytes, word_bytes, residue, SpellsItem, zero_spelling, Shape, choose, hyper, fixed, write_verf, opaque, nothing, both, linked, sized, is_bool, is_at_most, links, Fits, Refusal, IsShort, Then, ThenWord, RefusesWord, RefusesWindow, Refuses, in_window, Outcome, ◌>>=◌, refused, run_at, number_at, word_at, opaque_at, links_at, from_window, window_at, reading}
 use Rattle.std.proofs.lemmas.Bool.{ltb-true, ltb-false, leb-true, eqb-true, eqb-false, cases_Bool}
 use Rattle.xdr3.proofs.Lemmas.Reading.Bytes.{AreBytes-drop, AreBytes-take, bind_ok, bind_err, accept_ok, accept_err, pair_is, err_is, never, TakesRun, run_takes, IsCut, run_cut, number_cut, wide4, wide8, number_takes, drop_parts}
 use Rattle.xdr3.proofs.Lemmas.Reading.Items.{Spells-one, length_of_spelling, Takes, Takes-nothing, Takes-then, Refused, Refused-weaker, Refused-then, Refused-after}
@@ -519,136 +519,6 @@ linked_sound name s ih = record {
       stop fits h (omega arith) e;
 }
 
--- ---- counted arrays
-
-record AreTimes (Fitting : List Item → Type 0) (n : ℕ) (items : List Item) : Type 0 where
-  parts : List (List Item)
-  fit : AllByRecursion Fitting parts
-  count : length parts ≡ n
-  is : items ≡ joined parts
-
-times_take : (one : List ℕ → ℕ → Outcome (List Item)) (Fitting : List Item → Type 0) (R : Refusal)
-    → IsSound Fitting R one → (n : ℕ) (body : List ℕ) (at to : ℕ) (items : List Item)
-    → AreBytes body → at ≤ length body → times_at one n body at ≡ Ok (items, to)
-    → AreTimes Fitting n items × Takes items body at to
-times_take one Fitting R ih zero body at to items fits h e =
-    along_ok (λ xs p. AreTimes Fitting 0 xs × Takes xs body at p) [] items at to
-    (pair_is [] items at to e)
-    (record { parts = []; fit = tt; count = refl; is = refl }, Takes-nothing body at h)
-times_take one Fitting R ih (suc n) body at to items fits h e =
-    let p =
-    bind_ok (one body at)
-    (λ part. times_at one n body part.1 >>= λ parts. Ok (part.0 ++ parts.0, parts.1))
-    (items, to) e in
-    let q =
-    bind_ok (times_at one n body p.0.1) (λ parts. Ok (p.0.0 ++ parts.0, parts.1)) (items, to) p.2 in
-    let first = ih.takes body at p.0.1 p.0.0 fits h p.1 in
-    let rest = times_take one Fitting R ih n body p.0.1 q.0.1 q.0.0 fits first.1.within q.1 in
-    along_ok (λ xs p. AreTimes Fitting (suc n) xs × Takes xs body at p) (p.0.0 ++ q.0.0) items q.0.1
-    to (pair_is (p.0.0 ++ q.0.0) items q.0.1 to q.2) (
-      record {
-        parts = p.0.0 ∷ rest.0.parts;
-        fit = (first.0, rest.0.fit);
-        count = ap suc rest.0.count;
-        is = ap (λ (m : List Item). p.0.0 ++ m) rest.0.is;
-      },
-      Takes-then p.0.0 q.0.0 body at p.0.1 q.0.1 first.1 rest.1,
-    )
-
-abbrev AreFewerParts : (List Item → Type 0) → ℕ → List Item → Type 0
-AreFewerParts Fitting n items = (parts : List (List Item)) × AllByRecursion Fitting parts
-    × (length parts < n) × (items ≡ joined parts)
-
-times_refused : (one : List ℕ → ℕ → Outcome (List Item)) (Fitting : List Item → Type 0)
-    (R : Refusal) → IsSound Fitting R one → (n : ℕ) (body : List ℕ) (at : ℕ) (stop : Stop)
-    → AreBytes body → at ≤ length body → times_at one n body at ≡ Err stop
-    → Refused (Then (AreFewerParts Fitting n) R) body at stop
-times_refused one Fitting R ih zero body at stop fits h e = absurd (never ([], at) stop e)
-times_refused one Fitting R ih (suc n) body at stop fits h e =
-    elim
-    (bind_err (one body at)
-    (λ part. times_at one n body part.1 >>= λ parts. Ok (part.0 ++ parts.0, parts.1)) stop
-    e) [
-      | inl cut ↦ Refused-then (AreFewerParts Fitting (suc n)) R [] body at at stop
-          ([], tt, omega arith, refl) (Takes-nothing body at h) (ih.refuses body at stop fits h cut)
-      | inr p ↦
-          let first = ih.takes body at p.0.1 p.0.0 fits h p.1 in
-          elim
-          (bind_err (times_at one n body p.0.1) (λ parts. Ok (p.0.0 ++ parts.0, parts.1)) stop
-          p.2) [
-            | inl cut ↦
-                Refused-after (AreFewerParts Fitting n) (AreFewerParts Fitting (suc n)) R p.0.0 body
-                at p.0.1 stop first.1
-                (λ more f. (
-                  p.0.0 ∷ f.0,
-                  (first.0, f.1),
-                  omega (arith, f.2),
-                  ap (λ (m : List Item). p.0.0 ++ m) f.3,
-                ))
-                (times_refused one Fitting R ih n body p.0.1 stop fits first.1.within cut)
-            | inr q ↦ absurd (never (p.0.0 ++ q.0.0, q.0.1) stop q.2)
-          ]
-    ]
-
-counted_sound : (name : List ℕ) (max : ℕ) (s : Shape) → ShapeIsSound s
-    → ShapeIsSound (counted name max s)
-unfolding reading
-counted_sound name max s ih = record {
-  takes = λ body at to items fits h e.
-      let n =
-      bind_ok (word_at (is_at_most max) TooLong body at)
-      (λ n. times_at (reading s) n.0 body n.1 >>= λ parts.
-      Ok (Word name n.0 ∷ parts.0, parts.1)) (items, to) e in
-      let p =
-      bind_ok (times_at (reading s) n.0.0 body n.0.1)
-      (λ parts. Ok (Word name n.0.0 ∷ parts.0, parts.1)) (items, to) n.2 in
-      let w = at_most_takes max name body n.0.0 at n.0.1 fits n.1 in
-      let t =
-      times_take (reading s) (Fits s) (Refuses s) ih n.0.0 body n.0.1 p.0.1 p.0.0 fits w.3.within
-      p.1 in
-      along_ok (λ xs p. Fits (counted name max s) xs × Takes xs body at p) (Word name n.0.0 ∷ p.0.0)
-      items p.0.1 to (pair_is (Word name n.0.0 ∷ p.0.0) items p.0.1 to p.2) (
-        (
-          t.0.parts,
-          t.0.fit,
-          omega (arith, t.0.count, w.0),
-          ap (λ (k : ℕ). Word name k ∷ p.0.0) (sym t.0.count)
-              ∙ ap (λ (m : List Item). Word name (length t.0.parts) ∷ m) t.0.is,
-        ),
-        Takes-then (Word name n.0.0 ∷ []) p.0.0 body at n.0.1 p.0.1 w.3 t.1,
-      );
-  refuses = λ body at stop fits h e.
-      elim
-      (bind_err (word_at (is_at_most max) TooLong body at)
-      (λ n. times_at (reading s) n.0 body n.1 >>= λ parts.
-      Ok (Word name n.0 ∷ parts.0, parts.1)) stop e) [
-        | inl cut ↦ Refused-weaker (RefusesWord (is_at_most max) TooLong)
-            (Refuses (counted name max s)) body at stop (λ after r. inl r)
-            (word_refused (is_at_most max) TooLong body at stop fits h cut)
-        | inr n ↦
-            let w = at_most_takes max name body n.0.0 at n.0.1 fits n.1 in
-            elim
-            (bind_err (times_at (reading s) n.0.0 body n.0.1)
-            (λ parts. Ok (Word name n.0.0 ∷ parts.0, parts.1)) stop n.2) [
-              | inl cut ↦
-                  Refused-weaker
-                  (Then
-                  (λ items. (parts : List (List Item)) × AllByRecursion (Fits s) parts
-                  × (length parts < n.0.0) × (items ≡ Word name n.0.0 ∷ joined parts))
-                  (Refuses s))
-                  (Refuses (counted name max s)) body at stop (λ after r. inr (n.0.0, w.0, r))
-                  (Refused-after (AreFewerParts (Fits s) n.0.0)
-                  (λ items. (parts : List (List Item)) × AllByRecursion (Fits s) parts
-                  × (length parts < n.0.0) × (items ≡ Word name n.0.0 ∷ joined parts))
-                  (Refuses s) (Word name n.0.0 ∷ []) body at n.0.1 stop w.3
-                  (λ more f. (f.0, f.1, f.2, ap (λ (m : List Item). Word name n.0.0 ∷ m) f.3))
-                  (times_refused (reading s) (Fits s) (Refuses s) ih n.0.0 body n.0.1 stop fits
-                  w.3.within cut))
-              | inr p ↦ absurd (never (Word name n.0.0 ∷ p.0.0, p.0.1) stop p.2)
-            ]
-      ];
-}
-
 -- ---- windows
 
 window_of : (body : List ℕ) (at len : ℕ) → drop at (take (at + len) body) ≡ take len (drop at body)
@@ -884,5 +754,4 @@ sound (opaque kind name max) = opaque_sound kind name max
 sound nothing = nothing_sound
 sound (both a b) = both_sound a b (sound a) (sound b)
 sound (linked name s) = linked_sound name s (sound s)
-sound (counted name max s) = counted_sound name max s (sound s)
 sound (sized name s) = sized_sound name s (sound s)

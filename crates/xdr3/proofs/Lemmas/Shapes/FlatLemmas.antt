@@ -1,5 +1,5 @@
 -- Shapes with their parts in a row, whatever parts of parts they are.
-use Rattle.xdr3.proofs.Common.{◌≡◌, ℕ, List, [], ◌++◌, Ok, Err, refl, sym, ap, ◌∙◌, append_assoc, append-nil, GetError, Item, Outcome, ◌>>=◌, reading, Scans, Stops, Shape, both, choose, counted, fixed, hyper, linked, nothing, opaque, sized, write_verf, View}
+use Rattle.xdr3.proofs.Common.{◌≡◌, ℕ, List, [], ◌++◌, Ok, Err, refl, sym, ap, ◌∙◌, append_assoc, append-nil, GetError, Item, Outcome, ◌>>=◌, reading, Scans, Stops, Shape, both, choose, fixed, hyper, linked, nothing, opaque, sized, write_verf, View}
 
 -- the shape's parts, and then the rest
 abbrev pub flat_then : Shape → Shape → Shape
@@ -11,7 +11,6 @@ flat_then (fixed name) rest = both (fixed name) rest
 flat_then (write_verf name) rest = both (write_verf name) rest
 flat_then (opaque kind name max) rest = both (opaque kind name max) rest
 flat_then (linked name shape) rest = both (linked name shape) rest
-flat_then (counted name max shape) rest = both (counted name max shape) rest
 flat_then (sized name shape) rest = both (sized name shape) rest
 
 -- the shape's parts in a row
@@ -72,7 +71,6 @@ flat_then_reads (fixed name) rest body at = refl
 flat_then_reads (write_verf name) rest body at = refl
 flat_then_reads (opaque kind name max) rest body at = refl
 flat_then_reads (linked name shape) rest body at = refl
-flat_then_reads (counted name max shape) rest body at = refl
 flat_then_reads (sized name shape) rest body at = refl
 
 pub flat_reads : (shape : Shape) (body : List ℕ) (at : ℕ)

@@ -1,7 +1,8 @@
 -- Wholes by their parts.
-use Rattle.std.proofs.Common.{◌≡◌, ℕ, zero, suc, ◌+◌, Bool, List, [], ◌∷◌, ◌++◌, length, refl, sym, ap, subst, ◌∙◌, append_assoc, append-nil, arith, inl, inr}
-use Rattle.xdr3.proofs.Common.{AllByRecursion, length-append, big_bytes, length-bytes_high_first, Reason, Kind, Item, Word, Hyper, Fixed, WriteVerf, Opaque, Spells, word_bytes, residue, zero_spelling, Layout, Shape, choose, fixed, write_verf, both, linked, counted, sized, links, joined, Fits, Reads, Refusal, IsShort, ThenWord, RefusesWindow, Refuses}
-use Rattle.xdr3.specs.Parts.{BeginsWith, AfterByParts, ReadsTimes, ChooseByParts, HyperByParts, EightByParts, OpaqueByParts, NothingByParts, BothByParts, LinkedByParts, CountedByParts, SizedByParts}
+use Rattle.std.proofs.Common.{◌≡◌, ℕ, zero, suc, ◌+◌, ◌-◌, ◌<◌, ◌≤◌, Bool, List, [], ◌∷◌, ◌++◌, length, refl, sym, ap, subst, ◌∙◌, append_assoc, append-nil, arith, inl, inr}
+use Rattle.xdr3.proofs.Common.{length-append, big_bytes, length-bytes_high_first, Reason, Kind, Item, Word, Hyper, Fixed, WriteVerf, Opaque, Spells, word_bytes, residue, zero_spelling, Layout, Shape, choose, fixed, write_verf, both, linked, array_named, is_at_most, sized, repeated, TooLong, links, Fits, Reads, Refusal, IsShort, ThenWord, RefusesWindow, Refuses}
+use Rattle.std.proofs.lemmas.Bool.{le-leb}
+use Rattle.xdr3.specs.Parts.{BeginsWith, AfterByParts, IsPlaceIn, ReadsTimes, ChooseByParts, HyperByParts, EightByParts, OpaqueByParts, NothingByParts, BothByParts, LinkedByParts, CountedByParts, SizedByParts}
 use Rattle.xdr3.proofs.Lemmas.Reading.Items.{Spells-append, Spells-one, length_of_spelling}
 
 -- ---- fronts
@@ -207,83 +208,69 @@ linked_by_parts name shape = record {
       );
 }
 
--- parts that were read one after the other
-record AreRead (shape : Shape) (n : ℕ) (bytes : List ℕ) (items : List Item) (left : List ℕ) : Type
-    0 where
-  parts : List (List Item)
-  fit : AllByRecursion (Fits shape) parts
-  count : length parts ≡ n
-  is : items ≡ joined parts
-  front : List ℕ
-  spells : Spells items front
-  whole : bytes ≡ front ++ left
+-- ---- counted arrays
 
-are_read : (shape : Shape) (n : ℕ) (bytes : List ℕ) (items : List Item) (left : List ℕ)
-    → ReadsTimes shape n bytes items left → AreRead shape n bytes items left
-are_read shape zero bytes items left r =
+times_read : (shape : Shape) (n : ℕ) (bytes : List ℕ) (items : List Item) (left : List ℕ)
+    → ReadsTimes shape n bytes items left → Reads (repeated n shape) bytes items left
+times_read shape zero bytes items left r =
     record {
-      parts = [];
-      fit = tt;
-      count = refl;
-      is = r.0;
       front = [];
+      fits = r.0;
       spells = subst (λ (xs : List Item). Spells xs []) (sym r.0) refl;
       whole = sym r.1;
     }
-are_read shape (suc n) bytes items left r =
-    let t = are_read shape n r.2 r.1 left r.4 in
-    record {
-      parts = r.0 ∷ t.parts;
-      fit = (r.3.fits, t.fit);
-      count = ap suc t.count;
-      is = r.5 ∙ ap (λ (xs : List Item). r.0 ++ xs) t.is;
-      front = r.3.front ++ t.front;
-      spells =
-          subst (λ (xs : List Item). Spells xs (r.3.front ++ t.front)) (sym r.5)
-          (Spells-append r.0 r.1 r.3.front t.front r.3.spells t.spells);
-      whole =
-          r.3.whole ∙ ap (λ (l : List ℕ). r.3.front ++ l) t.whole
-          ∙ sym (append_assoc r.3.front t.front left);
-    }
+times_read shape (suc n) bytes items left r =
+    let by_parts = both_by_parts shape (repeated n shape) in
+    let rest = times_read shape n r.2 r.1 left r.4 in
+    subst (λ (xs : List Item). Reads (repeated (suc n) shape) bytes xs left) (sym r.5)
+    (by_parts.reads bytes r.2 left r.0 r.1 r.3 rest)
+
+-- what parts leave is no longer
+times_leave : (shape : Shape) (n : ℕ) (bytes : List ℕ) (items : List Item) (left : List ℕ)
+    → ReadsTimes shape n bytes items left → length left ≤ length bytes
+times_leave shape n bytes items left r =
+    let all = times_read shape n bytes items left r in
+    omega (arith, ap length all.whole, length-append all.front left)
+
+times_refuse : (shape : Shape) (n k : ℕ) (bytes more : List ℕ) (items : List Item)
+    (at further : ℕ) (reason : Reason) → k < n → ReadsTimes shape k bytes items more
+    → Refuses shape more further reason → IsPlaceIn bytes more at further
+    → Refuses (repeated n shape) bytes at reason
+times_refuse shape zero k bytes more items at further reason h r s p = absurd (omega arith)
+times_refuse shape (suc n) zero bytes more items at further reason h r s p =
+    let here : more ≡ bytes = r.1 in
+    let place : further ≡ at = omega (arith, p, ap length here) in
+    (both_by_parts shape (repeated n shape)).refuses_first bytes at reason
+    (subst (λ (i : ℕ). Refuses shape bytes i reason) place
+    (subst (λ (l : List ℕ). Refuses shape l further reason) here s))
+times_refuse shape (suc n) (suc k) bytes more items at further reason h r s p =
+    let short = times_leave shape k r.2 r.1 more r.4 in
+    let later = length r.2 - length more + further in
+    let inner : IsPlaceIn r.2 more later further = omega (arith, short) in
+    (both_by_parts shape (repeated n shape)).refuses_second bytes r.2 r.0 at later reason r.3
+    (times_refuse shape n k r.2 more r.1 later further reason (omega arith) r.4 s inner)
+    (omega (arith, p, short))
 
 pub counted_by_parts : (name : List ℕ) (max : ℕ) (shape : Shape) → CountedByParts name max shape
-counted_by_parts name max shape = record {
-  reads = λ n bytes first left items b m r.
-      let t = are_read shape n first items left r in
-      let is : Word name n ∷ items ≡ Word name (length t.parts) ∷ joined t.parts =
-      ap (λ (k : ℕ). Word name k ∷ items) (sym t.count)
-      ∙ ap (λ (xs : List Item). Word name (length t.parts) ∷ xs) t.is in
-      after_word (counted name max shape) name n bytes first left t.front items b
-      (t.parts, t.fit, omega (arith, t.count), is) t.spells t.whole;
-  refuses_count = λ bytes at reason r. inl r;
-  refuses_part = λ n k bytes first more items at further reason b m h r s p.
-      let t = are_read shape k first items more r in
-      inr (
-        n,
-        m,
-        (
-          Word name n ∷ items,
-          word_bytes n ++ t.front,
-          more,
-          further,
-          (t.parts, t.fit, omega (arith, t.count), ap (λ (xs : List Item). Word name n ∷ xs) t.is),
-          Spells-append (Word name n ∷ []) items (word_bytes n) t.front
-              (word_spelled name n bytes first b) t.spells,
-          b.is ∙ ap (λ (l : List ℕ). word_bytes n ++ l) t.whole
-              ∙ sym (append_assoc (word_bytes n) t.front more),
-          s,
-          omega (
-            arith,
-            p,
-            ap length b.is,
-            ap length t.whole,
-            length-append (word_bytes n) first,
-            length-append t.front more,
-            length-append (word_bytes n) t.front,
-          ),
-        ),
-      );
-}
+unfolding array_named
+counted_by_parts name max shape =
+    let by_parts = choose_by_parts name (is_at_most max) TooLong (λ n. repeated n shape) in
+    record {
+      reads = λ n bytes first left items b m r.
+          by_parts.reads n bytes first left items b (le-leb n max m)
+          (times_read shape n first items left r);
+      refuses_count = by_parts.refuses_word;
+      refuses_part = λ n k bytes first more items at further reason b m h r s p.
+          let short = times_leave shape k first items more r in
+          let inner = length first - length more + further in
+          let size : length bytes ≡ 4 + length first =
+          omega (arith, ap length b.is, length-append (word_bytes n) first, len4 n) in
+          let place : 4 + inner ≡ at = omega (arith, p, short, size) in
+          subst (λ (i : ℕ). Refuses (array_named name max shape) bytes i reason) place
+          (by_parts.refuses_next n bytes first inner reason b (le-leb n max m)
+          (times_refuse shape n k first more items inner further reason h r s
+          (omega (arith, short))));
+    }
 
 pub sized_by_parts : (name : List ℕ) (shape : Shape) → SizedByParts name shape
 sized_by_parts name shape = record {

@@ -1,5 +1,5 @@
 -- What is so of each part of a shape.
-use Rattle.xdr3.proofs.Common.{ℕ, Bool, true, false, List, Reason, BadBool, TooLong, Kind, Layout, exactly, remaining, after, Shape, choose, hyper, fixed, write_verf, opaque, nothing, both, linked, counted, sized}
+use Rattle.xdr3.proofs.Common.{ℕ, zero, suc, Bool, true, false, List, Reason, BadBool, TooLong, Kind, Layout, exactly, remaining, after, Shape, choose, hyper, fixed, write_verf, opaque, nothing, both, linked, array_named, sized, repeated}
 use Rattle.std.specs.Prelude.{⊤, if◌then◌else◌}
 
 -- what stands for one item of a value, under its name
@@ -23,7 +23,6 @@ module _ (P : Part → Type 0) where
   HasParts nothing = ⊤
   HasParts (both a b) = HasParts a × HasParts b
   HasParts (linked name s) = P (word_part name BadBool) × HasParts s
-  HasParts (counted name max s) = P (word_part name TooLong) × HasParts s
   HasParts (sized name s) = P (size_part name s) × HasParts s
 
   -- a layout that is one shape or a rest, as each row of the table of procedures is
@@ -31,6 +30,15 @@ module _ (P : Part → Type 0) where
   RowHasParts (exactly shape) = HasParts shape
   RowHasParts (remaining name) = P (rest_part name)
   RowHasParts (after shape next) = ⊥
+
+  pub times_have_parts : (n : ℕ) (s : Shape) → HasParts s → HasParts (repeated n s)
+  times_have_parts zero s h = tt
+  times_have_parts (suc n) s h = (h, times_have_parts n s h)
+
+  pub counted_has_parts : (name : List ℕ) (max : ℕ) (s : Shape) → P (word_part name TooLong)
+      → HasParts s → HasParts (array_named name max s)
+  unfolding array_named
+  counted_has_parts name max s h k = (h, λ n. times_have_parts n s k)
 
   pub parts_if : (b : Bool) (s t : Shape) → HasParts s → HasParts t → HasParts (if b then s else t)
   parts_if true s t h k = h
@@ -52,7 +60,6 @@ module _ (P Q : Part → Type 0) (weaker : (part : Part) → P part → Q part) 
   parts_weaker nothing h = tt
   parts_weaker (both a b) h = (parts_weaker a h.0, parts_weaker b h.1)
   parts_weaker (linked name s) h = (weaker (word_part name BadBool) h.0, parts_weaker s h.1)
-  parts_weaker (counted name max s) h = (weaker (word_part name TooLong) h.0, parts_weaker s h.1)
   parts_weaker (sized name s) h = (weaker (size_part name s) h.0, parts_weaker s h.1)
 
   pub row_weaker : (layout : Layout) → RowHasParts P layout → RowHasParts Q layout

@@ -1,4 +1,6 @@
-use Rattle.rpc_head.proofs.Common.{IfErr, OnOk, ◌≤◌, ◌<◌, ℕ, subst, GetError, Scans, Stops, called, group_words}
+use Rattle.rpc_head.proofs.Common.{IfErr, OnOk, ◌≤◌, ◌<◌, ℕ, subst, GetError, Scans, Stops, called}
+use Rattle.xdr3.specs.Named.{word}
+use Rattle.xdr3.specs.Shape.{repeated}
 use Rattle.rpc_head.proofs.OwnerLemmas.{count_refused, owner_scanned, owner_short, owner_stopped}
 use Rattle.rpc_head.proofs.scans.credential.scan_owner.Goals as goal
 
@@ -23,7 +25,7 @@ returns-clause-ok g c =
     c.in_ok-plain.ensures.ok
     (subst
     (λ (n : ℕ).
-    OnOk c.scan_groups.result (Scans g.V.Visit.stands (group_words n)
+    OnOk c.scan_groups.result (Scans g.V.Visit.stands (repeated n (word "group"))
     (c.run.new.self, c.plain.new.self)
     (c.scan_groups.new.input, c.scan_groups.new.visitor)))
     c.word_in-count.ensures c.scan_groups.ensures.ok)
@@ -36,5 +38,5 @@ returns-clause-err g c =
     (subst
     (λ (n : ℕ).
     IfErr c.scan_groups.result
-    (λ (error : GetError). Stops (group_words n) c.run.new.self error))
+    (λ (error : GetError). Stops (repeated n (word "group")) c.run.new.self error))
     c.word_in-count.ensures c.scan_groups.ensures.err)

@@ -3,6 +3,7 @@ use Rattle.rpc_head.proofs.Common.{flat_map, Word, reading, word, count_items, g
 use Rattle.std.proofs.lemmas.List.{length-set, length-take, take_more_set}
 use Rattle.std.proofs.lemmas.Result.{err_from_is_err_and}
 use Rattle.xdr3.proofs.Lemmas.Reading.Counted.{times_start, times_more, times_stop, times_done}
+use Rattle.xdr3.specs.Shape.{array_named}
 use Rattle.rpc_head.proofs.values.credential.Gids.get.Goals as goal
 
 pub loop-i-init : goal.loop-i-init
@@ -44,7 +45,7 @@ loop-i-preserved c =
     }
 
 pub returns-in_err-count-clause-read : goal.returns-in_err-count-clause-read
-unfolding reading gids
+unfolding reading gids array_named
 returns-in_err-count-clause-read c = search rules
 
 pub returns-in_err-word-clause-read : goal.returns-in_err-word-clause-read
