@@ -1,10 +1,9 @@
 pub mod Exactly
 pub mod ExtensionHeaders
+pub mod Files
 pub mod IpLemmas
 pub mod Ipv6Reasons
 pub mod LinkLemmas
-pub mod PcapLemmas
-pub mod PcapngLemmas
 pub mod ReasonsLemmas
 pub mod SegmentsLemmas
 pub mod TcpLemmas

@@ -1,9 +1,14 @@
+pub mod Clocks
+pub mod Frames
 pub mod Ip
 pub mod Link
 pub mod Octets
+pub mod Outcomes
 pub mod Pcap
 pub mod Pcapng
+pub mod Places
 pub mod Reasons
 pub mod Segments
 pub mod Tcp
 pub mod Tunnels
+pub mod machinery

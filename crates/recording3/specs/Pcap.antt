@@ -3,22 +3,29 @@ use Rattle.std.specs.Prelude.{◌≡◌, ℕ, ◌+◌, ◌*◌, ◌%◌, ◌<◌
 use Rattle.byteorder.specs.Endian.{little_number}
 use Rattle.recording3.specs.Octets.{octets}
 use Rattle.recording3.specs.Reasons.{When, Never}
+use Rattle.recording3.specs.declared.contents.Ending.{Ending}
+use Rattle.recording3.specs.declared.contents.Ending.TheVariants as endings
+use Rattle.recording3.specs.declared.contents.Frame.{Frame}
 use Rattle.recording3.specs.declared.pcap.Form.{Form}
-use Rattle.recording3.specs.declared.pcap.Frame.{Frame}
 use Rattle.recording3.specs.declared.pcap.Header.{Header}
 use Rattle.recording3.specs.declared.pcap.Order.{Order}
 use Rattle.recording3.specs.declared.pcap.Order.TheVariants.{Big, Little}
 use Rattle.recording3.specs.declared.pcap.Unit as units
 use Rattle.recording3.specs.declared.pcap.Unit.TheVariants.{Microseconds, Nanoseconds}
-use Rattle.recording3.specs.declared.pcap.NoFrame.{NoFrame}
-use Rattle.recording3.specs.declared.pcap.NoFrame.TheVariants as frames
-use Rattle.recording3.specs.declared.pcap.NoHeader.{NoHeader}
-use Rattle.recording3.specs.declared.pcap.NoHeader.TheVariants as headers
 
 -- a number of 32 bits, in the byte order of the machine that recorded (section 4 of the draft)
 unfoldable pub file_word : Order → List ℕ → ℕ → ℕ
 file_word Big file at = octets file at 4
 file_word Little file at = little_number 4 (drop at file)
+
+-- numbers of 16 and of 64 bits
+unfoldable pub file_half : Order → List ℕ → ℕ → ℕ
+file_half Big bytes at = octets bytes at 2
+file_half Little bytes at = little_number 2 (drop at bytes)
+
+unfoldable pub file_long : Order → List ℕ → ℕ → ℕ
+file_long Big bytes at = octets bytes at 8
+file_long Little bytes at = little_number 8 (drop at bytes)
 
 -- the Magic Number, 0xa1b2c3d4 or 0xa1b23c4d, and the same with its lowest octet first
 abbrev pub pcap_magic : Order → units.Unit → ℕ
@@ -35,11 +42,12 @@ pub record IsFileHeader (file : List ℕ) (h : Header) : Type 0 where
   pub link_type : h.link ≡ file_word h.form.order file 20 % 65536
 
 -- why it has none: the first of these reasons
-abbrev pub LacksFileHeader : List ℕ → NoHeader → Type 0
+abbrev pub LacksFileHeader : List ℕ → Ending → Type 0
 LacksFileHeader file =
-    When (length file < 4) headers.NotPcap
-    (When ((form : Form) → octets file 0 4 ≡ pcap_magic form.order form.unit → ⊥) headers.NotPcap
-    (When (length file < 24) headers.Cut
+    When (length file < 4) endings.Cut
+    (When ((form : Form) → octets file 0 4 ≡ pcap_magic form.order form.unit → ⊥)
+    endings.NotRecording
+    (When (length file < 24) endings.Cut
     Never))
 
 -- how many nanoseconds the second word of a Timestamp counts (section 4 of the draft)
@@ -59,6 +67,7 @@ captured h file at = file_word h.form.order file (at + 8)
 -- nanoseconds, Captured Packet Length, Original Packet Length, Packet Data.
 pub record IsFrame (h : Header) (file : List ℕ) (at : ℕ) (frame : Frame) : Type 0 where
   pub whole : at + 16 ≤ length file
+  pub link : frame.link ≡ h.link
   pub begin : frame.begin ≡ at + 16
   pub end : frame.end ≡ at + 16 + captured h file at
   pub recorded : at + 16 + captured h file at ≤ length file
@@ -69,10 +78,10 @@ pub record IsFrame (h : Header) (file : List ℕ) (at : ℕ) (frame : Frame) : T
   pub wire : frame.wire ≡ max (file_word h.form.order file (at + 12)) (captured h file at)
 
 -- why none begins there: the first of these reasons
-abbrev pub LacksFrame : Header → List ℕ → ℕ → NoFrame → Type 0
+abbrev pub LacksFrame : Header → List ℕ → ℕ → Ending → Type 0
 LacksFrame h file at =
-    When (length file ≤ at) frames.End
-    (When (length file < at + 16) frames.Cut
-    (When (longest_frame < captured h file at) frames.TooLong
-    (When (length file < at + 16 + captured h file at) frames.Cut
+    When (length file ≤ at) endings.End
+    (When (length file < at + 16) endings.Cut
+    (When (longest_frame < captured h file at) endings.TooLong
+    (When (length file < at + 16 + captured h file at) endings.Cut
     Never)))

@@ -2,16 +2,15 @@
 
 ghost use Rattle.std.specs.Prelude.{◌≡◌, ◌↔◌, ◌≤◌, ◌<◌, ◌+◌, ◌*◌, ◌^◌, length, IfOk, IfErr, MatchOption, Ok, Err};
 ghost use Rattle.recording3.specs.Octets.{octets};
-ghost use Rattle.recording3.specs.Pcap.{IsFrame, IsFileHeader, LacksFrame, LacksFileHeader, pcap_magic, nanoseconds, file_word};
+ghost use Rattle.recording3.specs.Pcap.{IsFrame, IsFileHeader, LacksFrame, LacksFileHeader, pcap_magic, nanoseconds, file_half, file_long, file_word};
+ghost use Rattle.recording3.specs.declared.contents.Ending.{Ending};
+ghost use Rattle.recording3.specs.declared.contents.Frame.{Frame};
 ghost use Rattle.recording3.specs.declared.pcap.Form.{Form};
-ghost use Rattle.recording3.specs.declared.pcap.Frame.{Frame};
 ghost use Rattle.recording3.specs.declared.pcap.Header.{Header};
-ghost use Rattle.recording3.specs.declared.pcap.NoFrame.{NoFrame};
-ghost use Rattle.recording3.specs.declared.pcap.NoHeader.{NoHeader};
 
-use crate::octets::four;
-use byteorder::{ByteOrder, LittleEndian};
-use thiserror::Error;
+use crate::contents::{Ending, Frame};
+use crate::octets::{four, two};
+use byteorder::{BigEndian, ByteOrder, LittleEndian};
 
 /// The most octets of a frame that are read: 16 MiB, a limit of this project.
 pub const LONGEST: u32 = 16_777_216;
@@ -52,70 +51,32 @@ pub struct Header {
     pub link: u32,
 }
 
-/// A frame of a recording (section 5 of the draft). The next one begins at `end`.
-#[derive(Clone, Copy, Debug, PartialEq, Eq)]
-pub struct Frame {
-    /// When it was recorded, in nanoseconds since 1970.
-    pub time: u64,
-    /// How many octets it had on the wire, no fewer than were recorded.
-    pub wire: u32,
-    /// Where in the file the recorded octets begin.
-    pub begin: usize,
-    /// Where they end.
-    pub end: usize,
-}
-
-/// Why a file is no recording.
-#[derive(Clone, Copy, Debug, PartialEq, Eq, Error)]
-pub enum NoHeader {
-    /// It does not begin with a Magic Number of pcap.
-    #[error("no recording in the format pcap")]
-    NotPcap,
-    /// Its header is cut short.
-    #[error("the header is cut short")]
-    Cut,
-}
-
-/// Why no frame begins at a place.
-#[derive(Clone, Copy, Debug, PartialEq, Eq, Error)]
-pub enum NoFrame {
-    /// The file ends there.
-    #[error("the end")]
-    End,
-    /// The file ends inside a frame.
-    #[error("a frame is cut short")]
-    Cut,
-    /// The header claims more octets than `LONGEST`.
-    #[error("a frame is too long")]
-    TooLong,
-}
-
 /// Reads the header at the front of a file's bytes (section 4 of the draft). Its versions and its
 /// SnapLen are passed over.
-pub fn read_header(file: &[u8]) -> Result<Header, NoHeader>
+pub fn read_header(file: &[u8]) -> Result<Header, Ending>
     ensures ok { IfOk result (IsFileHeader file.now) }
     ensures err { IfErr result (LacksFileHeader file.now) }
 
     // It is returned exactly if it is there, and a reason exactly if it is the first.
     ensures exactly { (h : Header) → (result ≡ Ok h) ↔ IsFileHeader file.now h }
-    ensures why { (reason : NoHeader) → (result ≡ Err reason) ↔ LacksFileHeader file.now reason }
+    ensures why { (reason : Ending) → (result ≡ Err reason) ↔ LacksFileHeader file.now reason }
 {
     header_of(file)
 }
 
 /// Does the same.
-pub(crate) fn header_of(file: &[u8]) -> Result<Header, NoHeader>
+pub(crate) fn header_of(file: &[u8]) -> Result<Header, Ending>
     ensures ok { IfOk result (IsFileHeader file.now) }
     ensures err { IfErr result (LacksFileHeader file.now) }
 {
     if file.len() < 4 {
-        return Err(NoHeader::NotPcap);
+        return Err(Ending::Cut);
     }
     let Some(form) = form_of(four(file, 0)) else {
-        return Err(NoHeader::NotPcap);
+        return Err(Ending::NotRecording);
     };
     if file.len() < 24 {
-        return Err(NoHeader::Cut);
+        return Err(Ending::Cut);
     }
     Ok(Header {
         form,
@@ -140,14 +101,14 @@ fn form_of(number: u32) -> Option<Form>
 
 /// Reads the frame that begins at a place of the file's bytes (section 5 of the draft).
 #[inline(always)]
-pub fn read_frame(header: &Header, file: &[u8], at: usize) -> Result<Frame, NoFrame>
+pub fn read_frame(header: &Header, file: &[u8], at: usize) -> Result<Frame, Ending>
     requires { at ≤ length file.now }
     ensures ok { IfOk result (IsFrame header.now file.now at) }
     ensures err { IfErr result (LacksFrame header.now file.now at) }
 
     // It is returned exactly if it is there, and a reason exactly if it is the first.
     ensures exactly { (f : Frame) → (result ≡ Ok f) ↔ IsFrame header.now file.now at f }
-    ensures why { (reason : NoFrame) → (result ≡ Err reason)
+    ensures why { (reason : Ending) → (result ≡ Err reason)
         ↔ LacksFrame header.now file.now at reason }
 {
     frame_at(header, file, at)
@@ -155,25 +116,25 @@ pub fn read_frame(header: &Header, file: &[u8], at: usize) -> Result<Frame, NoFr
 
 /// Does the same.
 #[inline(always)]
-pub(crate) fn frame_at(header: &Header, file: &[u8], at: usize) -> Result<Frame, NoFrame>
+pub(crate) fn frame_at(header: &Header, file: &[u8], at: usize) -> Result<Frame, Ending>
     requires { at ≤ length file.now }
     ensures ok { IfOk result (IsFrame header.now file.now at) }
     ensures err { IfErr result (LacksFrame header.now file.now at) }
 {
     let there = file.len() - at;
     if there == 0 {
-        return Err(NoFrame::End);
+        return Err(Ending::End);
     }
     if there < 16 {
-        return Err(NoFrame::Cut);
+        return Err(Ending::Cut);
     }
     let order = header.form.order;
     let captured = file_word(order, file, at + 8);
     if captured > LONGEST {
-        return Err(NoFrame::TooLong);
+        return Err(Ending::TooLong);
     }
     if there - 16 < captured as usize {
-        return Err(NoFrame::Cut);
+        return Err(Ending::Cut);
     }
     Ok(Frame {
         time: time_of(
@@ -181,6 +142,7 @@ pub(crate) fn frame_at(header: &Header, file: &[u8], at: usize) -> Result<Frame,
             file_word(order, file, at),
             file_word(order, file, at + 4),
         ),
+        link: header.link,
         wire: file_word(order, file, at + 12).max(captured),
         begin: at + 16,
         end: at + 16 + captured as usize,
@@ -209,5 +171,31 @@ pub(crate) fn file_word(order: Order, file: &[u8], at: usize) -> u32
     match order {
         Order::Big => four(file, at),
         Order::Little => LittleEndian::read_u32(&file[at..at + 4]),
+    }
+}
+
+/// Returns the number in the two octets from a place on, in a byte order.
+#[inline(always)]
+#[tactic(auto, unfolding(crate::specs::Pcap::file_half, crate::specs::Octets::octets))]
+pub(crate) fn file_half(order: Order, bytes: &[u8], at: usize) -> u16
+    requires { at + 2 ≤ length bytes.now }
+    ensures { result ≡ file_half order bytes.now at }
+{
+    match order {
+        Order::Big => two(bytes, at),
+        Order::Little => LittleEndian::read_u16(&bytes[at..at + 2]),
+    }
+}
+
+/// Returns the number in the eight octets from a place on, in a byte order.
+#[inline(always)]
+#[tactic(auto, unfolding(crate::specs::Pcap::file_long, crate::specs::Octets::octets))]
+pub(crate) fn file_long(order: Order, bytes: &[u8], at: usize) -> u64
+    requires { at + 8 ≤ length bytes.now }
+    ensures { result ≡ file_long order bytes.now at }
+{
+    match order {
+        Order::Big => BigEndian::read_u64(&bytes[at..at + 8]),
+        Order::Little => LittleEndian::read_u64(&bytes[at..at + 8]),
     }
 }

@@ -14,8 +14,12 @@ mod masks;
 #[cfg(test)]
 mod messages;
 #[cfg(test)]
+mod payloads;
+#[cfg(test)]
 mod programs;
 #[cfg(test)]
 mod recordings;
 #[cfg(test)]
 mod samples;
+#[cfg(test)]
+mod streams;

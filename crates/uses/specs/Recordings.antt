@@ -3,7 +3,7 @@ use Rattle.std.specs.Prelude.{ℕ, ◌-◌, List, drop, take}
 use Rattle.recording3.specs.Pcap.{IsFileHeader, IsFrame}
 use Rattle.recording3.specs.Segments.{IsSegment}
 use Rattle.recording3.specs.declared.parts.Segment.{Segment}
-use Rattle.recording3.specs.declared.pcap.Frame.{Frame}
+use Rattle.recording3.specs.declared.contents.Frame.{Frame}
 use Rattle.recording3.specs.declared.pcap.Header.{Header}
 
 -- the recorded octets of a frame

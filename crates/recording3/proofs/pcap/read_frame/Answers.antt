@@ -1,5 +1,5 @@
 use Rattle.recording3.proofs.Exactly.{exactly_ok, exactly_err}
-use Rattle.recording3.proofs.PcapLemmas.{same_frame, one_frame, some_frame}
+use Rattle.recording3.proofs.Files.PcapLemmas.{same_frame, one_frame, some_frame}
 use Rattle.recording3.specs.Pcap.{IsFrame, LacksFrame}
 use Rattle.recording3.proofs.pcap.read_frame.Goals as goal
 

@@ -1,5 +1,5 @@
 use Rattle.recording3.proofs.Exactly.{exactly_ok, exactly_err}
-use Rattle.recording3.proofs.PcapLemmas.{same_header, one_header, some_header}
+use Rattle.recording3.proofs.Files.PcapLemmas.{same_header, one_header, some_header}
 use Rattle.recording3.specs.Pcap.{IsFileHeader, LacksFileHeader}
 use Rattle.recording3.proofs.pcap.read_header.Goals as goal
 

@@ -1,7 +1,7 @@
 use Rattle.std.proofs.Common.{◌≡◌, subst}
 use Rattle.recording3.specs.Pcap.{IsFrame}
 use Rattle.recording3.specs.Segments.{IsSegment}
-use Rattle.recording3.specs.declared.pcap.Frame.{Frame}
+use Rattle.recording3.specs.declared.contents.Frame.{Frame}
 use Rattle.recording3.specs.declared.pcap.Header.{Header}
 use Rattle.uses.specs.Recordings.{recorded_octets}
 use Rattle.uses.proofs.recordings.first_segment.Goals as goal

@@ -2,26 +2,26 @@
 use Rattle.std.proofs.Common.{◌≡◌, ℕ, refl, List, arith}
 use Rattle.recording3.specs.Octets.{octets}
 use Rattle.recording3.specs.Pcap.{IsFrame, IsFileHeader, LacksFrame, LacksFileHeader, pcap_magic}
-use Rattle.recording3.specs.declared.pcap.Frame.{Frame}
+use Rattle.recording3.specs.declared.contents.Ending.{Ending}
+use Rattle.recording3.specs.declared.contents.Frame.{Frame}
 use Rattle.recording3.specs.declared.pcap.Header.{Header}
 use Rattle.recording3.specs.declared.pcap.Order.{Order}
 use Rattle.recording3.specs.declared.pcap.Order.TheVariants.{Big, Little}
 use Rattle.recording3.specs.declared.pcap.Unit as units
 use Rattle.recording3.specs.declared.pcap.Unit.TheVariants.{Microseconds, Nanoseconds}
-use Rattle.recording3.specs.declared.pcap.NoFrame.{NoFrame}
-use Rattle.recording3.specs.declared.pcap.NoHeader.{NoHeader}
 use Rattle.recording3.proofs.ReasonsLemmas.{IsOne, one, one_never, none, none_never}
 
 pub same_frame : (h : Header) (file : List ℕ) (at : ℕ) (f g : Frame) → IsFrame h file at f
     → IsFrame h file at g → f ≡ g
 same_frame h file at f g a b =
-    let q : ◌≡◌ {A = Frame} (record { time = f.time; wire = f.wire; begin = f.begin; end = f.end })
-    (record { time = g.time; wire = g.wire; begin = g.begin; end = g.end }) = cc in q
+    let q : ◌≡◌ {A = Frame}
+    (record { time = f.time; link = f.link; wire = f.wire; begin = f.begin; end = f.end })
+    (record { time = g.time; link = g.link; wire = g.wire; begin = g.begin; end = g.end }) = cc in q
 
 pub one_frame : (h : Header) (file : List ℕ) (at : ℕ) → IsOne (LacksFrame h file at)
 one_frame h file at = one _ _ _ (one _ _ _ (one _ _ _ (one _ _ _ one_never)))
 
-pub some_frame : (h : Header) (file : List ℕ) (at : ℕ) (f : Frame) (why : NoFrame)
+pub some_frame : (h : Header) (file : List ℕ) (at : ℕ) (f : Frame) (why : Ending)
     → IsFrame h file at f → LacksFrame h file at why → ⊥
 some_frame h file at f why a =
     none _ _ _ (λ n. omega arith) (none _ _ _ (λ n. omega arith) (none _ _ _ (λ n. omega arith)
@@ -58,7 +58,7 @@ same_header file a b h g =
 pub one_header : (file : List ℕ) → IsOne (LacksFileHeader file)
 one_header file = one _ _ _ (one _ _ _ (one _ _ _ one_never))
 
-pub some_header : (file : List ℕ) (a : Header) (why : NoHeader) → IsFileHeader file a
+pub some_header : (file : List ℕ) (a : Header) (why : Ending) → IsFileHeader file a
     → LacksFileHeader file why → ⊥
 some_header file a why h =
     none _ _ _ (λ n. omega arith)

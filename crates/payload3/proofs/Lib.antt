@@ -1,0 +1,3 @@
+-- Proofs on the bytes of a stream.
+pub mod PartsLemmas
+pub mod RecordedLemmas

@@ -1,0 +1,16 @@
+use Rattle.payload3.proofs.PartsLemmas.{nothing_left}
+use Rattle.payload3.specs.Standing.{payload_left}
+use Rattle.payload3.proofs.payload.Payload.gives.Goals as goal
+
+pub returns : goal.returns
+returns g c =
+    rw (← c.self.view_is)
+    (λ file allows.
+    let inside = c.self.inside in
+    record {
+      left = payload_left file inside.runs.now inside.part;
+      first = c.self.invariant.first file allows;
+      all = λ spent.
+          let end = c.self.invariant.spent spent in
+          nothing_left file inside.runs.now inside.part end.0 end.1;
+    })

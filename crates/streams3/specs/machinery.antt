@@ -1,0 +1,6 @@
+-- What clauses inside the crate and proofs name, and no reader of a public clause has to believe.
+pub mod Log
+pub mod Marks
+pub mod Repeating
+pub mod Parting
+pub mod FirstByte
