@@ -43,7 +43,7 @@ tree:
 	  ln -s nfs3canon.fish "$(TREE)/share/fish/vendor_completions.d/$$name.fish"
 	done
 	for name in writing recordings; do put "dev/$$name.sh" "libexec/nfs3canon/$$name.sh"; done
-	find tools/nfs3tools -name '*.py' | while read -r file; do put "$$file" "share/nfs3canon/$$file"; done
+	find tools/nfs3tools -name '*.py' -o -name '*.css' -o -name '*.js' | while read -r file; do put "$$file" "share/nfs3canon/$$file"; done
 	for file in CHANGELOG.md LICENSE-* docs/schemas/*.json; do put "$$file" "share/nfs3canon/$$file"; done
 
 install: tree

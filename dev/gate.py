@@ -206,12 +206,13 @@ def taken_back(top: Path) -> None:
 
 def together(is_anew: bool, count: Count) -> None:
     """Proves, and beside it tries the edits and the crate of tests, and tests the programs."""
-    board, memory, is_beside = Board(), Memory(), not everything.why_not_shipped()
+    board, memory, why_not = Board(), Memory(), everything.why_not_shipped()
+    print(why_not, end='', flush=True)
     with tempfile.TemporaryDirectory(prefix='nfs3canon-gate') as room, \
             ThreadPoolExecutor(1) as beside, \
             ThreadPoolExecutor(kit.processors(), initializer=os.nice, initargs=(10,)) as pool:
         top = copied(Path(room))
-        tested = beside.submit(test_programs, count) if is_beside else None
+        tested = None if why_not else beside.submit(test_programs, count)
         tasks: list[Future[None]] = [pool.submit(tries_of_tests, count, memory)]
         tasks += [pool.submit(tries_of_edits, tries, board, count, memory)
                   for tries in tries_by_crates(top, is_anew, count)]

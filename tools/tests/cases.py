@@ -20,8 +20,7 @@ Test = Callable[[Any], None]  # of runs, of its own class
 
 
 def tests_of(name: str) -> dict[str, Test]:
-    """The tests of a module by their names: its functions that take runs alone and return nothing,
-    and those in its list TESTS."""
+    """The tests of a module by names: functions of runs alone, and those in its list TESTS."""
     module = importlib.import_module(f'tools.tests.test_{name}')
     own = [one for one in vars(module).values()
            if inspect.isfunction(one) and one.__module__ == module.__name__ and is_test(one)]

@@ -13,7 +13,6 @@ Exchange = tuple[int, bytes, bytes]  # a procedure of NFS, its arguments and its
 
 
 def conversation_of(steps: Iterable[Exchange], xid: int = 1) -> Conversation:
-    """Calls and their replies, with xids that count."""
     numbered = [*enumerate(steps, xid)]
     return ([call(at, NFS, 3, procedure, asked) for at, (procedure, asked, _) in numbered],
             [success(at, results) for at, (_, _, results) in numbered])

@@ -18,7 +18,6 @@ from tests.shared.running import LIMIT, Ended
 
 
 def ended_in_fork(tool: str, words: Sequence[str], folder: str, stdin: bytes | None) -> Ended:
-    """What the tool of a script ended with in a folder."""
     module = importlib.import_module(f'tools.nfs3tools.commands.{Path(tool).name}')
     given, feeding = os.pipe() if stdin is not None else (os.open(os.devnull, os.O_RDONLY), None)
     (out, its_out), (error, its_error) = os.pipe(), os.pipe()

@@ -35,13 +35,11 @@ HEIGHT = 900
 
 
 def chromium() -> str | None:
-    """Returns the path of Chromium, if it is installed."""
     return shutil.which('chromium')
 
 
 def above_standard(number: int) -> int:
-    """Returns another number of an open file, which is none of those that Chromium reads and
-    writes."""
+    """Returns another number of an open file, which Chromium neither reads nor writes."""
     other = fcntl.fcntl(number, fcntl.F_DUPFD_CLOEXEC, 10)
     os.close(number)
     return other
@@ -80,8 +78,6 @@ class Browser:
             self.process.kill()
             self.process.wait()
         os.close(self.into)
-
-    # --- The protocol ---
 
     def ask(self, method: str, **words: Any) -> Any:
         """Returns the result of a command.
@@ -149,7 +145,6 @@ class Browser:
                  deviceScaleFactor=1, mobile=False)
 
     def value(self, expression: str) -> Any:
-        """Returns the value of an expression of JavaScript."""
         result = self.ask('Runtime.evaluate', expression=expression, returnByValue=True,
                           awaitPromise=True, userGesture=True)
         if 'exceptionDetails' in result:
@@ -172,8 +167,7 @@ class Browser:
         self.ask('Input.dispatchKeyEvent', type='keyUp', key=key)
 
     def click(self, selector: str) -> None:
-        """Clicks into the middle of the first element of a selector, of its first line if it has
-        several."""
+        """Clicks into the middle of the first line of the first element of a selector."""
         x, y = self.value(f'(() => {{ const one = document.querySelector({json.dumps(selector)}); '
                           f'one.scrollIntoView({{block: "center"}});'
                           'const box = one.getClientRects()[0]; return [box.x + box.width / 2, '
@@ -181,8 +175,6 @@ class Browser:
         for kind in ('mousePressed', 'mouseReleased'):
             self.ask('Input.dispatchMouseEvent', type=kind, x=x, y=y, button='left', clickCount=1)
 
-
-# --- Trees ---
 
 VOID = ('meta', 'input')
 OUTSIDE = {'img', 'link', 'iframe', 'object', 'embed', 'base', 'form'}  # elements that load or send
@@ -216,7 +208,6 @@ class Node:
         return self.attributes.get('class', '').split()
 
     def nodes(self) -> Iterator['Node']:
-        """All elements in this one."""
         for part in self.parts:
             if isinstance(part, Node):
                 yield part
@@ -228,12 +219,10 @@ class Node:
                 if node.tag == tag and (not name or name in node.classes)]
 
     def texts(self, tag: str, name: str = '') -> list[str]:
-        """The texts of these elements."""
         return [node.text().strip() for node in self.all(tag, name)]
 
     def text(self) -> str:
-        """The text in this element, with one space in place of several. Neither a style nor a
-        script is text."""
+        """The text in this element, with single spaces. Styles and scripts are none."""
         parts = (part if isinstance(part, str)
                  else '' if part.tag in ('style', 'script') else part.text()
                  for part in self.parts)
@@ -272,13 +261,11 @@ def tree_of(text: str) -> Node:
 
 
 def table_of(node: Node) -> list[list[str]]:
-    """The texts of a table's cells, row by row."""
     return [[cell.text().strip() for cell in row.nodes() if cell.tag in ('td', 'th')]
             for row in node.all('tr')]
 
 
 def broken_links(page: Node) -> list[str]:
-    """The links that lead nowhere."""
     names = {'#' + node.attributes['id'] for node in page.nodes() if 'id' in node.attributes}
     return [one.attributes['href'] for one in page.all('a') if one.attributes['href'] not in names]
 
@@ -302,8 +289,7 @@ class Pages(Runs):
         return Browser(self.path('chromium'))
 
     def loads(self, browser: Browser, what: str) -> None:
-        """The page loads without an error, light and dark, and nothing is wider than the window,
-        also if all is open."""
+        """The page loads without an error, and nothing is wider than the window, open or not."""
         for width in WIDTHS:
             browser.open(self.path('page.html'), width, is_dark=width == WIDTHS[0])
             for how, change in (('closed', '0'), ('open', OPEN_ALL)):

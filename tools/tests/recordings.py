@@ -9,8 +9,6 @@ SECTION, INTERFACE, OBSOLETE, SIMPLE, NAMES, ENHANCED = 0x0a0d0d0a, 1, 2, 3, 4, 
 ETHERNET = 1
 
 
-# --- pcapng ---
-
 def block(kind: int, body: bytes, order: str = '<') -> bytes:
     body += bytes(-len(body) % 4)
     size = struct.pack(order + 'I', 12 + len(body))
@@ -57,8 +55,6 @@ def pcapng(frames: Iterable[bytes], order: str = '<') -> bytes:
         packets)
 
 
-# --- Parts of segments ---
-
 def part_of(frame: bytes, begin: int, end: int) -> bytes:
     """A frame of Ethernet, IP and TCP with a part of its payload, and right checksums."""
     at, payload = (14 + (20 if frame[14] >> 4 == 4 else 40)), frame[-len(frame):]
@@ -87,8 +83,6 @@ def ones_complement(content: bytes) -> bytes:
     return (0xffff - total).to_bytes(2, 'big')
 
 
-# --- Link layers, by link type ---
-
 def cooked(content: bytes) -> bytes:
     """As `tcpdump -i any` records it (link type 113)."""
     return struct.pack('>HHH8xH', 0, 1, 6, content_kind(content)) + content
@@ -113,8 +107,6 @@ def in_snap(content: bytes) -> bytes:
     carried = b'\xaa\xaa\3\0\0\0' + struct.pack('>H', content_kind(content)) + content
     return bytes(12) + struct.pack('>H', min(len(carried), 1_500)) + carried
 
-
-# --- Tunnels ---
 
 def udp(source: int, target: int, content: bytes) -> bytes:
     """A datagram of UDP, without a checksum."""
@@ -150,8 +142,6 @@ def in_session(content: bytes) -> bytes:
     kind = 0x0021 if content[0] >> 4 == 4 else 0x0057
     return bytes(12) + struct.pack('>HBBHHH', 0x8864, 0x11, 0, 1, 2 + len(content), kind) + content
 
-
-# --- Fragments ---
 
 def fragments(content: bytes, size: int, identification: int = 77) -> list[bytes]:
     """A datagram of IPv4 in fragments of `size` bytes, a multiple of eight."""

@@ -139,8 +139,7 @@ TSHARK = ('tshark',
 
 
 class Measured(typing.NamedTuple):
-    """What a tool ended with, the lines that it printed, and the processor time and the memory that
-    it took itself."""
+    """What a tool ended with, its lines, and the processor time and memory that it took itself."""
     status: int
     lines: list[str]
     seconds: float
@@ -148,7 +147,6 @@ class Measured(typing.NamedTuple):
 
 
 def measured(runs: Runs, tool: str, *words: str) -> Measured:
-    """A run of a tool in the folder of other runs."""
     command = [sys.executable, '-c', MEASURED, str(TOP / 'tools' / tool), *words]
     status, out, error = ended(command, runs.folder, limit=None, env=WITH_TOOLS).text()
     seconds, memory = error.split()[-2:]
@@ -170,11 +168,9 @@ class Tools(Runs):
         return ended([script, *words], self.folder, **options).text('replace')
 
     def json(self, name: str) -> typing.Any:
-        """What a file of JSON has."""
         return json.loads(self.read(name) or b'')
 
     def xml(self, name: str) -> xml.etree.ElementTree.Element:
-        """The root of a file of XML."""
         return xml.etree.ElementTree.fromstring((self.read(name) or b'').decode())
 
     def taken(self, what: str, recording: bytes, wanted: list[Streams],
@@ -195,7 +191,6 @@ class Tools(Runs):
         self.want('told: ' + what, [line for line in told if ': client ' not in line], lines)
 
     def refused(self, what: str, recording: bytes, message: str) -> None:
-        """The recording is refused with a message that has this text."""
         try:
             taken_of(recording)
         except NotTaken as refused:
@@ -204,12 +199,10 @@ class Tools(Runs):
             self.want(what, 'taken', message)
 
     def exists(self, name: str) -> bool:
-        """Whether a file is in the folder."""
         return os.path.exists(self.path(name))
 
 
 def verdicts_on(program: str, recording: bytes, words: Sequence[str] = ()) -> list[Verdict]:
-    """The verdicts on a recording, as tools/verdicts with these words has them."""
     parser = parser_of('', 'verdicts')
     add_options(parser)
     options = options_of(parser.parse_args(words))
@@ -227,8 +220,7 @@ def of_tshark(tools: Tools, recording: str, choice: str, *fields: str) -> list[l
 
 
 def write_faulty(tools: Tools) -> list[str]:
-    """Writes recordings and a capture that are not judged as whole and valid, and returns their
-    names."""
+    """Writes recordings and a capture that are not whole and valid, and returns their names."""
     contents = {
         'lost.pcap': pcap(whole()[:4] + whole()[5:]),
         'cut.pcap': pcap(whole())[:-3],

@@ -56,7 +56,6 @@ def mounted(talk: Talk) -> list[bytes]:
 
 
 def talked(talk: Talk, order: list[tuple[int, bytes]]) -> list[bytes]:
-    """A frame for each message."""
     return [talk.sent(side, fragment(body)) for side, body in order]
 
 
@@ -410,7 +409,6 @@ def hung() -> bytes:
 
 
 def cells(tools: Tools, *words: str) -> list[list[str]]:
-    """The cells of the calls that a run lists."""
     status, lines, error = calls(tools, *words)
     tools.want(f'calls {words}', (status, error), (0, ''))
     return lines[1:-2]
@@ -448,8 +446,7 @@ def calls_that_hang(tools: Tools) -> None:
 
 
 def sent_again_by_others(tools: Tools) -> None:
-    """A call from elsewhere, to another server, or about another file is none that is sent
-    again."""
+    """A call from elsewhere, to another server, or about another file is not sent again."""
     for other, handle in ((Talk(701, hosts=('192.0.2.9', SERVER)), b'a'),
                           (Talk(701, hosts=('192.0.2.7', '192.0.2.2')), b'a'), (Talk(701), b'b')):
         first = Talk(700)

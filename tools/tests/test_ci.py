@@ -3,13 +3,11 @@ import fnmatch
 import os
 import re
 import shutil
-import unittest
 from collections.abc import Sequence
-from typing import Unpack
 
 from examples.messages import dirop, fattr, fh, ok, post_op_attr
 from examples.packets import pcap
-from tests.shared.running import RunOptions, begin, ended
+from tests.shared.running import ended
 
 from .comparisons import conversation_of
 from .scripts import CHANGED, EXAMPLES, FIRST, SECOND, TOP, Tools, connection_of, whole
@@ -22,21 +20,13 @@ SCRIPTS = {
     'tcpdump': 'while [ "$1" != -w ]; do shift; done; cp "$TRAFFIC" "$2"; exec "$REAL_SLEEP" 60'}
 
 
-# --- The commands of the page ---
-
 def blocks_of(page: str, language: str) -> list[str]:
     return re.findall(rf'^```{language}\n(.*?)^```$', page, re.M | re.S)
 
 
 def of_github(text: str) -> list[str]:
-    """The commands of each step."""
     steps = re.findall(r'^ +(?:- )?run: (?:\|\n((?: {10}.*\n)+)|(.+)\n)', text, re.M)
     return [re.sub(r'^ {10}', '', several, flags=re.M) + one for several, one in steps]
-
-
-def of_gitlab(text: str) -> str:
-    """All commands, which one shell runs."""
-    return '\n'.join(re.findall(r'^    - (.+)$', text, re.M))
 
 
 def write_scripts(tools: Tools, scripts: dict[str, str]) -> None:
@@ -105,7 +95,8 @@ def the_page(tools: Tools, traffic: str, differences: int) -> None:
     made_by(tools, [run(tools, step, variables) for step in steps], [0, 0, status], differences)
     for name in ('run.pcap', 'verdicts.xml', 'verdicts.html', 'compare.xml', 'compare.html'):
         os.remove(tools.path(name))
-    made_by(tools, [run(tools, of_gitlab(gitlab), variables)], [status], differences)
+    together = '\n'.join(re.findall(r'^    - (.+)$', gitlab, re.M))
+    made_by(tools, [run(tools, together, variables)], [status], differences)
     for text in (github.partition('path: |')[2], gitlab.partition('paths: ')[2]):
         kept = set(re.findall(r'[\w.]+\.(?:pcap|xml|html)', text))
         tools.want('what is kept', kept, {'compare.html', 'compare.xml', 'run.pcap',
@@ -123,10 +114,7 @@ def a_run_that_differs(tools: Tools) -> None:
     the_page(tools, CHANGED, 1)
 
 
-# --- The image ---
-
 def instructions_of_image() -> list[tuple[str, str]]:
-    """The instructions of Containerfile, each with its words."""
     lines = re.sub(r'^#.*\n', '', CONTAINERFILE, flags=re.M).replace('\\\n', ' ').splitlines()
     return [(word, rest) for word, _, rest in (line.partition(' ') for line in lines)]
 
@@ -149,91 +137,6 @@ def what_the_image_gets(tools: Tools) -> None:
     installed = next(rest for word, rest in instructions_of_image() if 'apt-get install' in rest)
     tools.want('packages', {'python3', 'tcpdump', 'xz-utils'} <= set(installed.split()), True)
 
-
-class Podman:
-    """Runs of podman, and the images that it made, which are removed at the end."""
-
-    def __init__(self, tools: Tools) -> None:
-        self.tools, self.own = tools, f'localhost/nfs3canon-test-{os.getpid()}'
-        self.path = shutil.which('podman')
-
-    def run(self, *words: str, **options: Unpack[RunOptions]) -> int:
-        assert self.path
-        done = ended([self.path, *words], self.tools.folder, limit=None, **options)
-        if done.status:
-            self.said = done.error.decode(errors='replace')[-300:]
-        return done.status
-
-    def base(self) -> str | None:
-        """The base that Containerfile names, else one that debootstrap makes, or None."""
-        named = re.findall(r'^ARG BASE=(\S+)', CONTAINERFILE, re.M)[0]
-        if self.run('image', 'exists', named) == 0 or self.run('pull', '-q', named) == 0:
-            return str(named)
-        folder = self.tools.path('base')
-        if not shutil.which('debootstrap') or ended(['debootstrap', '--variant=minbase', 'bookworm',
-                                                     folder], '/', limit=None).status:
-            return None
-        with begin(['tar', '-C', folder, '-c', '.'], '/') as tar:
-            return None if self.run('import', '-q', '-', f'{self.own}-base',
-                                    stdin=tar.stdout) else f'{self.own}-base'
-
-    def remove(self) -> None:
-        for name in (f'{self.own}-run', self.own, f'{self.own}-base'):
-            self.run('rmi', '-f', name)
-        shutil.rmtree(self.tools.path('base'), ignore_errors=True)
-
-
-# with the rights of the tests, and no images between
-IN_FOLDER = ('build', '--isolation=chroot', '--network=host', '--layers=false')
-
-
-def the_image(tools: Tools) -> None:
-    """The commands of the page build the image, and the commands of GitLab run in it."""
-    podman = Podman(tools)
-    try:
-        base = podman.base() if podman.path else None
-        if base is None:
-            raise unittest.SkipTest('podman or its base is not there')
-        image_on(tools, podman, base)
-    finally:
-        if podman.path:
-            podman.remove()
-
-
-def image_on(tools: Tools, podman: Podman, base: str) -> None:
-    """The same, on a base."""
-    *_, commands = blocks_of(PAGE, 'sh')
-    make, release, build, push = (line.split() for line in commands.splitlines())
-    tools.want('the commands', (make, release, push),
-               (['mkdir', 'image'], ['make', 'dist', 'OUT=image'], ['podman', 'push', build[3]]))
-    os.mkdir(tools.path('image'))
-    released(tools, 'image')
-    shutil.copy(TOP / 'Containerfile', tools.folder)
-    words = [podman.own if word == build[3] else word for word in build[2:]]
-    tools.want('build', podman.run(*IN_FOLDER, '--build-arg', f'BASE={base}', *words)
-               and podman.said, 0)
-    write_scripts(tools, SCRIPTS)
-    shutil.copy(CHANGED, tools.path('traffic.pcap'))
-    tools.write('gitlab.sh', of_gitlab(blocks_of(PAGE, 'yaml')[1]).encode())
-    shutil.copy(SECOND, tools.path('run.pcap'))
-    run_in(tools, podman, 'nfs3-from-pcap run.pcap reference.nfs3cap && xz reference.nfs3cap && '
-           'tcpdump --version && nfs3canon --version')
-    run_in(tools, podman,
-           'export PATH=/runs/bin:$PATH TRAFFIC=traffic.pcap REAL_SLEEP=/usr/bin/sleep; '
-           'status=0; bash -e -o pipefail gitlab.sh || status=$?; echo $status > status')
-    made_by(tools, [int(tools.read('status') or b'-1')], [1], 1)
-
-
-def run_in(tools: Tools, podman: Podman, script: str) -> None:
-    """Runs commands in the image, on the folder of the test."""
-    tools.write('Runfile', f'FROM {podman.own}\nWORKDIR /runs\nRUN {script}\n'.encode())
-    words = (*IN_FOLDER, '--no-cache', '-v', f'{tools.folder}:/runs', '-t', f'{podman.own}-run',
-             '-f', 'Runfile', 'image')
-    tools.want(script, podman.run(*words) and podman.said, 0)
-    podman.run('rmi', '-f', f'{podman.own}-run')
-
-
-# --- compare --junit and --brief ---
 
 def compare(tools: Tools, *words: str) -> tuple[int, list[str], str]:
     status, out, error = tools.tool('compare', '--junit', 'x.xml', *words)

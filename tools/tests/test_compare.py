@@ -23,8 +23,7 @@ NAMES = r'^  [-+] (?:[^=]*\.)?(\w+)='
 
 
 def sequences_brought_together(place: Comparisons) -> None:
-    """Pairs and blocks are equal, increase on both sides, and are as few as what differs asks
-    for."""
+    """Pairs and blocks are equal, increase on both sides, and are as few as can be."""
     chance = random.Random(5)
     for _ in range(300):
         first, second = (array('q', [chance.randrange(6) for _ in range(chance.randrange(90))])
@@ -221,7 +220,7 @@ def entries_of_one_name(place: Comparisons) -> None:
     wants('order', 'entry', '  - entry="b"', '  + entry="a"    # the entries come in another order')
 
 
-# --- Cost ---
+# --- Cost, and recordings that lack bytes ---
 
 MANY, FILES_OF_MANY = 30_000, 5_000
 
@@ -264,7 +263,6 @@ MIB = 1 << 20
 
 
 def writes_of_other_data(seed: int, number: int) -> Conversation:
-    """WRITEs of 1 MiB of random data."""
     chance = random.Random(seed)
     return conversation_of((
         7, fh(b'a') + hyper(at * MIB) + word(MIB) + word(2)
@@ -311,8 +309,6 @@ def folders_far_down(place: Comparisons) -> None:
     place.want('the last', (path.startswith(f'?/{name}/ .. /'), path.endswith(f'/{last}'),
                             len(path) <= 1_024), (True, True, True))
 
-
-# --- Recordings ---
 
 def in_calls(number: int, *, lost: int = -1, last: bool = True) -> bytes:
     """Calls of 40 bytes and replies of 24, each a segment with its mark, perhaps without one."""
@@ -376,7 +372,6 @@ def run(*nlinks: int, more: int = 0, names: tuple[int, ...] = ()) -> Conversatio
 
 
 def accepts(place: Comparisons, *entries: dict[str, Any]) -> None:
-    """Writes `known` with some entries."""
     place.write('known', json.dumps({'version': 2, 'accepted': entries}).encode())
 
 
@@ -506,11 +501,8 @@ def a_new_file_accepts_what_was_found(place: Comparisons) -> None:
     place.put_both(run(1, 1, 1), run(1, 2, 1, more=1))
     place.want('status', compared(place, '--accept-new', 'new')[0], 1)
     found = place.json('new')
-    path = glob_free('?/f1'), glob_free('?/f0')
     place.want('entries', found, {'version': 2, 'accepted': [
-        {'procedure': 'NFSPROC3_GETATTR', 'path': path[0], 'is_call': False, 'field': 'obj.nlink',
-         'first': '1', 'second': '2'},
-        {**ONLY, 'path': path[1]}]})
+        {**NLINK, 'path': '[?]/f1', 'is_call': False}, {**ONLY, 'path': '[?]/f0'}]})
     place.want('green', compared(place, '--accept', 'new')[0::2], (0, ['2 accepted']))
     place.want('replaced', (compared(place, '--accept', 'new', '--accept-new', 'new')[0],
                             place.json('new')), (0, found))
@@ -526,10 +518,6 @@ def what_counts_in_no_order_is_not_written(place: Comparisons) -> None:
     place.want('with a field', compared(place, '--order', 'any', '--accept', 'known',
                                         '--accept-new', 'new')[0], 0)
     place.want('entries', [one['field'] for one in place.json('new')['accepted']], ['obj.nlink'])
-
-
-def glob_free(path: str) -> str:
-    return path.replace('?', '[?]')
 
 
 def files_are_written_and_read_with_care(place: Comparisons) -> None:

@@ -39,7 +39,7 @@ ENDS = '192.0.2.7:%d and 192.0.2.1:%d: '
 
 class Case(typing.NamedTuple):
     """A recording beside a good one: its rows, the counts that these do not show, the options of a
-    run, what is raw, and the statuses as ALLOWING has it, if not those of the rows."""
+    run, what is raw, and the statuses (plain, of losses, of what is not checked) if not theirs."""
     what: str
     frames: list[bytes]
     messages: list[str]
@@ -66,7 +66,6 @@ class Case(typing.NamedTuple):
 
 
 def talked(calls: list[bytes], replies: list[bytes], service: int = 2049) -> list[bytes]:
-    """A second connection with these calls and replies."""
     return connection_of(calls, replies, port=701, service=service)
 
 
@@ -81,7 +80,6 @@ def cut_at_its_end(flags: int | None, side: int = 1) -> list[bytes]:
 NAMES = {'ok': 'ok', 'refused': 'refused', 'in_part': 'in part', 'left_out': 'left out',
          'bare': 'without calls', 'not_checked': 'not checked', 'errors': 'errors',
          'silent': 'without reply'}
-ALLOWING = ([], ['--allow-losses'], ['--allow-not-checked'])  # in the order of a case's statuses
 NEITHER, GOOD = (1, 1, 1), (0, 0, 0)
 STATES = {'ok in part': 'in part', 'in part': 'in part', 'left out': 'left out',
           'not checked': 'not checked'}
@@ -101,7 +99,6 @@ def http(service: int, is_begun: bool = True) -> list[bytes]:
 
 
 def datagrams(number: int, port: int = 2049) -> list[bytes]:
-    """Calls by UDP and their replies."""
     asked = [ethernet(datagram(CLIENT, SERVER, udp(800, port, CALLS[at % 39]), 17))
              for at in range(number // 2)]
     answered = [ethernet(datagram(SERVER, CLIENT, udp(port, 800, REPLIES[at % 39]), 17))
@@ -234,11 +231,6 @@ CASES = [
          ['server record 39 byte 0: NoCall, frame 20'])]
 
 
-def good() -> list[bytes]:
-    """15 frames of a good connection."""
-    return whole()
-
-
 def run_of(tools: Tools, *words: str,
            stdin: bytes | None = None) -> tuple[int, list[str], str, str]:
     """The status of tools/verdicts, the verdicts of the rows, the sum and standard error."""
@@ -255,7 +247,7 @@ def line_of(case: Case) -> str:
 def words_of_all_kinds(tools: Tools) -> None:
     """Rows, sums and statuses of each kind, also in files."""
     for case in CASES:
-        verdicts = verdicts_on(tools.program, pcap(good() + case.frames), case.words)
+        verdicts = verdicts_on(tools.program, pcap(whole() + case.frames), case.words)
         words_in_files(tools, case, verdicts)
         rows = sorted((verdict.state, verdict.message) for verdict in verdicts if is_row(verdict))
         tools.want(case.what, (rows, counts_after(verdicts).words()),
@@ -296,12 +288,12 @@ def words_in_files(tools: Tools, case: Case, verdicts: list[Verdict]) -> None:
 
 def recordings_that_end_inside_a_frame(tools: Tools) -> None:
     """A recording that is cut is in part, and never refused."""
-    content, ends = pcap(good()), list(itertools.accumulate(
-        (16 + len(frame) for frame in good()), initial=24))
+    content, ends = pcap(whole()), list(itertools.accumulate(
+        (16 + len(frame) for frame in whole()), initial=24))
     cut = [(content[:size], f'(frame {number + 1})') for number in range(3, 15)
            for size in {ends[number] + 1, ends[number] + 17, ends[number + 1] - 1}]
-    long = pcap(good() + [frame for port in range(701, 760) for frame in whole(port=port)])
-    cut += [(lzma.compress(long)[:-20], ''), (pcapng(good())[:-1], '(frame 15)')]
+    long = pcap(whole() + [frame for port in range(701, 760) for frame in whole(port=port)])
+    cut += [(lzma.compress(long)[:-20], ''), (pcapng(whole())[:-1], '(frame 15)')]
     if shutil.which('zstd'):
         cut.append((subprocess.run(['zstd', '-cq'], input=long, stdout=subprocess.PIPE,
                                    check=True).stdout[:-20], ''))
@@ -317,7 +309,7 @@ def recordings_that_end_inside_a_frame(tools: Tools) -> None:
 
 def recordings_that_grow(tools: Tools) -> None:
     """With --growing the end of a frame or record may come yet; what is missing before may not."""
-    content, frames = pcap(good()), good()
+    content, frames = pcap(whole()), whole()
     lost = pcap(frames[:4] + frames[5:])[:-1]
     for what, recording, statuses in (('a frame', content[:-1], (1, 0)),
                                       ('a record', pcap(frames[:4]), (1, 0)),
@@ -326,18 +318,6 @@ def recordings_that_grow(tools: Tools) -> None:
         found = [tools.tool('verdicts', *words, 'a.pcap') for words in ([], ['--growing'])]
         tools.want(what, tuple(answer[0] for answer in found), statuses)
         tools.want(f'{what}, said', found[1][2] != '', what != 'whole')
-
-
-def options_that_are_gone(tools: Tools) -> None:
-    """Each says in one line what to use in its place."""
-    tools.write('a.pcap', pcap(good()))
-    for words, instead in ((['verdicts', '--follow', '-'], 'watch -n 10'),
-                           (['verdicts', '--filter', 'tcp', 'a.pcap'], 'tshark -r'),
-                           (['from_pcap', '--filter', 'tcp', 'a.pcap', 'out'], 'tshark -r'),
-                           (['compare', '--marks=x', 'a.pcap', 'a.pcap'], 'editcap -A')):
-        status, out, error = tools.tool(*words)
-        tools.want(' '.join(words), (status, out, error.count('\n'), instead in error),
-                   (2, '', 1, True))
 
 
 def ports_that_are_chosen(tools: Tools) -> None:

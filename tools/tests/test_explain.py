@@ -36,8 +36,6 @@ def explained(tools: Tools, name: str, place: str, *options: str) -> list[str]:
     return lines[:-1]
 
 
-# --- All fields ---
-
 def fields_of_a_reply(tools: Tools) -> None:
     """The places of RFC 5531, section 9, and of RFC 1813, sections 2.6 and 3.3.1. Bits of the type
     in a mode, and a second in nanoseconds, are said to be odd."""
@@ -85,7 +83,6 @@ def fields_of_each_message(tools: Tools) -> None:
 
 
 def shown(value: str) -> str:
-    """A value without the quotes of a string."""
     return re.sub(r'^b(["\'])(.*)\1$', r'\2', value)
 
 
@@ -242,8 +239,6 @@ def faults_of_damaged_captures(tools: Tools) -> None:
         tools.want(line, answer, '0 True')
 
 
-# --- Cost ---
-
 def in_memory(tools: Tools, name: str, place: str, *told: str, most: int = MOST_MEMORY) -> None:
     """A run prints these lines, and takes at most this many bytes of memory."""
     status, lines, _, memory = measured(tools, 'explain', name, place)
@@ -316,8 +311,6 @@ def memory_of_large_recordings(tools: Tools) -> None:
               f'byte 0: xid = {last - 1}',
               f'frame.number == {4 + ((last - 1) * 44 + 4) // size}', most=MOST_OF_A_RECORDING)
 
-
-# --- Reasons ---
 
 # Words that tell what is said of each reason from what is said of any other.
 WORDS_OF_REASONS = {

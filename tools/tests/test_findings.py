@@ -489,7 +489,6 @@ SET = ('set_mode set.mode set_uid set.uid set_gid set.gid set_size set.size set_
 
 
 def attr(owner: str) -> list[str]:
-    """post_op_attr with attributes."""
     return [f'{owner}.{name}' for name in ('attr', *ATTRIBUTES.split())]
 
 
@@ -511,7 +510,6 @@ PARTS = {'?': attr, '!': change, '-': lambda owner: change(owner)[:6], '+': list
 
 
 def labels_in(text: str) -> list[str]:
-    """The labels of a row, in which `~` is a space."""
     out = list[str]()
     for one in text.replace('SET', SET).replace('~', '\0').split():
         one = one.replace('\0', ' ')
@@ -592,7 +590,6 @@ OTHERS: list[tuple[int, bytes, bytes, str, str]] = [
 
 def of_exchange(place: Findings, program: int, procedure: int, arguments: bytes,
                 replies: Sequence[bytes]) -> list[Message]:
-    """Returns the messages of a call and its replies, as the program lists them."""
     credential = auth_sys(1, b'box', 2, 3, [4, 5])
     place.put('a', ([call(7, program, 3, procedure, arguments, credential=credential)], replies))
     status, out, error = place.run('show', 'a')
@@ -605,7 +602,6 @@ def labels_of(message: Message) -> list[str]:
 
 
 def all_fields(message: Message) -> dict[str, str]:
-    """Returns the names of the items by their fields."""
     return {item.field: item.name for item in message.items}
 
 

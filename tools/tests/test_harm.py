@@ -35,7 +35,6 @@ sys.exit(messages.run(sys.argv[1], tools[sys.argv.pop(1)].main))
 
 
 def patched(tools: Tools, patch: str, *words: str, umask: int = 0o022) -> Answer:
-    """What a tool ends with after a patch."""
     command = [sys.executable, '-c', PATCHED % patch, *words]
     return ended(command, tools.folder, prepare=lambda: os.umask(umask),
                  env=WITH_TOOLS).text('replace')

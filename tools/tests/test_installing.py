@@ -27,7 +27,6 @@ class Place(Runs):
     """A folder, and runs of commands there."""
 
     def command(self, *words: str) -> Answer:
-        """What a command ended with."""
         return ended(words, self.folder, limit=None).text()
 
     def make(self, target: str, *words: str, umask: str = '022') -> None:
@@ -61,7 +60,7 @@ def works(place: Place, prefix: pathlib.Path) -> None:
     place.answers(prefix, OK, 'nfs3canon', 'check', NULL)
     place.answers(prefix, '', 'nfs3mask', NULL, place.path('masked'))
     place.answers(prefix, f'same: 103 calls in 3 connections\nboth runs: {sums(3)}',
-                  'nfs3-compare', FIRST, SECOND)
+                  'nfs3-compare', '--html', place.path('page.html'), FIRST, SECOND)
     place.answers(prefix, sums(3), 'nfs3-verdicts', FIRST)
     files = ['nfs3canon/LICENSE-MIT', 'nfs3canon/LICENSE-APACHE',
              'nfs3canon/docs/schemas/compare.json']
@@ -79,8 +78,7 @@ def works(place: Place, prefix: pathlib.Path) -> None:
 
 
 def signals_leave_nothing(place: Place) -> None:
-    """A signal ends launcher and program, and leaves no file of this run. An IN that is named like
-    one stays."""
+    """A signal leaves no file of this run. An IN that is named like one stays."""
     half = (TOP / 'examples/two_connections.nfs3cap').read_bytes()[:-4]
     name, bin = '.nfs3canon-0123456789abcdef', place.installed() / 'bin'
     os.mkdir(place.path('out'))
@@ -153,6 +151,9 @@ def by_pip(place: Place) -> None:
     made = ('env', f'PYTHONPATH={place.path("made")}', 'PATH=/nonexistent', pythons[0],
             place.path('made/bin/nfs3-verdicts'))
     place.want('version', place.command(*made, '--version'), (0, f'nfs3-verdicts {VERSION}\n', ''))
+    place.want('look and keys of pages', [
+        os.path.isfile(place.path(f'made/nfs3tools/pages/page.{name}')) for name in ('css', 'js')],
+               [True] * 2)
     place.want('without programs', place.command(*made, FIRST)[::2], (
         2, 'nfs3-verdicts: nfs3canon is missing: it is neither beside the tools nor on the PATH; '
         '`make install` in a clone of nfs3canon installs it\n'))
@@ -165,8 +166,7 @@ OTHER_NAMES = (r'tools/|(?<!nfs3-)\b(?:from_pcap|where|verdicts|calls|procedures
 
 
 def named_as_installed(place: Place) -> None:
-    """Help and manual pages have the names under which the tools are installed, and pyproject.toml
-    has each."""
+    """Help and manual pages have the installed names, and pyproject.toml has each."""
     prefix, modules = place.installed(), {'nfs3-' + tool: tool.replace('-', '_') for tool in TOOLS}
     scripts = tomllib.loads((TOP / 'tools/pyproject.toml').read_text())['project']['scripts']
     place.want('entry points', scripts,
@@ -263,15 +263,10 @@ def under_a_prefix(place: Place) -> None:
                    (0, f'{name} {VERSION}\n', ''))
     place.make('uninstall', f'PREFIX={prefix}')
     place.want('what is left', os.listdir(prefix), [])
-    for name, target in (('install', 'make install'), ('release', 'make dist')):
-        status, out, error = place.command(str(TOP / 'tools' / name), 'prefix')
-        place.want(f'the old {name}', (status, out, error.count('\n'), target in error),
-                   (2, '', 1, True))
 
 
 def as_a_release(place: Place) -> None:
-    """The tar file has the layout of a prefix below one folder, its checksum is right, and each
-    umask gives the same bytes and permissions."""
+    """The tar file has the layout of a prefix, a right checksum, and the same bytes each time."""
     name = f'nfs3canon-{VERSION}-linux-x86_64'
     archive = place.made_alike('dist', f'{name}.tar.xz')
     place.want('checksum', place.command('env', '-C', str(archive.parent), 'sha256sum', '-c',
@@ -288,8 +283,7 @@ def as_a_release(place: Place) -> None:
 @unittest.skipUnless(all(map(shutil.which, ('dpkg', 'dpkg-deb', 'ldconfig'))),  # (dpkg wants that)
                      'dpkg or ldconfig is not there')
 def as_a_package(place: Place) -> None:
-    """The package for Debian has its form, is made again alike, and is installed into a root of its
-    own, where its tools run."""
+    """The package for Debian is made again alike, and its tools run below a root of its own."""
     package = str(place.made_alike('deb', f'nfs3canon_{VERSION}_amd64.deb'))
     fields = dict(line.split(': ', 1) for line in place.command('dpkg-deb', '-f', package)[
         1].splitlines() if line[0] != ' ')

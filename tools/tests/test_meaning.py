@@ -334,7 +334,6 @@ MAY_BE = {
 
 
 def bodies_of(steps: Iterable[Step]) -> list[list[bytes]]:
-    """The calls, each with its reply if it got one."""
     return [[call(xid, NFS, 3, NFS_PROCEDURES.index(one.procedure), one.asked),
              *([] if one.results is None else [success(xid, one.results)])]
             for xid, one in enumerate(steps, 1)]
@@ -371,8 +370,7 @@ def rules_of(tools: Tools, frames: Iterable[bytes], *words: str) -> list[str]:
 
 
 def a_fault_of_each_rule(tools: Tools) -> None:
-    """Each is found once, and nothing else; what is sound beside it passes, and so does what
-    servers and clients may do."""
+    """Each is found once, and nothing else; what servers and clients may do passes."""
     tools.want('rules', {rule for rule, _, _ in CASES}, RULES.keys())
     status, whole = meaning(tools, recording_of(
         *(steps for _, *both in CASES for steps in both), *MAY_BE.values()))
@@ -593,7 +591,6 @@ class Hiding(Recorded):
 
 @contextlib.contextmanager
 def recorded_in(path: Path) -> Iterator[Recorded]:
-    """The exchanges of a recording."""
     with take(str(path), Options(), shows_progress=False) as taken:
         verdicts = [Verdict(str(path), one.number) for one in taken.connections]
         with contextlib.closing(kept_in(PROGRAM, taken, verdicts, LongValues())) as kept:

@@ -16,13 +16,12 @@ from ..nfs3tools.comparison.values.classes import (
 from ..nfs3tools.recordings.taken import take
 from ..nfs3tools.shared.programs import Died
 from .comparisons import Comparisons, Conversation, conversation_of
-from .scripts import measured
+from .scripts import connection_of, measured
 
 GETATTR, LOOKUP, WRITE, CREATE, REMOVE = 1, 3, 7, 8, 12
 
 
 def asked_again(number: int) -> Conversation:
-    """LOOKUP of a file, and GETATTRs of it."""
     return conversation_of([
         (LOOKUP, dirop(b'top', b'f'), ok(fh(b'f'), post_op_attr(), post_op_attr())),
         *[(GETATTR, fh(b'f'), ok(fattr(1, 5)))] * number])
@@ -46,12 +45,6 @@ def calls_that_only_ask(place: Comparisons) -> None:
     found = f'only in the first run: 3 calls of NFSPROC3_GETATTR ?/f{where}'
     place.want('none, listed', ([line.startswith(found) for line in out].count(True),
                                 out[-1].endswith('; 3 only in the first run')), (1, True))
-
-
-def looked_up(*names: bytes) -> Conversation:
-    """LOOKUPs in one folder, of names that are not there."""
-    return conversation_of((LOOKUP, dirop(b'top', name), messages.failed(2, post_op_attr()))
-                    for name in names)
 
 
 def seen_in_the_middle(place: Comparisons) -> None:
@@ -123,6 +116,20 @@ def raw_bodies_in_any_order(place: Comparisons) -> None:
     place.put('b', run((0, 2, 1), b'12345678'))
     out = place.says('lengths', 1, 'differ in any order', '--mask', '+raw', '--order', 'any')
     place.want('said', any('only the lengths count' in line for line in out), True)
+
+
+def answers_of_mount(place: Comparisons) -> None:
+    """No order explains flavors of MNT, or what EXPORT lists, that differ."""
+    asked = [call(1, messages.MOUNT, 3, 1, opaque(b'/x')), call(2, messages.MOUNT, 3, 5),
+             call(3, NFS, 3, REMOVE, dirop(b'top', b'f'))]
+    for name, flavor, group in (('a', 1, b'one'), ('b', 6, b'one'), ('c', 1, b'two')):
+        exported = messages.exports([(b'/x', [group])])
+        mounted = ok(fh(b'top'), messages.array([word(flavor)]))
+        place.write(name, pcap(connection_of(
+            asked, [success(1, mounted), success(2, exported), success(3, ok(wcc()))], 3)))
+    for name in 'bc':
+        status, out, error = place.compare('--order', 'any', 'a', name)
+        place.want(name, (status, out[1][:19], error), (1, 'differ in any order', ''))
 
 
 def values_that_stand_for_others(place: Comparisons) -> None:
@@ -211,13 +218,10 @@ def many_in_another_order(place: Comparisons) -> None:
     place.want(f'{memory} bytes', memory < 80e6, True)
 
 
-# --- Runs that are written in another order ---
-
 Said = tuple[bytes, tuple[bytes, ...]]  # a call and its replies, without their xids
 
 
 def one_of(connection: int, record: int, replies: Sequence[int]) -> Numbered:
-    """An exchange of one call."""
     return Numbered(connection, [record], replies)
 
 
@@ -241,8 +245,7 @@ def exchanges_of(connections: Sequence[Conversation]) -> list[tuple[Numbered, Sa
 
 def written(place: Comparisons, chosen: Sequence[Numbered],
             left_out: Sequence[Numbered]) -> list[Said]:
-    """Writes the capture `a` in an order, and returns what has been written. Its xids have to be
-    the turns."""
+    """Writes the capture `a` in an order, and returns what was written. Its xids are the turns."""
     path = pathlib.Path(place.folder)
     with take(str(path / 'a')) as taken:
         write_in_order(taken, chosen, left_out, str(path / 'ordered'), Rewriting)
@@ -257,7 +260,6 @@ def written(place: Comparisons, chosen: Sequence[Numbered],
 
 def shuffled(chance: random.Random, seed: int) -> tuple[list[Conversation],
                                                         list[tuple[Numbered, Said]]]:
-    """The connections of random traffic, and its exchanges in any order."""
     connections = Traffic(seed, Names.drawn(chance)).connections
     known = exchanges_of(connections)
     chance.shuffle(known)

@@ -63,7 +63,6 @@ def asked(modes: Sequence[int], name: bytes = b'f') -> Conversation:
 
 
 def link(path: bytes, status: int = 0) -> Conversation:
-    """READLINK of a link with this path, or one that fails."""
     results = failed(status, post_op_attr()) if status else ok(post_op_attr(), opaque(path))
     return conversation_of([(READLINK, fh(b'link'), results)])
 
@@ -188,14 +187,12 @@ def glance_of(page: Node) -> str:
 
 
 def listed(*names: bytes) -> Conversation:
-    """READDIR with some entries."""
     some = entries(None, bytes(8), [entry(1, name, 0) for name in names], is_end=True)
     return conversation_of([(READDIR, fh(b'top') + bytes(20), ok(some))])
 
 
 def at_a_glance(place: Compared) -> None:
-    """Under the title is what differs, with its paths. Of values only those are shown that are the
-    same in all messages, known, and whole."""
+    """Under the title is what differs, with paths, and values that all messages have."""
     place.want('a recording', glance_of(place.page(FIRST, CHANGED)),
                'rtmax, rtpref, wtmax, .. of /mem (1 FSINFO reply)')
     text, calls = worked(SENTENCE), '(1 WRITE, 2 READs)'
@@ -253,7 +250,6 @@ def kinds_of_differences(place: Compared) -> None:
 
 
 def changes_of(node: Node) -> list[str]:
-    """The lines of what differs."""
     return [one.text() for change in node.all('div', 'change') for one in change.all('div')]
 
 

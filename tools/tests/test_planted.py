@@ -161,7 +161,6 @@ def planted_fields(run: Run, chance: random.Random) -> Iterator[Plant]:
 
 
 def planted_statuses(run: Run, chance: random.Random) -> Iterator[Plant]:
-    """Replies that fail."""
     known = {f'NFSPROC3_{name}': number for name, number in FAILING.items()}
     some = [at for at, said in enumerate(run) if said.side and said.procedure in known
             and said.body[4:28] == OK_REPLY + bytes(4)]
@@ -286,7 +285,7 @@ NAMES = ('knfsd-plain', 'knfsd-writes', 'natural-folder', 'natural-parallel')
 TESTS = [on(name, test) for name in NAMES for test in (plants_are_found, calls_are_found)]
 
 
-# --- A model server ---
+# --- A model server and its clients ---
 
 (GETATTR, SETATTR, LOOKUP, ACCESS, WRITE, CREATE, MKDIR, REMOVE, RMDIR, RENAME, LINK, READDIR,
  READDIRPLUS) = 1, 2, 3, 4, 7, 8, 9, 12, 13, 14, 15, 16, 17
@@ -296,7 +295,6 @@ TOP, SHARED = b'top', [b'shared 0', b'shared 1']
 
 @dataclass
 class Node:
-    """A file or a folder."""
     number: int
     kind: int
     mode: int
@@ -472,12 +470,9 @@ def arguments(step: Step, folder: bytes, handle: bytes) -> bytes:
         READDIRPLUS: lambda: fh(folder) + bytes(16) + word(4096) + word(8192)}[step.procedure]()
 
 
-# --- Clients ---
-
 @dataclass
 class Client:
-    """A client: the rest of its script, its call that waits for a reply, and the results of that
-    if it was carried out."""
+    """A client: the rest of its script, its call that waits, and the results of that."""
     number: int
     script: list[Step]
     waiting: Optional[Step] = None
@@ -486,8 +481,7 @@ class Client:
 
 
 def recorded_turns(chance: random.Random, server: Server, scripts: list[list[Step]]) -> bytes:
-    """A recording of clients whose calls are carried out in a random order. The first one makes
-    what is shared before the others begin."""
+    """A recording of calls in a random order, after the first client made what is shared."""
     asked = [*(Step(ACCESS, name) for name in SHARED), Step(READDIRPLUS)]
     clients = [Client(number, [Step(LOOKUP, b'w'), *(
         Step(LOOKUP if number else CREATE, name, 0o644) for name in SHARED), *asked, *script])
@@ -519,8 +513,7 @@ FIRST_IDS = 100, 5_000  # of the objects of both runs
 
 
 def script_of(chance: random.Random, number: int, clients: int) -> list[Step]:
-    """The calls of a client. Names of its own begin with its number, and client 0 alone sets what
-    a shared file has."""
+    """The calls of a client. Names begin with its number, and client 0 sets what is shared."""
     own, out = dict[bytes, int](), list[Step]()
     for turn in range(chance.randrange(6, 16)):
         name, mode = b'%d-%d' % (number, turn), chance.choice((0o600, 0o644, 0o4755, 0o755))
@@ -576,8 +569,7 @@ def run(seed: int, number: int, wrong: Wrong | None = None) -> tuple[bytes, Serv
 
 
 def wrongs(done: list[Done], absent: set[bytes], chance: random.Random) -> Iterator[Wrong]:
-    """Values that no server could say. If a LOOKUP of the other run does not find a name, NOENT of
-    it would be no difference."""
+    """Values that no server could say, but NOENT of a name that the other run does not find."""
     modes = {one.node.mode & ~bits for one in done if one.node
              for bits in (0, 0o2000, 0o4000, SET_ID)}
     for one in done[4:]:

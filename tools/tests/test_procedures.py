@@ -55,7 +55,6 @@ def procedures(tools: Tools, *words: str,
 
 
 def tables_of(tools: Tools, *words: str) -> list[dict[str, Any]]:
-    """The tables that a run writes as JSON."""
     tools.tool('procedures', '--json', 'x.json', *words)
     found: list[dict[str, Any]] = tools.json('x.json')['tables']
     return found
@@ -174,8 +173,7 @@ def xids_that_come_again(tools: Tools) -> None:
 
 
 def judged_in_part(tools: Tools) -> None:
-    """Titles, words and status are those of tools/verdicts, and so are those of tools/calls, in
-    each form."""
+    """Titles, words and status are those of verdicts, and so are those of calls, in each form."""
     faulty, allowed = write_faulty(tools), ['--allow-losses', '--allow-not-checked']
     tools.write('first.pcap', pcap(whole()[:3] + whole()[4:]))
     tools.write('four.pcap', pcap(connection_of([call(1, NFS, 4, 1, bytes(8))],

@@ -20,7 +20,6 @@ for path in sorted(pathlib.Path(sys.argv[1], 'nfs3tools').rglob('*.py')):
 
 
 def pythons() -> dict[tuple[int, int], str]:
-    """Returns the Pythons that are installed, by their versions."""
     names = [f'python3.{minor}' for minor in range(4, 20)] + ['python2.7']
     found = [path for name in names for path in (shutil.which(name),
                                                  *Path.home().glob(f'.pyenv/versions/*/bin/{name}'))

@@ -83,7 +83,6 @@ class Answer(NamedTuple):
 
     @property
     def found(self) -> list[str]:
-        """The kinds and procedures of all findings."""
         return [f'{one["kind"]} {one["procedure"].removeprefix("NFSPROC3_")}'
                 for one in self.json['findings']]
 
@@ -373,7 +372,6 @@ def listed(*names: bytes, is_end: bool = True, **attributes: int) -> Step:
 
 
 def entries_of(*entries: bytes, is_end: bool = True) -> Step:
-    """READDIRPLUS of the folder."""
     results = ok(messages.entries(fattr(2, 3), bytes(8), entries, is_end=is_end))
     return Step(READDIRPLUS, fh(W) + bytes(16) + word(512) + word(4096), results)
 
@@ -403,7 +401,7 @@ def what_is_found_by_frames(place: Comparisons) -> None:
         place.want('highest', Highest(ends).of(first, len(ends)), max(ends[first:], default=0))
 
 
-# --- Attributes ---
+# --- Attributes and names ---
 
 def attributes_of_a_folder_in_which_something_is_made(place: Comparisons) -> None:
     """A CREATE in a folder sets the mode and the owners of the new file, not of the folder."""
@@ -470,8 +468,6 @@ def a_size_that_no_write_left(place: Comparisons) -> None:
         slow = [*writes[:2], writes[2]._replace(is_slow=True), got(NAME, 7, size=size)]
         wants(place, f'{size} meanwhile', [got(NAME, 7), *writes], slow, wanted)
 
-
-# --- Names ---
 
 def a_listing_that_lacks_a_name(place: Comparisons) -> None:
     """A name that was made before is listed, also if the other run lists it too early. Of a LOOKUP

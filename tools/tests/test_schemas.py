@@ -12,8 +12,7 @@ from .test_compare import NLINK, accepts, run
 
 RUNS = [FIRST, SECOND]
 def validator_knows_its_keywords(tools: Tools) -> None:
-    """What fits has no fault, and has one with another value in any place, or a member too few or
-    too many."""
+    """What fits has no fault, and has one with another value, or a member too few or too many."""
     schema = {
         '$ref': '#/$defs/whole', '$defs': {'name': {'$ref': 'other.json#/$defs/a'}, 'whole': {
             'type': 'object', 'required': ['one', 'many'], 'additionalProperties': False,
@@ -50,7 +49,6 @@ def schemas_use_what_is_known(tools: Tools) -> None:
 
 
 def parts_of(schema: Any) -> list[Any]:
-    """The schemas right in another one."""
     some = [*schema.get('properties', {}).values(), *schema.get('$defs', {}).values(),
             *schema.get('anyOf', ()), schema.get('items'), schema.get('additionalProperties')]
     return [part for part in some if isinstance(part, dict)]
@@ -107,8 +105,6 @@ def accepted_files_fit(tools: Tools) -> None:
                3)
 
 
-# --- A validator for the part of JSON Schema (draft 2020-12) that docs/schemas uses ---
-
 FOLDER = TOP / 'docs/schemas'
 TYPES: dict[str, Callable[[Any], bool]] = {
     'object': lambda value: isinstance(value, dict), 'array': lambda value: isinstance(value, list),
@@ -128,11 +124,9 @@ class Schema:
         self.whole: Any = json.loads((folder / name).read_text())
 
     def faults(self, value: Any) -> list[str]:
-        """Returns what is wrong with a value, each with its place."""
         return list(self.of(self.whole, value, '$'))
 
     def of(self, schema: Any, value: Any, at: str) -> Iterator[str]:
-        """Yields what is wrong with a value by a part of the schema."""
         for keyword, wanted in schema.items():
             if keyword not in NOTES:
                 yield from KEYWORDS[keyword](self, wanted, value, at, schema)

@@ -65,7 +65,6 @@ def piece_of(master: int) -> bytes:
 
 
 def bare(lines: Sequence[str]) -> list[str]:
-    """Lines without colours."""
     return [re.sub('\x1b\\[[0-9]*m', '', line) for line in lines]
 
 
@@ -93,8 +92,6 @@ def tables(tools: Tools) -> None:
     tools.want('cut, in colour', list(table_lines(rows, Screen(16, True), is_cut=True))[2],
                f'abcdefgh  3   {RED}th{END}')
 
-
-# --- Colours ---
 
 def verdicts_have_colours(tools: Tools) -> None:
     """`ok` alone is green, what is refused or cannot be read is red, and all between is yellow."""
@@ -148,8 +145,6 @@ def comparisons_have_colours_as_diff(tools: Tools) -> None:
                (True, True))
 
 
-# --- Tables on a terminal ---
-
 def rows_are_as_in_a_pipe(tools: Tools) -> None:
     """Lines that end with a text are left to the terminal; numbers are cut at its width."""
     tools.write('a.pcap', recording())
@@ -166,8 +161,7 @@ def rows_are_as_in_a_pipe(tools: Tools) -> None:
 
 
 def help_fits(tools: Tools) -> None:
-    """No help is wider than 80 columns, but for the path of this repository, and a value like an
-    option is refused."""
+    """No help is wider than 80 columns, and a value like an option is refused."""
     for tool in ('from_pcap', 'where', 'verdicts', 'calls', 'procedures', 'compare', 'explain',
                  'cut'):
         status, out, _ = tools.tool(tool, '--help')
@@ -188,8 +182,6 @@ def numbers_have_separators_on_a_terminal_alone(tools: Tools) -> None:
         tools.want(number, (re.split('  +', lines[1])[2:], lines[-1]),
                    ([one.replace('%s', number) for one in row], sums(1)))
 
-
-# --- Progress ---
 
 class Terminal(io.StringIO):
     """A stream that says that it is a terminal."""

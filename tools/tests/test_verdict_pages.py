@@ -27,8 +27,6 @@ DOT = re.compile(r'(.*); connection (\d+) client record (\d+), frame (\d+), '
                  r'(no latency|(\d+\.\d{3}) ms)')
 
 
-# --- The counts ---
-
 # Recordings, and how their headings look and begin.
 HEADINGS = {
     'ok.pcap': 'same Every call', 'lost.pcap': 'part Not all', 'cut.pcap': 'part Not all',
@@ -49,7 +47,6 @@ def write_kinds(tools: Written, version: int) -> None:
 
 
 def counts_of(page: Node) -> dict[str, int]:
-    """The counts by their words."""
     texts = page.all('ul', 'counts')[0].texts('li')
     return {re.sub(r' \(.*', '', text.partition(' ')[2]): int(text.split()[0].replace(',', ''))
             for text in texts}
@@ -161,8 +158,6 @@ def faults_with_their_fields(tools: Written) -> None:
     article, = tools.page('verdicts', str(EXAMPLES / 'bad_bool.nfs3cap'))[2].all('article')
     tools.want('a capture', (len(article.all('pre')), article.all('code', 'filter')), (2, []))
 
-
-# --- The time line ---
 
 def dots_of(page: Node) -> list[tuple[str, float, float, list[str]]]:
     """The form and place of each dot, and what its title says."""

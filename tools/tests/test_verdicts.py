@@ -229,7 +229,6 @@ def recordings_that_are_compressed(tools: Tools) -> None:
 # --- verdicts ---
 
 def rows_of(tools: Tools, name: str) -> list[dict[str, object]]:
-    """The rows of a file that --json wrote."""
     rows: list[dict[str, object]] = json.loads(tools.read(name) or b'{"rows": []}')['rows']
     return rows
 

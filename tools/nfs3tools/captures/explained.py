@@ -1,10 +1,6 @@
 """What is in a record, or at one of its bytes, line by line: its message, the item with its value
-and what may be there, and the bytes.
-
-    tell_record(within.record(place), place, reason, print)
-
-Each function here passes its lines to `tell` as soon as they are made, since a record may have very
-many of them.
+and what may be there, and the bytes. Each line is passed to `tell` as soon as it is made, since a
+record may have very many of them.
 """
 from __future__ import annotations
 
@@ -57,7 +53,8 @@ def tell_record(found: FoundRecord, place: Place, reason: str | None, tell: Tell
     if earlier:
         name = procedure_of(*earlier.numbers).name
         tell('earlier: client record %d, %s' % (earlier.record, name))
-    tell_reason(reason, tell)
+    if reason:
+        tell(reason_in_words(reason))
     tell_bytes(found.body, begin, end, place.byte, tell)
 
 
@@ -133,7 +130,6 @@ def tell_item(body: Body, is_call: bool, procedure: Procedure | None, byte: int,
 
 
 def item_line(item: PlacedItem, label: str, byte: int) -> str:
-    """The line of an item, which is at this byte."""
     value = item.value + '..' if item.end - item.begin > ITEM_BYTES_AT_MOST else item.value
     remarks = ': '.join(filter(None, (item.meaning, remark_on_item(item))))
     return 'byte %d: %s = %s%s' % (byte, label,
@@ -152,8 +148,7 @@ def remark_on_item(item: PlacedItem) -> str:
 
 
 def tell_bytes(data: Body, begin: int, end: int, byte: int, tell: Tell) -> None:
-    """Lines of 16 bytes, of a long run those around a byte, with the bytes from `begin` to `end` in
-    brackets."""
+    """Lines of 16 bytes, of a long run those around a byte, with some bytes in brackets."""
     low, high = 0, len(data)
     if high > 32 * LINES_AROUND:
         low = max(0, byte // 16 - LINES_AROUND) * 16
@@ -165,12 +160,6 @@ def tell_bytes(data: Body, begin: int, end: int, byte: int, tell: Tell) -> None:
                  for place, value in enumerate(piece, at))
         text = ''.join(chr(byte) if 32 <= byte < 127 else '.' for byte in piece)
         tell('%8d %-64s %s' % (at, ''.join(cells), text))
-
-
-def tell_reason(reason: str | None, tell: Tell) -> None:
-    """What a reason means."""
-    if reason:
-        tell(reason_in_words(reason))
 
 
 def reason_in_words(reason: str) -> str:

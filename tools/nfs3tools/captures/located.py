@@ -1,8 +1,5 @@
 """Finds what a place names, in a capture or in a recording of which one could be made.
 
-    with located('run.pcap', Options()) as within:
-        found = within.record(place)  # its bytes, the calls of its connection, and its frames
-
 A capture is read piece by piece, so memory grows neither with it nor with the record. Of a
 recording is in memory what `take` keeps there.
 """
@@ -43,8 +40,7 @@ class StoredBody:
 
 
 class FoundRecord(typing.NamedTuple):
-    """A record: its body, the client's stream of its connection, and the frames that carry its
-    place, of a recording."""
+    """A record: its body, the client's stream of its connection, and the frames of its place."""
     body: StoredBody
     calls: TakenStream
     frames: list[FrameRef]
@@ -80,7 +76,9 @@ class Within:
         """Returns what a place names. Raises `NoPlace` if there is no such record or byte."""
         streams = self.streams(place.connection)
         stream = streams[SIDES.index(place.side)]
-        extent = extent_of_record(stream, place.record)
+        # (the records before it leave nothing in memory)
+        numbered = enumerate(extents(Window(stream), 0, stream.size), 1)
+        extent = next((one for number, one in numbered if number == place.record), None)
         if extent is None:
             raise NoPlace(f'there is no {place._replace(byte=None)}')
         frames = stream.frames(*range_of_place(stream, extent, place))
@@ -94,13 +92,6 @@ class Within:
             for at in range(begin, end, FETCHED_AT_ONCE):
                 stored.append(stream.read(at, min(FETCHED_AT_ONCE, end - at)))
         return StoredBody(stored)
-
-
-def extent_of_record(stream: TakenStream, number: int) -> Extent | None:
-    """Returns where a record stands, if there is one of this number. Those before it leave nothing
-    in memory."""
-    numbered = enumerate(extents(Window(stream), 0, stream.size), 1)
-    return next((extent for at, extent in numbered if at == number), None)
 
 
 def call_with_xid(calls: TakenStream, xid: bytes, but: int | None = None) -> Call | None:
@@ -120,12 +111,9 @@ def numbers_in(head: bytes) -> tuple[int, int, int]:
     return program, version, procedure
 
 
-# --- Opening ---
-
 @contextlib.contextmanager
 def located(path: str, options: Options) -> typing.Iterator[Within]:
-    """Opens a capture, or takes a recording as `take` does, and raises what `take` does.
-    """
+    """Opens a capture, or takes a recording as `take` does, and raises what `take` does."""
     files = files_of(path)
     with contextlib.ExitStack() as stack:
         file = stack.enter_context(opened(files[0]))

@@ -32,7 +32,7 @@ from ..judgement.window import ALL, DAY, add_window, window_of
 from ..recordings.coverage import PROCEDURES
 from ..recordings.selection import count, plural
 from ..recordings.taken import Taken
-from ..reporting.messages import add_gone, add_recordings, allowed_of, parser_of, run
+from ..reporting.messages import add_recordings, allowed_of, parser_of, run
 from ..reporting.rows import add_forms, form_of
 from ..shared.layouts import BY_NAME, RAW
 from ..shared.printed import escaped, printable
@@ -63,10 +63,7 @@ class ListedRecording(typing.NamedTuple):
         return map(self.kept.exchange, self.wanted)
 
 
-# --- What is listed ---
-
 def wanted_by(chosen: argparse.Namespace) -> list[Condition]:
-    """The conditions of the options, each of which has to hold."""
     # (a word alone is a last name)
     path = chosen.path or ''
     pattern = path if set(path) & set('*?[/') else f'*/{path}'
@@ -80,25 +77,18 @@ def wanted_by(chosen: argparse.Namespace) -> list[Condition]:
         (chosen.user is not None, lambda one: bool(one.asked.user == chosen.user)),
         (bool(chosen.client), lambda one: bool(host_of(one.part.client) == chosen.client)),
         (chosen.path is not None, lambda one: any(
-            path is not None and fits(as_named(path))
+            path is not None and fits(os.fsdecode(bytes_of(f'"{path}"')) if '\\' in path else path)
             for path in (one.path, one.other_path, *one.other_names)))]
     return [holds for is_given, holds in conditions if is_given]
 
 
 def last_name(procedure: str) -> str:
-    """The name of a procedure without that of its program."""
     return re.split('[ _]', procedure)[-1] if procedure in BY_NAME else procedure.rpartition(' ')[2]
-
-
-def as_named(path: str) -> str:
-    """A path as its files are named, without the spelling of the listing."""
-    return os.fsdecode(bytes_of(f'"{path}"')) if '\\' in path else path
 
 
 def listed(judge: Judge, recording: str, chosen: argparse.Namespace,
            verdicts: list[Verdict]) -> ListedRecording:
-    """Judges a recording or capture, adds its verdicts, and returns the exchanges of the
-    connections that were judged."""
+    """Judges a recording, adds its verdicts, and returns the exchanges of what was judged."""
     begun, found = list[int](), list[Kept]()
 
     def look(taken: Taken, judged: list[Verdict]) -> None:
@@ -117,8 +107,6 @@ def listed(judge: Judge, recording: str, chosen: argparse.Namespace,
     return ListedRecording(recording, None if chosen.utc else sum(begun), kept, order)
 
 
-# --- What is printed ---
-
 def call_time(time: int, begun: int | None) -> str:
     """A time as seconds from the first frame, or as that of the day (UTC), `10:03:07.250000`."""
     if not time:
@@ -130,7 +118,6 @@ def call_time(time: int, begun: int | None) -> str:
 
 
 def cells_of(one: KeptExchange, begun: int | None) -> tuple[str, ...]:
-    """The cells of a line."""
     answer = one.answer if one.kept.firsts[one.at] else answer_of(one)
     return (call_time(one.time, begun), milliseconds(one.latency), str(one.frame or '-'),
             f'{one.part.number}:{one.record}', call_text(one), answer)
@@ -147,8 +134,7 @@ def answer_of(one: KeptExchange) -> str:
 
 
 class AlignedLines:
-    """Lines of cells. Each block of them is as wide as its cells are, and at least as the block
-    before. A long call moves its answer."""
+    """Lines of cells in columns. Blocks never get narrower, and a long call moves its answer."""
 
     def __init__(self, screen: Screen) -> None:
         self.screen, self.widths = screen, [0] * (len(CALL_HEADS) - 1)
@@ -176,7 +162,6 @@ class AlignedLines:
         self.rows, self.errors = [], set()
 
     def styled(self, number: int, row: tuple[str, ...], line: str) -> str:
-        """Returns the line of a row for a terminal."""
         colour = Colour.RED if number in self.errors else None
         return line[:len(line) - len(row[-1])] + self.screen.painted(row[-1], colour)
 
@@ -190,8 +175,7 @@ def tell_verdicts(verdicts: list[Verdict]) -> None:
 
 
 def tell_of_times(found: ListedRecording, chosen: argparse.Namespace) -> None:
-    """Prints on standard error what is to know of latencies and addresses, if an option asks for
-    what is not there."""
+    """Says on standard error if an option asks for latencies or addresses that are not there."""
     kept, number = found.kept, found.kept.backward
     are = plural(number, 'latency is', 'latencies are')
     lines = [
@@ -206,11 +190,8 @@ def tell_of_times(found: ListedRecording, chosen: argparse.Namespace) -> None:
         print(printable(f'{escaped(found.recording)}: {line}'), file=sys.stderr)
 
 
-# --- For programs ---
-
 def column_values(one: KeptExchange, recording: str, is_line: bool) -> Sequence[object]:
-    """The values of CALL_COLUMNS; of the replies an object for each. In a line there is their
-    number, and names have spaces between them."""
+    """The values of CALL_COLUMNS; of the replies objects, or in a line their number."""
     part, names, replies = one.part, one.other_names, [
         {'record': reply.record, 'frame': reply.frame or None, 'answer': words}
         for reply, words in zip(one.answered, one.answers)]
@@ -241,8 +222,6 @@ class Text:
               else f'{self.number:,} of {count(self.all, "exchange")}')
 
 
-# --- The command ---
-
 def duration(word: str) -> int:
     """The nanoseconds of a time, as `100ms`."""
     found = re.fullmatch(r'(\d{1,9}(?:\.\d{1,9})?)(us|ms|s)', word)
@@ -252,7 +231,6 @@ def duration(word: str) -> int:
 
 
 def procedure_names(word: str) -> frozenset[str]:
-    """The names of procedures, as `WRITE,COMMIT`."""
     known = {last_name(name) for name in BY_NAME if name != RAW.name}.union(*PROCEDURES.values())
     names = frozenset(last_name(name.strip()) for name in word.upper().split(','))
     for name in names - known:
@@ -296,7 +274,6 @@ def command_line_of_calls(words: list[str]) -> argparse.Namespace:
     parser.add_argument('--utc', action='store_true',
                         help='prints the time of day (UTC) of each call')
     add_window(parser)
-    add_gone(parser, '--width', '`tools/calls .. | cut -c -N`, since lines are whole')
     add_recordings(parser)
     return parser.parse_args(words)
 

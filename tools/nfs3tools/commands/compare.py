@@ -29,7 +29,7 @@ from typing import NamedTuple
 from ..comparison.exchanges.pairing import ASKING
 from ..comparison.values.classes import CLASSES, following, in_any_order, mask_text, mask_word
 from ..comparison.verdict.accepted import accepted_of, file_of, ignored_of, without_ignored
-from ..comparison.verdict.cover import Cover, covers_of, lines_of_counts, losses_of
+from ..comparison.verdict.cover import Cover, cover_of, lines_of_counts, losses_of
 from ..comparison.verdict.decision import (
     Choices, NothingToCompare, Report, compared_in_words, judged_runs, run_of)
 from ..comparison.verdict.findings import RUNS, Compared, Framing, Run
@@ -42,11 +42,11 @@ from ..recordings.selection import Options
 from ..recordings.taken import NotTaken, Taken, take
 from ..reporting import telling
 from ..reporting.messages import (
-    REFUSED, add_gone, add_judging, advice_on, allowed_of, ended, options_of, parser_of,
+    REFUSED, add_judging, advice_on, allowed_of, ended, options_of, parser_of,
     recording_lines, run)
 from ..shared.outputs import check_output, held, printed_beside, try_outputs, write_file
 from ..shared.printed import escaped
-from ..shared.programs import program_path
+from ..shared.programs import CHECKED, program_path, run_side_by_side
 from ..shared.progress import Progress
 from ..shared.screens import Colour, Screen, add_colour, screen_of
 
@@ -75,8 +75,6 @@ def command_line_of_compare(words: list[str]) -> argparse.Namespace:
                         help='takes a file of accepted findings, which do not count')
     parser.add_argument('--accept-new', metavar='FILE',
                         help='writes a file that accepts the findings of this comparison')
-    add_gone(parser, '--marks', 'cut each recording with `editcap -A TIME -B TIME`, and compare '
-             'the parts')
     parser.add_argument('--all', action='store_true', help='prints each finding by itself; by '
                         f'default, equal ones are one, and {FINDINGS_AT_MOST} are printed')
     parser.add_argument('--brief', action='store_true', help='prints a line for each finding')
@@ -113,8 +111,7 @@ def outputs_of(words: argparse.Namespace) -> list[str | None]:
 
 
 def try_all(words: argparse.Namespace, recordings: Sequence[str]) -> None:
-    """Tries all outputs. The file of accepted findings may be replaced by another, and by nothing
-    else."""
+    """Tries all outputs. The file of accepted findings may be replaced by another of them alone."""
     try_outputs(outputs_of(words), recordings)
     for path in filter(None, outputs_of(words)[:-1]):
         check_output(path, accepted_by(words))
@@ -158,12 +155,12 @@ def compared_runs(words: argparse.Namespace, stack: ExitStack) -> int:
 
 def whole_of(program: str, folder: Path, names: list[str], inputs: list[str],
              runs: Sequence[Taken]) -> Whole:
-    """Checks both runs, and prints what is refused. Raises `NothingToCompare` if a run has no call
-    that can be compared."""
+    """Checks both runs, and prints what is refused. Raises `NothingToCompare`."""
     progress = Progress()
     progress.begin('checking both runs')
     trial = Trial(program, folder, runs, progress)
-    covers = covers_of(program, runs, trial.captures)
+    checks = [[program, 'check', capture] for capture in trial.captures]
+    covers = list(map(partial(cover_of, program), runs, run_side_by_side(checks, CHECKED)))
     progress.end()
     for cover, name in zip(covers, names):
         if not cover.size.calls:
@@ -215,8 +212,7 @@ def explain(words: argparse.Namespace, whole: Whole, line: str, report: Report,
 
 
 def is_told(words: argparse.Namespace, report: Report) -> bool:
-    """Whether findings are printed. Those that do not count in another order are if all are asked
-    for."""
+    """Whether findings are printed. Those that do not count in another order are with --all."""
     return report.found.same_under is None or bool(words.all)
 
 
@@ -238,14 +234,12 @@ def print_comparison(words: argparse.Namespace, whole: Whole, report: Report, co
 
 
 def colour_of_word(word: str, is_good: bool) -> Colour:
-    """The colour of a verdict."""
     if is_good:
         return Colour.GREEN
     return Colour.YELLOW if word.startswith('same') else Colour.RED
 
 
 def coloured(line: str, screen: Screen) -> str:
-    """Returns a line of a finding, as `diff` colours it."""
     sign = SIGN.match(line)
     return screen.painted(line, SIGN_COLOURS[sign[1]]) if sign else line
 

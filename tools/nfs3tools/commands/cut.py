@@ -6,8 +6,8 @@
 The manual page, tools/man/cut.1, has the rest.
 
 The status is 0 if OUT was written, 1 if there is no such position, or if a record cannot be read in
-OUT.pcap or a frame not be trimmed, 2 if POSITION, RECORDING, FILTER or OUT is refused or a program
-is missing, 3 if a file, a program or memory failed.
+OUT.pcap or a frame not be trimmed, 2 if POSITION, RECORDING or OUT is refused or a program is
+missing, 3 if a file, a program or memory failed.
 """
 from __future__ import annotations
 
@@ -48,8 +48,7 @@ HEAD_TO_MTYPE = 8  # bytes: the xid and mtype, without which a record has no xid
 
 
 class WantedRecords(NamedTuple):
-    """What is wanted of a connection: the records with some xids, and a record of a side that has
-    none."""
+    """What is wanted of a connection: records with some xids, and records of a side without one."""
     xids: set[int]
     without: set[tuple[Side, int]]
 
@@ -79,20 +78,14 @@ def wanted_at(taken: Taken, places: Iterable[Place]) -> dict[int, WantedRecords]
 
 
 def cut_of(connection: TakenConnection, wanted: WantedRecords) -> Cut:
-    return Cut(connection, {side: dict(picked(connection.stream(side), side, wanted))
-                            for side in SIDES})
-
-
-def picked(stream: TakenStream, side: Side, wanted: WantedRecords) -> Iterator[tuple[int, Extent]]:
-    """Iterates over the records that are wanted of a side, with their numbers."""
-    for number, (extent, xid, _) in enumerate(xids(Window(stream), 0, stream.size), 1):
-        if xid in wanted.xids or (side, number) in wanted.without:
-            yield number, extent
+    return Cut(connection, {side: {
+        number: extent for stream in [connection.stream(side)]
+        for number, (extent, xid, _) in enumerate(xids(Window(stream), 0, stream.size), 1)
+        if xid in wanted.xids or (side, number) in wanted.without} for side in SIDES})
 
 
 def origins_of(program: str, taken: Taken, places: Iterable[Place], name: str) -> list[Place]:
-    """Returns the calls that gave the handles of the exchanges at some places, and their own.
-    Raises `NotTaken` if the whole is refused."""
+    """Returns the calls that gave the handles at some places. Raises `NotTaken` if refused."""
     with held():
         folder = tempfile.TemporaryDirectory(prefix='nfs3canon')
     with folder:
@@ -111,8 +104,7 @@ def origins_of(program: str, taken: Taken, places: Iterable[Place], name: str) -
 
 def cuts_at(program: str, taken: Taken, place: Place | FramePlace, has_origins: bool,
             name: str) -> list[Cut]:
-    """Returns what is cut out for a place. Raises `NoPlace` if there is none, and what `origins_of`
-    does."""
+    """Returns what is cut out for a place. Raises `NoPlace`, and what `origins_of` does."""
     places = [one for one in places_at(taken, place) if isinstance(one, Place)]
     wanted = wanted_at(taken, places)
     if has_origins:
@@ -173,8 +165,6 @@ def write_cuts(program: str, taken: Taken, cuts: list[Cut], _: str, out: str,
             (answer.out or answer.error).strip()], 0
 
 
-# --- As a recording ---
-
 class Extract(NamedTuple):
     """A recording of some frames, and where it has the records of a cut: those there with their
     places here, if they can be read. Frames that are not trimmed have their numbers here."""
@@ -224,8 +214,7 @@ def write_recording(program: str, taken: Taken, cuts: list[Cut], recording: str,
 
 
 def bytes_by_frame(taken: Taken, records: Iterable[Place]) -> Mapping[int, list[tuple[int, int]]]:
-    """Returns what is wanted of the payload of each frame: the bytes of these records, by their
-    sequence numbers."""
+    """Returns what is wanted of the payload of each frame: bytes by their sequence numbers."""
     wanted = defaultdict[int, list[tuple[int, int]]](list)
     for place in records:
         stream, extent = taken.record_at(place)
@@ -246,8 +235,7 @@ def extract_of(program: str, frames: list[Frame], untrimmed: list[int], cuts: li
 
 
 def places_in(extract: Taken, cut: Cut) -> Iterator[tuple[Place | None, Place]]:
-    """Iterates over the records of a cut, each with the place of the same record in an extract, if
-    it can be read there."""
+    """Iterates over the records of a cut, each with its place in an extract, if it is there."""
     ends = cut.connection.client_end, cut.connection.server_end
     same = [one for one in extract.connections if (one.client_end, one.server_end) == ends]
     for side in SIDES:

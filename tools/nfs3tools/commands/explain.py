@@ -6,19 +6,18 @@
 
 The manual page, tools/man/explain.1, has the rest.
 
-The status is 0, 1 if there is no such position or the frame carries no record, 2 if POSITION, FILE
-or FILTER is refused, 3 if a file or memory failed.
+The status is 0, 1 if there is no such position or the frame carries no record, 2 if POSITION or
+FILE is refused, 3 if a file or memory failed.
 """
 from __future__ import annotations
 
 import sys
-from collections.abc import Sequence
 from functools import partial
 
 from ..captures.explained import reason_in_words, tell_record
 from ..captures.located import Within, located
 from ..recordings.carried import places_at
-from ..recordings.taken import FrameRef, NotTaken
+from ..recordings.taken import NotTaken
 from ..reporting.frames import place_lines
 from ..reporting.messages import (
     ABSENT, add_options, ended, options_of, parser_of, position_text, run)
@@ -31,18 +30,12 @@ AID = 'A reader\'s aid, and no part of what is proved.'
 
 def explain_record(within: Within, place: Place, reason: str | None) -> None:
     found = within.record(place)
-    tell_frames(within, place, found.frames)
+    if within.taken and found.frames:
+        print('\n'.join(place_lines(within.taken, place, found.frames)))
     tell_record(found, place, reason, print)
 
 
-def tell_frames(within: Within, place: Place, frames: list[FrameRef]) -> None:
-    """Prints the frames of a position of a recording."""
-    if within.taken and frames:
-        print('\n'.join(place_lines(within.taken, place, frames)))
-
-
 def of_container(place: FilePlace, reason: str | None) -> str:
-    """What is said of a byte that is of no record."""
     meant = f'{reason_in_words(reason)}; ' if reason else ''
     advice = as_called('`tools/from_pcap` makes one of a recording, and ')
     return (f'{place} is no byte of a record: {meant}{advice if reason == "BadMagic" else ""}'
@@ -64,10 +57,7 @@ def main(command_line: list[str]) -> int:
         with located(words.file, options_of(words)) as within:
             if isinstance(place, FramePlace) and within.taken is None:
                 raise NotTaken(f'{escaped(words.file)} is a capture, which has no frames')
-            found: Sequence[Place | FilePlace | FramePlace] = [place]
-            if within.taken:
-                found = places_at(within.taken, place)
-            for one in found:
+            for one in places_at(within.taken, place) if within.taken else (place,):
                 if isinstance(one, Place):
                     explain_record(within, one, reason)
     except NoPlace as absent:

@@ -1,15 +1,14 @@
 """Makes a capture out of a recording of packets, as tcpdump and Wireshark write them.
 
-    tools/from_pcap [--port PORT,..] [--filter FILTER] RECORDING OUT
+    tools/from_pcap [--port PORT,..] RECORDING OUT
 
 The manual page, tools/man/from_pcap.1, has the rest.
 
-The status is 0 if OUT was written, 1 if no connection is taken, 2 if RECORDING, OUT or FILTER is
-refused or tshark is missing, 3 if a file, tshark or memory failed.
+The status is 0 if OUT was written, 1 if no connection is taken, 2 if RECORDING or OUT is refused,
+3 if a file or memory failed.
 """
 from __future__ import annotations
 
-import argparse
 import sys
 from functools import partial
 
@@ -27,8 +26,6 @@ def main(words: list[str]) -> int:
     parser.add_argument('recording', metavar='RECORDING')
     parser.add_argument('out', metavar='OUT')
     add_options(parser)
-    # Which packed the streams once; scripts may name it still
-    parser.add_argument('--program', help=argparse.SUPPRESS)
     chosen = parser.parse_args(words)
     try_outputs([chosen.out], files_of(chosen.recording), (CAPTURE,))
     with take(chosen.recording, options_of(chosen), frames=False) as taken:

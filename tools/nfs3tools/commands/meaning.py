@@ -65,7 +65,6 @@ LIKENESS = 0.4  # how much of a word is that of one near it
 
 
 class AcceptedRules(NamedTuple):
-    """A file of accepted findings, and what it accepts."""
     path: str = ''
     entries: Sequence[RuleAndServer] = ()
 
@@ -100,13 +99,11 @@ class FindingRow:
         return NOTE if self.by == NOTE else ACCEPTED if self.accepted else FINDING
 
     def fits(self, entry: RuleAndServer) -> bool:
-        """Whether an entry accepts them."""
         return entry[0] in (ANY, self.rule) and entry[1] in (ANY, self.server)
 
 
 class RecordingFindings:
-    """The findings of a recording, whose exchanges are in a temporary file. Of a rule that is not
-    wanted nothing is found."""
+    """The findings of a recording, by the rules that are wanted. Calls are in a temporary file."""
 
     def __init__(self, recording: str, chosen: argparse.Namespace, looked: Looked) -> None:
         self.recording, self.chosen, self.looked = escaped(recording), chosen, looked
@@ -140,13 +137,11 @@ class RecordingFindings:
         return self.rows[key]
 
     def frame(self, finding: RuleFinding) -> int:
-        """Returns the frame that breaks a rule: that of the call if it is the client's."""
         one = self.kept.exchange(finding.number)
         is_call = (finding.by or RULES[finding.rule].by) == CLIENT or not one.answered
         return one.frame if is_call else one.answered[0].frame
 
     def words(self, finding: RuleFinding) -> str:
-        """Returns the frame of an exchange, its call, and how it breaks a rule."""
         one = self.kept.exchange(finding.number)
         frame = f'frame {self.frame(finding)}' if one.frame else f'{one.part.number}:{one.record}'
         return printable(f'{frame}: {" ".join(call_text(one).split())}: {finding.text}')
@@ -164,8 +159,7 @@ class RecordingFindings:
                    source.frame or None if source else None, row.accepted)
 
     def print(self, screen: Screen) -> None:
-        """Prints a table for a reader, or all findings. Those of several recordings come after
-        their names."""
+        """Prints a table for a reader, or all findings; of several recordings after their names."""
         rows = [row for row in self.rows.values() if self.chosen.notes or row.kind != NOTE]
         if len(self.chosen.recordings) > 1:
             print(f'{self.recording}:')
@@ -221,7 +215,6 @@ class FindingsReport:
         return count(len({row.rule for row in self.rows if row.kind == FINDING}), 'rule')
 
     def members(self) -> dict[str, object]:
-        """What is below the findings in JSON."""
         names = (*FINDING_HEADS[:-1], 'accepted')
         rows = [{name: getattr(row, name) for name in names} for row in self.rows]
         return {'rules': rows, 'looked_at': self.looked.members(),
@@ -233,8 +226,7 @@ class FindingsReport:
                 if not any(row.fits(entry) for row in self.rows)]
 
     def lines(self) -> list[str]:
-        """What is no longer found, how many findings there are, how much was looked at, and the
-        counts."""
+        """What is no longer found, the numbers of findings, what was looked at, and the counts."""
         numbers = self.numbers()
         taken = f', {numbers[ACCEPTED]:,} accepted' if self.chosen.accept.path else ''
         return [*self.no_longer_found(),
@@ -267,8 +259,6 @@ def print_all(told: FindingsReport) -> None:
         print(*told.lines(), sep='\n', file=sys.stderr if form else sys.stdout)
 
 
-# --- What is written ---
-
 def junit_of_findings(told: FindingsReport) -> Iterator[bytes]:
     """A case for each rule and server, and one for the verdicts, with the counts as properties."""
     counts, tag = counts_after(told.verdicts).numbers(), 'failure'
@@ -283,8 +273,7 @@ def junit_of_findings(told: FindingsReport) -> Iterator[bytes]:
 
 
 def findings_page(told: FindingsReport) -> Iterator[bytes]:
-    """A page whose headline and status are those of the command, with the findings first. It is
-    green only if something was looked at."""
+    """The page of the findings, with the status of the command: green if something was asked."""
     numbers, allowed = told.numbers(), allowed_of(told.chosen)
     headline = (headline_of(told.seen, allowed, 'No answer is known to be wrong', 'same')
                 if told.looked.exchanges else

@@ -73,8 +73,7 @@ class TallyTable(typing.NamedTuple):
 
 
 def sorted_by(column: str, names: list[str], *several: Tallies) -> list[str]:
-    """Returns names of procedures with the largest number of a column first, in whichever of
-    several tables that is; without a number last."""
+    """Returns names by the largest number of a column in several tables; those without are last."""
     if column == BY_PROCEDURE:
         return names
     at = SORT_COLUMNS.index(column)
@@ -87,8 +86,7 @@ def sorted_by(column: str, names: list[str], *several: Tallies) -> list[str]:
 
 
 class CountedRecording(typing.NamedTuple):
-    """A recording with its verdicts and what a page shows besides, the tables of its connections,
-    and that of all of them."""
+    """A recording with what a page shows of it, the tables of its connections, and that of all."""
     seen: Seen
     tables: list[TallyTable]
     in_all: TallyTable
@@ -130,12 +128,11 @@ def counted(judge: Judge, recording: str, chosen: argparse.Namespace) -> Counted
                             in_all)
 
 
-# --- What is printed ---
-
 def tally_row(name: str, tally: Tally, is_named: bool, screen: Screen) -> Styled:
     """A row. The longest latency is named by its recording, or not."""
     cells = [name, *number_texts(numbers_of(tally), screen), longest_of(tally, is_named),
-             errors_of(tally.errors, screen)]
+             ', '.join(f'{error} {screen.number(number)}'
+                       for error, number in most_first(tally.errors)) or '-']
     return Styled(cells, Colour.RED if tally.errors else None)
 
 
@@ -147,7 +144,6 @@ def number_texts(numbers: Sequence[int | None], screen: Screen) -> list[str]:
 
 
 def longest_of(tally: Tally, is_named: bool) -> str:
-    """Where the longest latency is."""
     longest = tally.longest
     if longest is None:
         return '-'
@@ -155,18 +151,12 @@ def longest_of(tally: Tally, is_named: bool) -> str:
     return printable(f'{escaped(longest.recording)} {place}') if is_named else place
 
 
-def errors_of(errors: Counter[str], screen: Screen) -> str:
-    return ', '.join(f'{name} {screen.number(number)}'
-                     for name, number in most_first(errors)) or '-'
-
-
 def most_first(errors: Counter[str]) -> list[tuple[str, int]]:
     return sorted(errors.items(), key=lambda error: (-error[1], error[0]))
 
 
 def print_table(title: str, table: TallyTable, column: str, screen: Screen) -> None:
-    """Prints a table below its title, which is alone if there is nothing in the table. An empty
-    line is before it."""
+    """Prints an empty line, a title and a table below it, if there is something in it."""
     print(f'\n{title}{told_of_clock(total_of(table.tallies))}')
     if not table.tallies:
         return
@@ -181,14 +171,12 @@ def table_rows(table: TallyTable, column: str, screen: Screen) -> list[Styled]:
 
 
 def told_of_clock(tally: Tally) -> str:
-    """What is said of negative latencies."""
     number = tally.backward
     are = plural(number, 'latency is', 'latencies are')
     return f'; the clock went back: {number:,} {are} negative' if number else ''
 
 
 def table_title(verdict: Verdict, screen: Screen) -> str:
-    """The title of a connection's table, with its verdict."""
     ends = f': client {verdict.client}, server {verdict.server}' if verdict.client else ''
     how_far = '; counted up to there' if verdict.state == 'refused' else ''
     word = screen.painted(printable(verdict.message), colour_of(verdict))
@@ -213,13 +201,11 @@ def print_tables(found: Sequence[CountedRecording], is_total: bool, column: str,
 
 
 def in_all_of(found: Sequence[CountedRecording]) -> TallyTable:
-    """The table of all recordings."""
     return TallyTable(None, None, sum_of(one.in_all.tallies for one in found))
 
 
 def print_beside(first: CountedRecording, second: CountedRecording, column: str,
                  screen: Screen) -> None:
-    """Prints two recordings in one table."""
     for name, one in zip('AB', (first, second)):
         seen, told = one.seen, told_of_clock(total_of(one.in_all.tallies))
         for verdict in seen.verdicts:
@@ -233,7 +219,6 @@ def print_beside(first: CountedRecording, second: CountedRecording, column: str,
 
 def rows_beside(first: CountedRecording, second: CountedRecording, column: str,
                 screen: Screen) -> list[Styled]:
-    """The rows of two recordings in one table, that of the heads first."""
     here, there = (dict(one.in_all.rows()) for one in (first, second))
     names = [*sorted_by(column, procedures_in_order({*here, *there} - {IN_ALL}), here, there),
              IN_ALL]
@@ -265,8 +250,6 @@ def percent_change(first: int | None, second: int | None) -> str:
             else '')
 
 
-# --- The page ---
-
 def procedures_page(found: Sequence[CountedRecording],
                     chosen: argparse.Namespace) -> Iterator[bytes]:
     """The page: the tables that are printed, and a time line for each recording."""
@@ -292,7 +275,6 @@ def procedures_page(found: Sequence[CountedRecording],
 
 
 def shown_table(title: str, table: TallyTable, column: str) -> ShownTable:
-    """A table as it is printed, for the page."""
     return shown_of(title + told_of_clock(total_of(table.tallies)),
                     table_rows(table, column, ON_PAGE))
 
@@ -304,8 +286,6 @@ def shown_of(title: str, styled: Sequence[Styled]) -> ShownTable:
                       [at for at, head in enumerate(heads) if head in PROCEDURE_HEADS[1:-1]])
 
 
-# --- What is written ---
-
 def tally_object(name: str, tally: Tally) -> dict[str, typing.Any]:
     numbers, longest = numbers_of(tally), tally.longest
     position = longest and str(Place(longest.connection, 'client', longest.record))
@@ -316,15 +296,13 @@ def tally_object(name: str, tally: Tally) -> dict[str, typing.Any]:
 
 
 def whose(table: TallyTable) -> dict[str, typing.Any]:
-    """The recording and the connection of a table."""
     verdict = table.verdict or Verdict('')
     return {'recording': None if table.recording is None else escaped(table.recording),
             'connection': verdict.connection, 'client': verdict.client, 'server': verdict.server}
 
 
 def json_of_tables(found: Sequence[CountedRecording], column: str) -> bytes:
-    """The verdicts, as tools/verdicts writes them, and the tables; of each the last object of its
-    procedures is the sum."""
+    """The verdicts and the tables; of each the last object of its procedures is the sum."""
     verdicts = verdicts_in(one.seen for one in found)
     tables = [{**whose(table), 'procedures': [tally_object(*row) for row in table.rows(column)]}
               for one in found for table in (*one.tables, one.in_all)]
@@ -333,8 +311,7 @@ def json_of_tables(found: Sequence[CountedRecording], column: str) -> bytes:
 
 
 def csv_of(found: Sequence[CountedRecording], column: str) -> bytes:
-    """The tables in one, without the rows of sums. The rows of a recording in all have no
-    connection."""
+    """The tables in one, without sums. The rows of a recording in all have no connection."""
     text = io.StringIO()
     rows = [{**whose(table), **tally_object(*row),
              'errors': ' '.join(f'{name}={number}' for name, number in most_first(row[1].errors))}
@@ -346,8 +323,6 @@ def csv_of(found: Sequence[CountedRecording], column: str) -> bytes:
     writer.writerows(rows)
     return text.getvalue().encode()
 
-
-# --- The command ---
 
 def command_line_of_procedures(words: list[str]) -> argparse.Namespace:
     parser = parser_of(__doc__, 'procedures')

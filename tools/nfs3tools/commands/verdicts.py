@@ -35,7 +35,7 @@ from ..recordings.selection import Options
 from ..recordings.taken import NotTaken, Taken, TakenConnection, take
 from ..reporting.junit import Suite
 from ..reporting.messages import (
-    add_gone, add_recordings, allowed_of, failure_text, options_of, parser_of, run)
+    add_recordings, allowed_of, failure_text, options_of, parser_of, run)
 from ..shared.outputs import writing
 from ..shared.places import Place, parse_fault
 from ..shared.printed import escaped, printable
@@ -107,8 +107,7 @@ class Judge(typing.NamedTuple):
         return verdict._replace(notes=connection.notes, seconds=time.monotonic() - begin)
 
     def of_container(self, recording: str, others: list[Verdict]) -> list[Verdict]:
-        """The verdict on a capture that is not whole, unless it is that on one of its
-        connections."""
+        """The verdict on a capture that is not whole, unless one of its connections has it."""
         answer = run_program(self.program, ['check', *files_of(recording)], CHECKED)
         fault = parse_fault(answer.error)
         if fault is None:
@@ -138,8 +137,6 @@ def with_unanswered(verdicts: list[Verdict], taken: Taken) -> list[Verdict]:
     return counted
 
 
-# --- The command ---
-
 def main(words: list[str]) -> int:
     parser = parser_of(__doc__, 'verdicts')
     parser.add_argument('-q', '--quiet', action='store_true',
@@ -152,8 +149,6 @@ def main(words: list[str]) -> int:
     parser.add_argument('--growing', action='store_true',
                         help='takes a recording that ends inside a frame or a record as one that '
                              'is still made')
-    add_gone(parser, '--follow', 'while a recording is made, run '
-             '`watch -n 10 tools/verdicts --growing run.pcap`')
     add_recordings(parser)
     return judged_all(parser.parse_args(words))
 
@@ -182,8 +177,7 @@ def judged_all(chosen: argparse.Namespace) -> int:
 
 def judged_recordings(judge: typing.Callable[[str], Seen], recordings: list[str],
                       at_once: int) -> typing.Iterator[Seen]:
-    """Iterates over what is said of recordings, in their order. Processes of their own judge them
-    if they are several."""
+    """Iterates over what is said of recordings, in order. Several are judged by processes."""
     processes, is_shown = min(at_once, len(recordings)), sys.stderr.isatty()
     with contextlib.ExitStack() as pools:
         map_all: typing.Callable[..., typing.Iterator[Seen]] = map
@@ -206,11 +200,8 @@ def leave_interrupts() -> None:
     signal.signal(signal.SIGTERM, signal.SIG_DFL)
 
 
-# --- What is printed and written ---
-
 def print_verdicts(verdicts: list[Verdict], is_quiet: bool, screen: Screen) -> None:
-    """Prints a row for each verdict but those on connections that show no call, which with all
-    notes go to standard error."""
+    """Prints a row for each verdict; notes, and connections that show no call, go elsewhere."""
     tell_notes(verdicts)
     rows = [Styled(verdict_row(verdict, screen), colour_of(verdict)) for verdict in verdicts
             if is_row(verdict, is_quiet)]
@@ -253,7 +244,6 @@ def name_of_case(verdict: Verdict) -> str:
 
 
 def json_of_verdicts(verdicts: list[Verdict]) -> bytes:
-    """The verdicts as JSON, with the version of this form, the counts, and an object for each."""
     whole = {'version': VERDICTS_VERSION, 'counts': counts_after(verdicts).members(),
              'rows': [*map(verdict_object, verdicts)]}
     return json.dumps(whole, indent=1).encode() + b'\n'

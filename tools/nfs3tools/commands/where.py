@@ -7,7 +7,7 @@
 The manual page, tools/man/where.1, has the rest.
 
 The status is 0, 1 if the capture has no such position or the frame carries no record, 2 if
-POSITION, RECORDING or FILTER is refused, 3 if a file or memory failed.
+POSITION or RECORDING is refused, 3 if a file or memory failed.
 """
 from __future__ import annotations
 

@@ -24,8 +24,7 @@ SUCCESS = ' mtype=1 reply_stat=0 verf_flavor=0 verf_body= accept_stat=0 status=0
 
 
 class Answering:
-    """The exchanges of a connection, numbered from a first one: its calls, and then its replies,
-    each by its xid."""
+    """The exchanges of a connection, numbered from a first one: its calls, then replies by xids."""
 
     def __init__(self, first: int = 0) -> None:
         self.said = array('q')  # a hash of what each call says
@@ -40,8 +39,7 @@ class Answering:
         self.different = defaultdict[int, dict[int, int]](dict)
 
     def call(self, xid: int, said: Hashable) -> tuple[int, bool]:
-        """Takes a call with what it says after its xid. Returns its exchange, and whether it is the
-        first call of it."""
+        """Takes a call. Returns its exchange, and whether it is the first call of it."""
         self.said.append(hash(said))
         earlier = self.earlier(xid)
         self.owners.append(self.number if earlier is None else self.owners[earlier])
@@ -71,7 +69,6 @@ class Answering:
         return at if 0 <= at < self.counted else self.firsts.get(xid)
 
     def reply(self, xid: int) -> int:
-        """Takes a reply, and returns its exchange."""
         waiting = self.several.get(xid)
         if waiting is not None:
             return self.owners[waiting.popleft() if len(waiting) > 1 else waiting[0]]
@@ -81,8 +78,7 @@ class Answering:
 
 
 class UnreadCall(NamedTuple):
-    """A call in a stream, before it is known what it says: where its record begins and ends, and
-    its xid."""
+    """A call in a stream that is not read yet: where its record begins and ends, and its xid."""
     stream: TakenStream
     begin: int
     end: int
@@ -95,7 +91,6 @@ class UnreadCall(NamedTuple):
 
 
 def calls_in(stream: TakenStream) -> Iterator[UnreadCall]:
-    """Iterates over the records of a client."""
     return (UnreadCall(stream, extent.begin, extent.end, xid)
             for extent, xid, _ in xids(Window(stream), 0, stream.size))
 

@@ -1,16 +1,8 @@
 """What the answers of a run may say, by its changes and by its other answers.
 
-    history = History(known_as)
-    for exchange in exchanges:
-        history.take(exchange)
-    history.settle()
-    # Whether exchange 7 may say that a name is not there: True, False, or None for not known.
-    history.allows(7, Claim(name_key(folder, 'a name'), GONE))
-
 A change is a call that changes objects or names, and was answered OK or not at all. Its effects are
 those of `effects_of`, by objects and items, and by folders and names. What an answer says are its
-claims. `timelines` says which of these a run allows. And which names are in a folder at a time:
-those that a listing of it has to have.
+claims. `timelines` says which of these a run allows: True, False, or None for not known.
 """
 from __future__ import annotations
 
@@ -48,10 +40,9 @@ def name_key(folder: Hashable, name: str) -> HistoryKey:
 
 
 class CarriedOut(NamedTuple):
-    """An exchange of a run.
+    """An exchange of a run, from the frame of its call on.
 
-    source: its number
-    begin, answered: the frames of its call and of its first reply
+    answered: the frame of its first reply
     end: the frame after which it is not carried out any more, or STILL
     status, reply: None and nothing if the call was not accepted, or has no reply
     is_change: whether it changed something, or may have
@@ -68,12 +59,10 @@ class CarriedOut(NamedTuple):
 
     @property
     def handle(self) -> str:
-        """The first handle of the call."""
         return str(self.call.get(handle_items(self.procedure)[0], ''))
 
 
 class Claim(NamedTuple):
-    """What an answer says of a value."""
     key: HistoryKey
     value: Hashable
     is_before: bool = False
@@ -88,15 +77,13 @@ class Listed(NamedTuple):
 
 
 class History:
-    """The changes of a run, and what its answers say.
+    """The changes of a run, by keys, and what its answers say.
 
     known_as: what the object of a handle is called
     has_frames: whether it is known when exchanges were carried out; if not, a value has to be one
         that another answer has
-    changes: by keys
     shown: by objects, what answers say: exchanges and items
-    leads: by folders and names, to what these lead, by exchanges
-    names: the names of each folder
+    leads, names: by folders and names, to what these lead, by exchanges; the names of each folder
     listings, wholes: the longest ones of each folder, and the first that have all of its names
     results: by procedures and objects, what is said the same each time; of ACCESS what was asked
         and granted
@@ -174,7 +161,6 @@ class History:
             yield from self.claims_in(statement)
 
     def claims_in(self, statement: Statement) -> Iterator[Claim]:
-        """Iterates over what a statement says of an object that has a handle."""
         if statement.handle and not statement.name:
             own = self.known_as(statement.handle)
             for item in SHOWN_ITEMS:
@@ -184,8 +170,7 @@ class History:
     # --- What changes do ---
 
     def settle(self) -> None:
-        """Notes what changes do, after all was taken. To what a name led is known by those that
-        ended before."""
+        """Notes what changes do, after all was taken, in the order in which they ended."""
         self.waiting.sort(key=lambda one: one.end)
         self.led_by = defaultdict[HistoryKey, list[tuple[int, Hashable]]](list)
         for one in self.waiting:
@@ -197,8 +182,7 @@ class History:
         self.waiting = []
 
     def effects_of(self, one: CarriedOut) -> Iterator[tuple[HistoryKey, Effect]]:
-        """Iterates over what a change does: to each object of its call and to what it makes, and
-        to names and what these led to."""
+        """Iterates over what a change does: to objects, and to names and what these led to."""
         names = [name_key(self.known_as(folder), name)
                  for folder, name in names_in_call(one.procedure, one.call)]
         folders = dict.fromkeys(folder for folder, _ in names)
@@ -274,8 +258,7 @@ class History:
             yield (own, 'nlink'), Adds(-2, 0)
 
     def led(self, name: HistoryKey, begin: int) -> frozenset[Hashable]:
-        """Returns to which object a name led before a frame, by earlier changes and answers, or
-        nothing if that is not known."""
+        """Returns to which object a name led before a frame, or nothing if that is not known."""
         changed, said = self.led_by.get(name, []), self.said_of_names.get(name, [])
         last = max((some[at - 1] for some in (changed, said)
                     if (at := bisect_left(some, (begin,)))), key=itemgetter(0), default=(0, GONE))
@@ -320,8 +303,7 @@ class History:
         return self.timelines[key]
 
     def name_line(self, key: HistoryKey) -> Timeline:
-        """Returns to what a name leads when. MKDIR of the folder and whole listings say of names
-        that they are not there."""
+        """Returns to what a name leads when; by MKDIR and whole listings, that it is not there."""
         name, without = key[1][1:], list(self.made.get(key[0], ()))
         without += (one.source for one in self.wholes.get(key[0], ()) if name not in one.names)
         said = (*self.leads.get(key, ()), *((source, GONE) for source in without))
@@ -351,8 +333,7 @@ def listed_in(one: CarriedOut) -> Listed:
 
 
 def results_in(one: CarriedOut) -> tuple[Hashable, ...]:
-    """Returns what an answer says beside attributes and free space; of ACCESS also what was
-    asked."""
+    """Returns what an answer says beside attributes and free space, with what ACCESS asked."""
     if one.procedure == ACCESS:
         return one.call['access'], one.reply['access']
     return tuple(value for name, value in one.reply.items()
@@ -380,8 +361,6 @@ def lacking(history: History, folder: Hashable, listed: Listed,
 
 
 def names_behind(listed: Listed, listings: Iterable[Listed]) -> set[str]:
-    """Returns the names that other listings have behind the last one of a listing, or in a part
-    that is not its beginning."""
     last = max(listed.names, key=listed.names.__getitem__)
     return {name for other in listings if other.source != listed.source
             and (last in other.names or not other.is_first) for name, at in other.names.items()
@@ -389,8 +368,7 @@ def names_behind(listed: Listed, listings: Iterable[Listed]) -> set[str]:
 
 
 def times_of(name: str, line: Timeline, but: int) -> Iterator[Sighting]:
-    """Iterates over the times at which a name is there for sure: between changes that leave it, and
-    before all of them if answers say so."""
+    """Iterates over the times at which a name is there for sure, by changes and answers."""
     setters = line.setters
     begins = [*setters.begins, STILL]
     if is_there(line.initial(but)):

@@ -27,11 +27,9 @@ NOT_READ = 'accepted'  # what is said of results that are not read
 
 
 class Asked(NamedTuple):
-    """What a call asks.
+    """What a call of a user of AUTH_SYS asks.
 
-    user: the uid of AUTH_SYS
-    handle, entry: the object, or the folder and the name in it; of MNT and UMNT `entry` is the
-        whole path
+    handle, entry: the object, or the folder and the name in it, or the path of MNT and UMNT
     other, other_entry: the same of a second one, of RENAME and LINK
     words: the other arguments
     """
@@ -64,7 +62,6 @@ def number_named(name: str, value: int) -> str:
 
 
 def beginning_of(text: str) -> str:
-    """Returns a text, of a long one the beginning."""
     return text if len(text) <= LONGEST_TEXT else SPLIT.sub('', text[:LONGEST_TEXT]) + '..'
 
 

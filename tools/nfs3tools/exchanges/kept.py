@@ -1,11 +1,5 @@
 """The exchanges of a recording. What they say is kept in a temporary file, and read if it is asked
 for.
-
-    with contextlib.closing(Kept()) as kept:
-        kept.take(program, connection, is_refused=False)     # from the listing of `nfs3canon show`
-        for at in kept.in_order(by_latency=False):
-            one = kept.exchange(at)
-            print(one.frame, one.path, one.asked.words, one.answers)
 """
 from __future__ import annotations
 
@@ -32,9 +26,7 @@ WIDTH = 7  # of GETATTR and SETATTR, and of names that are shorter
 class KeptConnection(NamedTuple):
     """A connection whose exchanges are kept.
 
-    number, client, server: as those of what was taken
     paths: those of its handles, at times that are frames, or in a capture numbers of exchanges
-    is_refused: whether the program refuses it
     has_all_replies: whether a call of which no reply is listed got none
     """
     number: int
@@ -45,8 +37,7 @@ class KeptConnection(NamedTuple):
     has_all_replies: bool
 
     def path(self, handle: str | None, entry: str | None, frame: int) -> str | None:
-        """Returns the path of an object, or of a name in a folder, at the time of a frame. A folder
-        whose path is not known is `?`."""
+        """Returns the path of an object, or of a name in a folder, at a time; `?` is not known."""
         if handle is None:
             return entry
         path = self.paths.at(handle, frame) or UNKNOWN
@@ -65,18 +56,13 @@ class SentRecord(NamedTuple):
 class KeptExchange:
     """A call, with its retransmissions and its replies. What they say is read once it is asked for.
 
-    part: its connection
     record, frame, time: those of its call
-    again: its retransmissions
-    answered: its replies
+    again, answered: its retransmissions, and its replies
     latency: nanoseconds to the first reply
-    errors: the names of the errors of its replies
     is_error: whether a reply is no success, or the call got none
-    is_unanswered: as `Kept.is_unanswered` has it
     earlier, later: the positions of the same call on an earlier connection, of which it is a
         retransmission, as `7:3182`, and on a later one
     procedure: its name in the listing, or of a raw call that of its program and its procedure
-    listed: its name in the listing
     """
 
     def __init__(self, kept: 'Kept', at: int) -> None:
@@ -186,9 +172,7 @@ class Kept:
 
     parts, starts, part_of: the connections, the first exchange of each, and that of each exchange
     names, kinds: the procedures, and that of each exchange
-    records, xids, frames, times, sizes: of each call
-    again: retransmissions, by exchanges
-    errors: the errors of replies, by exchanges
+    again, errors: retransmissions and errors of replies, by exchanges
     """
 
     def __init__(self, values: LongValues | None = None, has_texts: bool = True) -> None:
@@ -225,10 +209,7 @@ class Kept:
             self.values.file.close()
 
     def take(self, program: str, connection: TakenConnection, is_refused: bool) -> None:
-        """Takes the exchanges of a connection, up to its fault if the program refuses it.
-
-        Raises what `listed_of` does.
-        """
+        """Takes the exchanges of a connection, up to its fault. Raises what `listed_of` does."""
         paths = self.paths.setdefault(connection.server_end.rpartition(':')[0], Paths())
         # (all replies are recorded if the end is, and no byte is missing but for the beginning)
         lacks = bool(connection.missing or {*connection.lacks} - {BEGUN_BEFORE})
@@ -319,8 +300,7 @@ class Kept:
         return answered - sent if answered else UNTIMED
 
     def is_unanswered(self, at: int) -> bool:
-        """Whether a call got no reply on its connection, and neither did the same one on an earlier
-        connection, in whose place it would be."""
+        """Whether a call got no reply, nor did the same one on an earlier connection."""
         if self.firsts[at] or self.parts[self.part_of[at]].is_refused:
             return False
         before = self.earlier.get(at)
@@ -346,12 +326,10 @@ class Kept:
         return range(self.starts[number], ends[number])
 
     def listed_name(self, at: int) -> str:
-        """Returns the procedure of an exchange as the listing names it."""
         name = self.names[self.kinds[at]]
         return name if name in BY_NAME else RAW.name
 
     def replies_of(self, at: int) -> Sequence[int]:
-        """Returns the numbers of the replies of an exchange."""
         first = self.firsts[at]
         return (first - 1, *self.further.get(at, ())) if first else ()
 

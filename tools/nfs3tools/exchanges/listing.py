@@ -54,8 +54,7 @@ def place_of(line: str) -> LinePlace:
 
 
 class Message(Line):
-    """A call or a reply, where it is in its capture, and what it says. Its text may have marks for
-    long values, which `values` has."""
+    """A call or a reply, where it is in its capture, and what it says, perhaps with marks."""
     values: LongValues | None = None
 
     @property
@@ -87,20 +86,16 @@ class Message(Line):
 
 
 def value_in(items: Items, name: str) -> str | None:
-    """Returns the text of the first item of a name."""
     return next((str(item.value) for item in items if item.name == name), None)
 
 
 @dataclass
 class Exchange:
-    """A call and its replies."""
     call: Message
     replies: list[Message] = field(default_factory=list)
 
 
 def name_of_call(name: str, said: str) -> str:
-    """Returns the name of a call's procedure: that of the listing, or of a raw call that of its
-    program and its procedure."""
     if name != RAW.name:
         return name
     read = CALLED_NUMBERS.match(said)
@@ -109,8 +104,6 @@ def name_of_call(name: str, said: str) -> str:
     return call_named(program, version, procedure)
 
 
-# --- The listing of a connection that was taken ---
-
 def is_call(line: str) -> bool:
     """Whether a line of a listing of one connection is that of a call, as `1 client 1 ..` is."""
     return line[2] == 'c'
@@ -118,13 +111,9 @@ def is_call(line: str) -> bool:
 
 def listed_of(program: str, connection: TakenConnection,
               is_refused: bool) -> Iterator[tuple[str, Completion]]:
-    """Iterates over the lines of a connection's listing, as that of connection 1, first those of
-    its calls and then those of its replies: up to its fault if the program refuses it. Each comes
-    with what completed its record.
-
-    Raises `Died` if the program does not end as that says, and `OSError` if a temporary file cannot
-    be written.
-    """
+    """Iterates over the lines of a connection's listing, as that of connection 1, first its calls
+    and then its replies, up to its fault if the program refuses it, each with what completed its
+    record. Raises `Died` if the program ends otherwise, and `OSError`."""
     calls, replies = connection.client.completions(), connection.server.completions()
     with tempfile.TemporaryFile(prefix='nfs3canon') as capture:
         try:

@@ -54,8 +54,7 @@ def handles_given(procedure: str, said: str) -> Iterator[tuple[str | None, str]]
 
 
 class Origin(NamedTuple):
-    """Where an object is: its folder's handle (None if its name is a whole path), its name, and
-    whether it was made there."""
+    """An object's folder, None if its name is a whole path, its name, and if it was made there."""
     folder: str | None
     name: str
     is_made: bool
@@ -109,8 +108,7 @@ class Paths:
 
     @cached_property
     def history(self) -> dict[str, list[tuple[int, Origin]]]:
-        """The origins of each handle that was moved, each with the frame from which on it holds,
-        after all was learned."""
+        """The origins of handles that were moved, each with the frame from which on it holds."""
         out = defaultdict[str, list[tuple[int, Origin]]](list)
         there = dict[tuple[str, str], str]()
         events = sorted([*self.found, *self.moves], key=lambda one: one.frame)
@@ -123,8 +121,7 @@ class Paths:
         return out
 
     def at(self, handle: str, frame: int = 0) -> str | None:
-        """Returns the path of a handle at the time of a frame, if one is known, after all was
-        learned. A folder that is not known is `?`."""
+        """Returns the path of a handle at the time of a frame, if one is known; `?` is not."""
         turn = bisect_right(self.turns, frame) if self.moves else 0
         if turn != self.turn:
             self.turn, self.known = turn, {}

@@ -1,8 +1,5 @@
 """Which procedures of NFS version 3 change, make, remove and list, whose attributes a reply has,
-and which names a call: by tables.
-
-    for statement in statements_in(RENAME, call, reply): ..
-"""
+and which names a call: by tables."""
 from __future__ import annotations
 
 import functools

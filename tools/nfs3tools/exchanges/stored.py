@@ -22,10 +22,7 @@ LONG_MARK = '#'  # with which no value of a listing begins
 
 @dataclass(frozen=True)
 class Long:
-    """The bytes of a long value, in a temporary file.
-
-    digest, size: SHA-256 of the bytes, and how many there are
-    """
+    """The bytes of a long value, in a temporary file, their SHA-256, and how many there are."""
     digest: str
     size: int
     begin: int = field(compare=False)
@@ -55,13 +52,11 @@ Value = Union[str, Long]
 
 
 def spelled(value: Value) -> str:
-    """Returns all of a value, as the listing spells it."""
     return value[:].hex() if isinstance(value, Long) else value
 
 
 class LongValues:
-    """Long values of a listing in a temporary file, which is there as long as one of them is.
-    Strings in quotes are none."""
+    """Long values of a listing in a temporary file, but for strings in quotes."""
 
     def __init__(self) -> None:
         self.file: IO[bytes] | None = None
@@ -91,8 +86,7 @@ class LongValues:
 
 
 def begin_of_long(text: str) -> int | None:
-    """Returns where the long value of some items begins, if there is one. Data and raw bytes are
-    long, which are the last item of a message."""
+    """Returns where a long value begins, which is the last item of a message, if there is one."""
     if len(text) <= DIGITS_IN_TEXT:
         return None
     begin = text.rfind('=') + 1

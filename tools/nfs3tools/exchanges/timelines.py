@@ -20,8 +20,7 @@ SET_USER, SET_GROUP = 0o4000, 0o2000  # bits of a mode
 
 
 class Sets(NamedTuple):
-    """A change that leaves one of these values. If there are none, answers say which. `found` are
-    the values before, if it says them."""
+    """A change that leaves one of these values, if it says them. `found` are those before."""
     values: frozenset[Hashable] = frozenset()
     found: frozenset[Hashable] = frozenset()
 
@@ -85,7 +84,6 @@ class Highest:
             begin, end = begin >> 1, end >> 1
 
     def of(self, begin: int, end: int) -> int:
-        """Returns the highest of a part, or 0."""
         return max((self.tree[node] for node in self.nodes(begin, end)), default=0)
 
     def reaching(self, end: int, least: int) -> Iterator[int]:
@@ -105,10 +103,7 @@ Spanned = TypeVar('Spanned', bound=Union[ValueChange, Sighting])
 
 
 class Spans(Generic[Spanned]):
-    """Changes or answers, which are found by their frames without looking at all.
-
-    begun, ended: all of them, in the order of their begins, and of their ends
-    """
+    """Changes or answers by their frames: in the order of their begins, and of their ends."""
 
     def __init__(self, some: Iterable[Spanned]) -> None:
         self.begun = sorted(some, key=lambda one: one.begin)
@@ -195,8 +190,7 @@ class Timeline:
         return values | same, not near and not over and bool(same)
 
     def met(self, asked: Sighting) -> tuple[list[ValueChange], list[ValueChange]]:
-        """Returns the last changes before an answer, and those that overlap it. A change is before
-        its own answer."""
+        """Returns the last changes before an answer, its own too, and those that overlap it."""
         own = [] if asked.is_before else self.setters.of_source.get(asked.source, [])
         over = [one for one in self.setters.between(asked.begin, asked.end)
                 if one.source != asked.source]
@@ -211,8 +205,7 @@ class Timeline:
         return {*change.effect.values, *told} or self.shown_after(change).but(source)
 
     def shown_after(self, change: ValueChange) -> SaidValues:
-        """Returns what answers say after a change, and before the next one. If another overlaps it,
-        they say nothing of the change."""
+        """Returns what answers say between a change and the next, if no other overlaps it."""
         if change not in self.after_changes:
             is_alone = self.setters.between(change.begin, change.end) == [change]
             end = next((one.begin for one in self.setters.after(change.end, 1)), None)
@@ -253,8 +246,7 @@ class Timeline:
 
     def passed(self, one: Sighting,
                asked: Sighting) -> tuple[list[ValueChange], list[ValueChange]]:
-        """Returns the changes that were carried out between two answers, and those that may have
-        been."""
+        """Returns the changes that were carried out between two answers, and that may have been."""
         first, second = (one, asked) if one.end < asked.begin else (asked, one)
         is_apart = first.end < second.begin
         surely, maybe = list[ValueChange](), list[ValueChange]()
@@ -297,8 +289,7 @@ class Mode(Timeline):
 
 
 class FileSize(Timeline):
-    """The size of a file: what was set, or the end of a WRITE, of which a part may be done while it
-    is carried out."""
+    """The size of a file: what was set, or the end of a WRITE, which may be done in part."""
 
     def __init__(self, changes: Iterable[ValueChange], sights: Iterable[Sighting]) -> None:
         super().__init__(changes, sights)
@@ -326,8 +317,7 @@ class FileSize(Timeline):
         return asked.value in same if same else None
 
     def grown(self, end: int, at_base: Sequence[ValueChange], begin: int) -> int:
-        """Returns the largest end of the WRITEs that were carried out between two frames. Those
-        `at_base` may have been carried out before."""
+        """Returns the largest end of the WRITEs between two frames, but for some `at_base`."""
         first, last = bisect_right(self.writes.ends, end), bisect_left(self.writes.ends, begin)
         turns = [turn for turn in sorted(map(self.turns.__getitem__, at_base))
                  if first <= turn < last]
@@ -341,8 +331,7 @@ class FileSize(Timeline):
                 yield change.effect
 
     def bases(self, asked: Sighting) -> Iterator[tuple[int, int, Hashable]]:
-        """Iterates over sizes that are known before, each with the frames between which it was so,
-        and None for one that is not known."""
+        """Iterates over sizes before, each with its frames, and None for one that is not known."""
         near, over = self.met(asked)
         for change in (*near, *over):
             for size in self.left(change, asked.source) or {None}:

@@ -45,12 +45,8 @@ ITEM_KINDS: Mapping[str, tuple[str, Callable[[str], object]]] = {
 
 
 class Layout:
-    """How the items of a layout are read.
-
-    pattern, names, makers: a pattern, the names of its groups, and what makes a value of each
-    has_data: whether the data of a file follow
-    entry: the layout of the entries of a directory, if these follow
-    """
+    """How the items of a layout are read: a pattern, the names of its groups, and what makes values
+    of them. Data of a file may follow, or entries of a directory, in a layout of their own."""
 
     def __init__(self, text: str) -> None:
         first, _, rest = text.partition(LIST)
@@ -80,7 +76,6 @@ class Layout:
         return f' {name or item}{pattern}' + (f'(?:{cases}|)' if cases else '')
 
     def read(self, said: str, at: int, long_values: LongValues | None) -> Values:
-        """Reads the items from a place on."""
         out, end = self.items(said, at)
         if self.has_data and long_values:
             data = long_values.value(said[end + len(' data='):])
@@ -121,7 +116,6 @@ def head_of(procedure: str, said: str) -> tuple[str, int | None]:
 
 
 def read_call(procedure: str, said: str, long_values: LongValues | None = None) -> Values:
-    """Returns the arguments of a call, none of a raw one."""
     if procedure == RAW.name:
         return {}
     head, _ = head_of(procedure, said)
@@ -179,7 +173,6 @@ def attributes(values: Values, owner: str = '') -> Attributes | None:
 
 
 def seconds(time: Time) -> str:
-    """Returns a time in words."""
     return f'{time[0]}.{time[1]:09}'
 
 

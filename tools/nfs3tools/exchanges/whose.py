@@ -36,7 +36,6 @@ class Item(NamedTuple):
 
     @property
     def meaning(self) -> str:
-        """The name of the item's number, if it has one."""
         return meaning_of(self.name, str(self.value), self.values)
 
 
@@ -138,8 +137,7 @@ def fields_in(layouts: Mapping[str, str], part: str,
 
 
 def fields_of(procedure: str) -> dict[str, str]:
-    """Returns the fields that the calls and replies of a procedure, or with `*` of any, may have,
-    each with the name of its item."""
+    """Returns the fields that a procedure, or with `*` any, may have, with names of items."""
     if procedure == ANY:
         return {field: name for one in BY_NAME for field, name in fields_of(one).items()}
     one = BY_NAME[procedure]

@@ -1,10 +1,5 @@
 """How often each procedure was called in a connection, how that ended, how many bytes it took, and
-how long.
-
-    tallies = tallies_of(kept, 'run.pcap', 0)        # of the first connection
-    tallies['NFSPROC3_READ'].ranked((0.5, 0.99))     # nanoseconds
-
-A tally is a sum over the exchanges that are kept of a connection.
+how long: sums over the exchanges that are kept of it.
 """
 from __future__ import annotations
 
@@ -24,8 +19,7 @@ NANOSECONDS_OF_A_MILLISECOND = 1_000_000
 
 
 class Longest(NamedTuple):
-    """A latency in nanoseconds, and the call that has it: its recording, its connection, its
-    record, and the frame that completed it."""
+    """A latency in nanoseconds, with the recording, connection, record and frame of its call."""
     latency: int
     recording: str
     connection: int
@@ -35,17 +29,15 @@ class Longest(NamedTuple):
 
 @dataclass
 class Tally:
-    """What is counted of a procedure.
+    """What is counted of a procedure: records of calls and of replies, as `nfs3canon check` does.
 
-    calls: the records of calls, as `nfs3canon check` counts them
-    again: how many of those are retransmissions: an earlier call of the connection, or of an
-        earlier connection of the same client and server, has the same xid and all the same items
-    replies: the records of replies
+    again: how many calls are retransmissions: an earlier call of the connection, or of an earlier
+        connection of the same client and server, has the same xid and all the same items
     unanswered: the calls without a reply; a call and its retransmissions are one
     call_bytes, reply_bytes: of the records, with their marks
     errors: how many replies have each error, by its name in the RFCs
-    latencies: nanoseconds from a call to its first reply, if the frames have times
-    longest: the longest latency, the first of several
+    latencies, longest: nanoseconds from a call to its first reply, if the frames have times, and
+        the longest of them, the first of several
     """
     calls: int = 0
     again: int = 0
@@ -59,12 +51,10 @@ class Tally:
 
     @property
     def total(self) -> int | None:
-        """The sum of the latencies, `None` if there are none."""
         return sum(self.latencies) if self.latencies else None
 
     @property
     def mean(self) -> int | None:
-        """The mean of the latencies, rounded, `None` if there are none."""
         return round(sum(self.latencies) / len(self.latencies)) if self.latencies else None
 
     @property
@@ -86,8 +76,7 @@ class Tally:
             self.took(other.longest)
 
     def ranked(self, parts: Iterable[float]) -> list[int | None]:
-        """Returns for each part the smallest latency that at least this part of the latencies does
-        not exceed, `None` if there are none."""
+        """Returns for each part the smallest latency that it does not exceed, `None` if none is."""
         ordered = sorted(self.latencies)
         return [ordered[max(0, math.ceil(part * len(ordered)) - 1)] if ordered else None
                 for part in parts]
@@ -119,8 +108,7 @@ def milliseconds(rank: int | None, screen: Screen = Screen()) -> str:
 
 
 def tallies_of(kept: Kept, recording: str, number: int, window: TimeWindow = ALL) -> Tallies:
-    """Counts the exchanges of a connection that are in a window, by its place among those that are
-    kept."""
+    """Counts the exchanges in a window of a connection, by its place among those that are kept."""
     tallies: Tallies = {}
     own: Iterable[int] = kept.exchanges_of(number)
     for at in own if window == ALL else (at for at in own if window.has(kept.times[at])):

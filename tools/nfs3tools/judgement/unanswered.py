@@ -1,8 +1,4 @@
-"""How many calls of a recording got no reply.
-
-    unanswered = Unanswered()
-    unanswered.number('192.0.2.7:700', '192.0.2.1:2049', open_calls(client, server))
-"""
+"""How many calls of a recording got no reply."""
 from __future__ import annotations
 
 from array import array
@@ -27,8 +23,7 @@ class Unanswered:
         self.known = defaultdict[tuple[str, str], set[CallDigest]](set)  # by both ends
 
     def number(self, client: str, server: str, found: set[CallDigest]) -> int:
-        """Returns how many of the calls of a connection without a reply were not counted before. Of
-        a capture the ends are not known."""
+        """Returns how many calls of a connection without a reply are new. A capture has no ends."""
         if not client or not found:
             return len(found)
         if sum(map(len, self.known.values())) > UNANSWERED_AT_MOST:
@@ -40,8 +35,7 @@ class Unanswered:
 
 
 def open_calls(client: TakenStream, server: TakenStream) -> set[CallDigest]:
-    """Returns the calls of a client without a reply. What they say is read of these alone, unless
-    several calls have one xid."""
+    """Returns the calls of a client without a reply. Few of them are read."""
     calls, replies = sorted_xids(client), sorted_xids(server)
     if any(map(int.__eq__, calls, calls[1:])):
         return {(call.xid, call.said()) for call in unanswered(calls_in(client), server)}

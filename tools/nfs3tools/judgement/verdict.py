@@ -32,14 +32,11 @@ class Verdict(typing.NamedTuple):
     """What is said of a connection, or of a recording or capture as a whole (then the connection is
     None). A note is no verdict.
 
-    position: where its first fault is, without the connection; reason: that of the program;
-        message: all of it in words
-    missing: how many of its bytes the recording lacks
-    lacks: why it is in part, other than for these bytes
+    position, reason: where its first fault is, without the connection, and that of the program
+    message: all of it in words
+    missing, lacks, shows_calls: as `Covered` has them
     raw: the calls of other programs, by name
     unanswered: its calls without a reply, if it is not refused
-    shows_calls: whether calls may be in it; a connection that is left out and shows none changes no
-        status
     """
     recording: str
     connection: int | None = None
@@ -113,12 +110,10 @@ def error_verdict(recording: str, message: str) -> Verdict:
 
 
 def said_last(answer: Answer) -> str:
-    """What the program said last."""
     return (answer.error or answer.out).strip() or f'the program ended with status {answer.status}'
 
 
 def status_of(verdicts: Iterable[Verdict], allowed: Allowed) -> int:
-    """The status of a tool after these verdicts."""
     return 0 if all(verdict.is_good(allowed) for verdict in verdicts) else NOT_ALL_OK
 
 
@@ -130,7 +125,6 @@ def counts_after(verdicts: Iterable[Verdict]) -> Counts:
 
 
 def verdict_object(verdict: Verdict) -> dict[str, object]:
-    """The verdict as an object of JSON."""
     row = verdict._asdict()
     row.update(recording=escaped(verdict.recording), raw=dict(verdict.raw),
                frames=[frame._asdict() for frame in verdict.frames],
@@ -144,14 +138,9 @@ def verdict_members(verdicts: Sequence[Verdict]) -> dict[str, object]:
             'verdicts': [*map(verdict_object, verdicts)]}
 
 
-# --- Exchanges ---
-
 def kept_in(program: str, taken: Taken, verdicts: Iterable[Verdict],
             values: LongValues | None = None, has_texts: bool = True) -> Kept:
-    """Returns the exchanges of the connections that were judged, as `Kept` is to keep them.
-
-    Raises `Died` and `OSError`.
-    """
+    """Returns the exchanges of the connections that were judged. Raises `Died` and `OSError`."""
     kept = Kept(values, has_texts)
     states = {verdict.connection: verdict.state for verdict in verdicts}
     for connection in taken.connections:
@@ -172,8 +161,6 @@ def count_unanswered(kept: Kept, verdicts: list[Verdict]) -> None:
                    for verdict in verdicts]
 
 
-# --- What is printed ---
-
 def tell_notes(verdicts: Sequence[Verdict]) -> None:
     """Prints on standard error what is missing from recordings, which connections are left out that
     show no call, and whether recordings look like parts of one."""
@@ -193,8 +180,7 @@ def verdict_notes(verdict: Verdict) -> list[str]:
 
 
 def continued_recordings(verdicts: Iterable[Verdict]) -> list[str]:
-    """Returns two recordings of which one goes on with a connection of the other, if there are
-    some: its beginning is missing there."""
+    """Returns two recordings of which one goes on with a connection of the other, if any."""
     having = dict[frozenset[str], str]()
     begun_before = list[tuple[frozenset[str], str]]()
     for verdict in verdicts:
@@ -216,7 +202,6 @@ def known_ends(verdict: Verdict) -> frozenset[str]:
 
 
 def subject_of(verdict: Verdict) -> str:
-    """The recording of a verdict, and its connection if it is on one."""
     name = escaped(verdict.recording)
     return name if verdict.connection is None else f'{name}: connection {verdict.connection}'
 

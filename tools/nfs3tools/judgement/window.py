@@ -1,8 +1,4 @@
-"""A window of time in a recording, as the options --from and --to choose it.
-
-    window = TimeWindow(moment('12.5'), moment('10:03:07')).of(taken.begun)
-    window.has(exchange.time)
-"""
+"""A window of time in a recording, as the options --from and --to choose it."""
 from __future__ import annotations
 
 import argparse
@@ -37,8 +33,7 @@ class TimeWindow(NamedTuple):
     end: int = sys.maxsize
 
     def has(self, time: int) -> bool:
-        """Whether a call of this time is in it. One without a time is in a window without ends
-        alone."""
+        """Whether a call of this time is in it. One without a time is so if there are no ends."""
         return self == ALL or bool(time) and self.begin <= time <= self.end
 
 
@@ -69,7 +64,6 @@ def nanoseconds(seconds: str) -> int:
 
 
 def add_window(parser: argparse.ArgumentParser) -> None:
-    """The options that choose a window."""
     for option, name, words in (('--from', 'begin', 'from a time on'),
                                 ('--to', 'end', 'up to a time')):
         parser.add_argument(option, dest=name, metavar='TIME', type=moment,

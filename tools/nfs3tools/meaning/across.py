@@ -86,8 +86,7 @@ class Across(Objects):
     # --- Data ---
 
     def write(self, one: RecordedExchange, known: Object) -> None:
-        """Takes what was written, and that it is not committed. After an error the client knows
-        that data are lost."""
+        """Takes what was written and is not committed. After an error the client knows it."""
         if not one.is_ok:
             known.content.put(FilePart(one.first, one.last))
             known.unstable = FileContent()
@@ -171,8 +170,7 @@ class Across(Objects):
     # --- Commits ---
 
     def commit(self, one: RecordedExchange, known: Object) -> None:
-        """Data whose WRITE ended before are committed, if the verifier is the same. After an error
-        the client knows that data are lost."""
+        """Data whose WRITE ended before are committed, if the verifier is the same."""
         if not one.is_ok:
             known.unstable = FileContent()
             return
@@ -327,8 +325,7 @@ class Across(Objects):
             after.forget_name(other)
 
     def take_listing(self, one: RecordedExchange, folder: Object) -> None:
-        """Takes a part of a listing. The parts of one go on at the last cookie of each other, and
-        have one mtime."""
+        """Takes a part of a listing. Parts go on at a last cookie, and have one mtime."""
         cookie, (before, folder.listing) = one.call['cookie'], (folder.listing, None)
         now, entries = one.told[0].now, one.reply['entries']
         if now is None or one.call['fh'] not in self.shown:

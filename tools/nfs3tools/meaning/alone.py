@@ -38,8 +38,6 @@ def broken(asked: RuleChecks) -> Iterator[tuple[str, str]]:
     return ((rule, text) for is_broken, rule, text in asked if is_broken)
 
 
-# --- Data ---
-
 def of_byte_counts(one: RecordedExchange) -> RuleChecks:
     """Asks how much a WRITE has, or the reply to a READ, and how much was done."""
     name = short(one.procedure).lower()
@@ -71,8 +69,6 @@ def of_write(one: RecordedExchange) -> RuleChecks:
         yield (all(change.written != EVERYWHERE for change in one.beside()), 'write-size',
                f'size is {size:,}, after bytes up to {end:,} were written')
 
-
-# --- Attributes ---
 
 def of_attributes(one: RecordedExchange) -> RuleChecks:
     """Asks what holds for all attributes. A time that a call has set is not the server's fault."""
@@ -159,8 +155,6 @@ def of_guard(one: RecordedExchange) -> RuleChecks:
         yield (one.status == NOT_SYNC if is_same else one.is_ok, 'guard', f'status is {status}, '
                f'and the ctime before is {"" if is_same else "not "}that of the guard')
 
-
-# --- Directories and file systems ---
 
 def of_entry_names(one: RecordedExchange) -> RuleChecks:
     """Asks the names of entries. One that moves meanwhile may be there twice."""

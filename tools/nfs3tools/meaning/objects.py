@@ -56,8 +56,7 @@ class FilePart(NamedTuple):
 
 
 class FileContent:
-    """What was read or written last of a file: parts in order, none of which overlap. Bytes in no
-    part may be any."""
+    """What was read or written last of a file, in parts that do not overlap."""
 
     def __init__(self) -> None:
         self.parts: list[FilePart] = []
@@ -69,8 +68,7 @@ class FileContent:
         return low, bisect.bisect_left(self.parts, FilePart(end, 0), low)
 
     def change(self, begin: int, end: int, changed: Callable[[FilePart], FilePart | None]) -> None:
-        """Puts others in place of the parts of a range, or nothing. One that reaches out of it is
-        split."""
+        """Puts others, or nothing, in place of the parts of a range. Parts across it are split."""
         low, high = self.overlapping(begin, end)
         several = [one for part in self.parts[low:high]
                    for one in (part.within(0, begin), changed(part.within(begin, end)),
@@ -102,8 +100,7 @@ class FileContent:
 
 
 class Sight(NamedTuple):
-    """The attributes of an object at rest, an exchange that shows them, and the write verifier of
-    the server, if it is known."""
+    """The attributes of an object at rest, who shows them, and the write verifier then."""
     now: Attributes
     source: Evidence
     epoch: Epoch | None
@@ -161,29 +158,25 @@ def in_words(name: str, value: Any) -> str:
 
 def changes_in_words(names: Iterable[str], now: Iterable[object], was: Iterable[object],
                      where: object) -> str:
-    """Returns which values are others, in words."""
     return ', '.join(f'{name} is {in_words(name, value)}, {where} it was {in_words(name, other)}'
                      for name, value, other in zip(names, now, was) if value != other)
 
 
 def lasting(now: Attributes, has_links: bool) -> Sequence[object]:
-    """Returns the values of LASTING, with the number of links or not. What size a directory has,
-    and how many links, is up to the server."""
+    """Returns the values of LASTING, with the number of links or not, but for directories."""
     is_own = now.type != DIRECTORY
     return (now.size * is_own, now.mtime, now.ctime, now.mode, now.uid, now.gid,
             now.nlink * (has_links and is_own))
 
 
 class Objects:
-    """The objects of a recording by their servers and handles, what is found of them, and how much
-    was looked at.
+    """The objects of a recording by servers and handles, what is found of them, and what was asked.
 
     denied: what takes findings back: servers with an object that somebody changed who is not
         recorded, exchanges beside such a change, servers whose times do not show changes,
         verifiers of servers that were started anew, and answers that are found to stand alone
     relinked: the end of each server's last call that removed or moved a name
     shown: the handles of objects whose state an exchange shows, and which nothing else changed
-        meanwhile
     epochs: the last write verifier of each server
     clocks: the latest ctime that each server has shown, each with the frame from which on
     others: the objects of each server that somebody changed who is not recorded
@@ -208,8 +201,7 @@ class Objects:
         return self.known[key]
 
     def started(self, server: str, since: Epoch | None) -> Hashable:
-        """Returns what is denied if a server was started anew since then. That is seen once it has
-        another verifier."""
+        """Returns what is denied if a server was started anew since, by another verifier."""
         now = self.epochs.get(server)
         is_other = now and since and since.verifier not in (NO_VERIFIER, now.verifier)
         return STARTED_ANEW if is_other else now

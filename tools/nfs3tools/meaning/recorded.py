@@ -38,12 +38,10 @@ class StatedAttributes(NamedTuple):
 
 
 class RecordedExchange:
-    """A call and its first reply.
+    """A call, first sent at a time and perhaps again, and its first reply.
 
-    source: its number, its frames, and the time of the call
     sent: how often the call was sent, on this connection and before on another one
     status, reply: the status is None if the call was not accepted, or got no reply
-    ended: the time of the first reply
     is_change: whether the call may change the objects of which the reply says something
     is_ok, is_done: whether it was carried out, and whether it may have been, if only a part of it
     """
@@ -90,8 +88,7 @@ class RecordedExchange:
 
     @property
     def names(self) -> tuple[ObjectKey, ...]:
-        """The folders of the call, each with the name in it: two of RENAME. Equal texts are one
-        object, since many are kept."""
+        """The folders of the call, each with the name in it: two of RENAME."""
         return tuple((sys.intern(folder), sys.intern(name))
                      for folder, name in names_in_call(self.procedure, self.call))
 
@@ -111,8 +108,7 @@ class RecordedExchange:
             name in change.names for name in self.names for change in self.beside(name[0]))
 
     def beside(self, handle: str | None = None) -> Iterator['PossibleChange']:
-        """Iterates over the other changes of an object that overlap the exchange in time: of that
-        of its call, if none is given."""
+        """Iterates over the other changes of an object, or that of its call, that overlap it."""
         own = self.source
         changes = self.recorded.changes.get((self.server, handle or self.call['fh']), [])
         at = bisect.bisect_right(changes, PossibleChange(own.end)) if changes else 0
@@ -144,7 +140,6 @@ class PossibleChange(NamedTuple):
 class Recorded:
     """The exchanges of a recording.
 
-    has_frames: whether all of them have frames
     insensitive: servers for which names in upper and lower case are one (PATHCONF)
     changes: of each object, in the order of their begins
     pending: objects with a change or a COMMIT that got no reply, and names that such may change

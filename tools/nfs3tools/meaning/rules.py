@@ -15,8 +15,7 @@ SECTIONS = {row[0]: f'3.3.{number}' for number, row in enumerate(NFS_PROCEDURES)
 
 class Rule(NamedTuple):
     """A rule: its name, the procedures or the type of RFC 1813 that it is about, what it says, what
-    may be the cause, and by whom it is broken (`server`, `client`, or `note` if that is permitted).
-    """
+    may be the cause, and by whom it is broken: `server`, `client`, or nobody (`note`)."""
     name: str
     about: str
     sentence: str
@@ -29,7 +28,6 @@ class Rule(NamedTuple):
         return ', '.join(SECTIONS.get(word, word) for word in self.about.split())
 
     def section(self, procedure: str) -> str:
-        """Returns its section about a procedure, or the first one."""
         first, *others = self.about.split()
         word = procedure if procedure in others else first
         return SECTIONS.get(word, word)
@@ -176,7 +174,6 @@ class Looked:
         return out
 
     def members(self) -> dict[str, object]:
-        """Returns the numbers, and the words of each group."""
         numbers = {name: value for name, value in vars(self).items() if isinstance(value, int)}
         return {**numbers, 'groups': self.groups()}
 

@@ -1,8 +1,6 @@
-"""A comparison as one page for a browser, which needs no server: what differs at a glance, which
-fields differ, each difference, and the calls around that.
-
-A page has at most 2,000 findings, those that say the same as one. What does not count for the
-verdict is folded. It is made in pieces, and all that comes from a recording is escaped.
+"""A comparison as one page for a browser: what differs at a glance, which fields differ, each
+difference, and the calls around that. It is made in pieces, and all that comes from a recording is
+escaped. What does not count for the verdict is folded.
 """
 from __future__ import annotations
 
@@ -59,7 +57,6 @@ def message_pairs(row: ExcerptRow) -> Iterator[tuple[Message | None, Message | N
 # --- The whole ---
 
 def compared_page(content: ComparedContent) -> Iterator[bytes]:
-    """The page, in pieces."""
     word, names = content.report.word(), ' and '.join(run.name for run in content.runs)
     is_same = word.startswith('same')
     look = 'differ' if not is_same else 'part' if content.report.is_in_part else 'same'
@@ -153,8 +150,6 @@ def is_of_fields(finding: Finding) -> bool:
 
 
 def keys_of(finding: Finding) -> list[tuple[str, str]]:
-    """Returns the fields of a finding with their procedure, or what is said of it if it has
-    none."""
     name, only = finding.message.procedure, f'only in the {finding.run} run'
     said = {'only': only, 'connection': only, 'moved': finding.remark,
             'replies': 'another number of replies', 'order': 'replies in another order'}
@@ -193,7 +188,6 @@ class ComparedContent:
         return {**out}
 
     def numbered(self) -> Iterator[tuple[int, Finding]]:
-        """All findings, with their numbers."""
         return ((number, finding) for number, group in enumerate(self.groups, 1)
                 for finding in group)
 
@@ -205,17 +199,13 @@ class ComparedContent:
         return {both_places(*both): number for number, row in enumerate(rows, 1)
                 for both in message_pairs(row)}
 
-    # --- Fields ---
-
     def fields(self) -> Iterator[str]:
-        """The fields by their procedures, with their paths and counts."""
         names = ['procedure', 'field', 'path', 'how often']
         if self.groups:
             yield from markup.section('What differs', markup.table(names, self.rows_of_fields()))
 
     def where(self) -> dict[tuple[str, str], list[tuple[int, str | None]]]:
-        """Returns where each field of a procedure, or what else is reported, is: the numbers of its
-        findings, and their paths."""
+        """Returns where each field of a procedure is reported: numbers of findings, and paths."""
         out = defaultdict[tuple[str, str], list[tuple[int, Optional[str]]]](list)
         for number, finding in self.numbered():
             for key in keys_of(finding):
@@ -304,12 +294,9 @@ class ComparedContent:
         return f'<li>{path}{self.to_calls(finding, "{}", places, places)}</li>'
 
     def to_calls(self, finding: Finding, form: str, words: str, otherwise: str) -> str:
-        """Returns a link to the calls around a finding, in a form, or other words if they are not
-        shown."""
+        """Returns a link to the calls around a finding, or other words if they are not shown."""
         anchor = self.anchors.get(both_places(finding.first, finding.second))
         return form.format(f'<a href=#r{anchor}>{words}</a>') if anchor else otherwise
-
-    # --- What is left out ---
 
     def silent(self) -> Iterator[str]:
         """The calls that are left out, by procedures and paths."""

@@ -27,11 +27,8 @@ NO_LETTER = '\u00b7'  # stands for a byte that is none
 LAST_OF_REPLY = 'accept_stat'  # RFC 5531, section 9
 
 
-# --- What differs ---
-
 def changed_values(finding: Finding) -> Iterator[str]:
-    """The values of both runs, each with its sign, or the arguments of a call that one run alone
-    has."""
+    """The values of both runs, each with its sign, or the arguments of a call of one run alone."""
     arguments, more = telling.of_arguments(finding), len(finding.differences) - DIFFERENCES_AT_MOST
     if finding.kind == 'only' and not arguments:
         yield '<p class=quiet>It has no arguments but its path.</p>'
@@ -61,8 +58,6 @@ def signed_line(sign: str, words: str) -> str:
     look = markup.class_of(SIGN_CLASSES[SIGNS.index(sign)] if sign in SIGNS else '')
     return f'<div{look}>{sign}{GLUE}{words}</div>'
 
-
-# --- Bytes that differ ---
 
 def marked_values(difference: Difference) -> list[str]:
     """Returns both values as HTML, as they are printed, or nothing if they are numbers."""
@@ -99,8 +94,7 @@ def is_readable(content: bytes) -> bool:
 
 
 def marked(own: bytes, other: bytes, spell: Callable[[bytes], str]) -> str:
-    """Returns bytes as they are spelled, with those marked that are not in the other value, at
-    their places."""
+    """Returns bytes as they are spelled, with those marked that the other value has not there."""
     pairs = groupby(zip_longest(own, other[:len(own)]), lambda pair: pair[0] != pair[1])
     pieces = ((differs, escape(spell(bytes(byte for byte, _ in some)))) for differs, some in pairs)
     return ''.join(f'<mark>{piece}</mark>' if differs else piece for differs, piece in pieces)
@@ -109,8 +103,6 @@ def marked(own: bytes, other: bytes, spell: Callable[[bytes], str]) -> str:
 def letters(content: bytes) -> str:
     return ''.join(chr(byte) if 0x20 <= byte < 0x7f else NO_LETTER for byte in content)
 
-
-# --- All fields ---
 
 def of_messages(first: Message | None, second: Message | None,
                 finding: Finding | None) -> Iterator[str]:
@@ -157,8 +149,7 @@ def labelled_values(message: Message) -> Iterator[tuple[bool, str, str]]:
 
 
 def parting_of(first: Value, second: Value) -> str:
-    """Returns how two values differ of which one at least is not printed whole, or nothing: what is
-    cut off may be all that differs."""
+    """Returns how two values differ that are not printed whole, or nothing."""
     if telling.shortened(first) == first and telling.shortened(second) == second:
         return ''
     parting = long_values.parting_between(first, second)

@@ -1,8 +1,5 @@
 """What differs between two runs, in a few phrases with paths: of which file how many bytes, which
-calls one run has more, and which fields.
-
-    for phrase in phrases(compared):
-        print(phrase)        # 1 byte of <code>/w/d3/f2</code> (1 WRITE, 2 READs)
+calls one run has more, and which fields, as `1 byte of <code>/w/d3/f2</code> (1 WRITE, 2 READs)`.
 """
 from __future__ import annotations
 
@@ -48,7 +45,6 @@ def data_and_rest(finding: Finding) -> list[Finding]:
 
 
 def common_of(finding: Finding) -> Common:
-    """Returns what findings of one phrase have in common."""
     if any(one.name == 'data' for one in finding.differences):
         return DATA, (finding.path,)
     if finding.kind == 'only':
@@ -132,8 +128,7 @@ def counted_messages(some: Group) -> str:
 
 
 def both_values(some: Group) -> str:
-    """Returns both values of a field, if it is the only one and they are the same in all
-    findings."""
+    """Returns both values of the only field, if they are the same in all findings."""
     one = next(iter(some[0].differences), None)
     if (one is None or len(some[0].differences) != 1 or one.apart or one.remark
             or not (one.first and one.second)
@@ -151,5 +146,4 @@ def and_others(some: Group) -> str:
 
 
 def paths_of(some: Group) -> list[str]:
-    """Returns the paths that are known, each once."""
     return list(dict.fromkeys(one.path for one in some if one.path))

@@ -1,8 +1,6 @@
-"""Verdicts as one page for a browser, which needs no server: how much was judged, the tables that
-the tool prints, faults with their fields, and a time line of latencies for each recording.
-
-A page is green only for what was judged. It is made in pieces, and all that comes from a recording
-is escaped.
+"""Verdicts as one page for a browser: how much was judged, the tables that the tool prints, faults
+with their fields, and a time line of latencies for each recording. A page is green only for what
+was judged. It is made in pieces, and all that comes from a recording is escaped.
 """
 from __future__ import annotations
 
@@ -39,8 +37,7 @@ LINES_AT_MOST = 200  # of a message
 
 
 class ExplainedFault(NamedTuple):
-    """A verdict on a connection that is refused: what `tools/explain` says of its position, and all
-    fields of the message."""
+    """A verdict that refuses: what `tools/explain` says of its position, and all fields."""
     verdict: Verdict
     item: list[str]
     message: list[str]
@@ -56,7 +53,6 @@ class Seen(NamedTuple):
 
 
 def verdicts_in(seen: Iterable[Seen]) -> list[Verdict]:
-    """Returns the verdicts on all recordings."""
     return [verdict for one in seen for verdict in one.verdicts]
 
 
@@ -107,8 +103,6 @@ def judged_page(seen: Sequence[Seen], allowed: Allowed, tables: Sequence[ShownTa
         markup.section('Notes', markup.paragraphs(notes)) if notes else ()))
 
 
-# --- The counts ---
-
 def title_of(counts: Counts) -> tuple[str, str]:
     """Returns how the heading looks, and what it says: that all is valid only if all was judged."""
     lacking = counts.in_part + counts.left_out + counts.not_checked
@@ -134,8 +128,7 @@ def headline_of(seen: Sequence[Seen], allowed: Allowed, words: str, look: str = 
 
 def of_counts(counts: Counts, own: Sequence[tuple[int, str, str]] = (),
               is_of_validity: bool = True) -> Iterator[str]:
-    """The counts, each with its word. One of nothing has no colour, and what is valid has none on
-    the page of another question."""
+    """The counts, each with its word and its colour, which one of nothing does not have."""
     good, valid = (GOOD, 'valid') if is_of_validity else ('', 'ok')
     look = BAD if counts.refused else good if counts.ok else ''
     shown = [*own, (counts.judged,
@@ -164,8 +157,6 @@ def of_status(counts: Counts, status: int, allowed: Allowed) -> Iterator[str]:
         yield f' Calls of other programs, which are taken as they are: {calls}.'
     yield '</p>'
 
-
-# --- Tables ---
 
 def of_table(table: ShownTable, level: str) -> str:
     def of_rows(rows: Sequence[str]) -> Iterator[str]:
@@ -222,8 +213,7 @@ def is_raw(verdict: Verdict) -> bool:
 
 
 def said_of(verdict: Verdict) -> str:
-    """Returns the words of a verdict. Nothing is called ok that was judged in part, or not
-    checked."""
+    """Returns the words of a verdict. Nothing in part, or not checked, is called ok."""
     if verdict.state == 'in part':
         return verdict.message.removeprefix('ok ')
     if verdict.state != 'ok':
@@ -233,15 +223,11 @@ def said_of(verdict: Verdict) -> str:
 
 
 def numbered_faults(seen: Sequence[Seen]) -> list[tuple[int, ExplainedFault, Seen]]:
-    """Returns the faults that are shown, with their numbers and recordings."""
     faults = [(fault, one) for one in seen for fault in one.faults]
     return [(number, *both) for number, both in enumerate(faults[:FAULTS_IN_RECORDING], 1)]
 
 
-# --- Faults ---
-
 def explained_fault(taken: Taken, verdict: Verdict) -> ExplainedFault:
-    """Explains a fault, if its position is in a record."""
     item, message, within = FirstLines(), FirstLines(), Within(taken.spool, None, taken)
     with contextlib.suppress(NoPlace):
         place = parse_place(f'connection {verdict.connection} {verdict.position}')
@@ -291,8 +277,6 @@ def of_fault(number: int, fault: ExplainedFault, seen: Seen) -> Iterator[str]:
         yield from markup.folded('others', 'all fields of the message', [fields])
     yield '</article>'
 
-
-# --- Recordings ---
 
 def of_recording(seen: Seen, tables: Sequence[ShownTable], has_counts: bool,
                  is_of_validity: bool) -> Iterator[str]:

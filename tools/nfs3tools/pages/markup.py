@@ -1,14 +1,21 @@
 """The parts of which all pages are made: their beginning and end, tables, filters, and what is
-folded."""
+folded. How a page looks is in page.css, and what its keys and buttons do in page.js. Without the
+script it can be read all the same.
+"""
 from __future__ import annotations
 
 from collections.abc import Iterable, Iterator, Sequence
 from html import escape
 from itertools import chain
+from pathlib import Path
 
 from ..recordings.parts import Part
 from ..reporting.frames import filters_of
-from .styling import SCRIPT, STYLE
+
+
+def asset(name: str) -> str:
+    """Returns a file that is part of each page."""
+    return '\n' + Path(__file__).with_name(name).read_text(encoding='utf-8')
 
 
 def class_of(look: str) -> str:
@@ -24,10 +31,10 @@ def whole_page(title: str, look: str, heading: str, pieces: Iterable[str]) -> It
     head = ('<!DOCTYPE html><html lang=en><meta charset=utf-8>'
             '<meta name=viewport content="width=device-width, initial-scale=1">'
             '<meta name=color-scheme content="light dark">'
-            f'<title>{escape(title)}</title><style>{STYLE}</style>'
+            f'<title>{escape(title)}</title><style>{asset("page.css")}</style>'
             f'<h1{class_of(look)}>{escape(heading)}</h1>')
     return (piece.encode(errors='backslashreplace')
-            for piece in chain([head], pieces, [f'<script>{SCRIPT}</script></html>\n']))
+            for piece in chain([head], pieces, [f'<script>{asset("page.js")}</script></html>\n']))
 
 
 def bar(found: str, rows: str) -> str:
@@ -42,7 +49,6 @@ def bar(found: str, rows: str) -> str:
 
 
 def folded(name: str, summary: str, pieces: Iterable[str], attributes: str = '') -> Iterator[str]:
-    """What opens on a click."""
     yield f'<details class={name}{attributes}><summary>{escape(summary)}</summary>'
     yield from pieces
     yield '</details>'
@@ -67,7 +73,6 @@ def block(tag: str, lines: Iterable[str], look: str = '') -> str:
 
 
 def table(names: Sequence[str], rows: Iterable[str], look: str = '') -> Iterator[str]:
-    """A table of rows that are HTML."""
     heads = ''.join(f'<th>{escape(name)}</th>' for name in names)
     yield f'<table{class_of(look)}><thead><tr>{heads}</tr></thead>'
     yield from rows
@@ -75,8 +80,7 @@ def table(names: Sequence[str], rows: Iterable[str], look: str = '') -> Iterator
 
 
 def filters(parts: Sequence[Part], numbers: Sequence[int]) -> str:
-    """Display filters of Wireshark for frames. With scripts each is behind a button that copies
-    it."""
+    """Display filters of Wireshark for frames. Scripts put each behind a button that copies it."""
     several = filters_of(parts, numbers) if numbers else ()
     return ''.join(f' <span>{escape(name)}{": " if name else ""}<code class=filter>{text}</code>'
                    '<button type=button class=copy aria-label="copy the filter"></button></span>'

@@ -1,8 +1,4 @@
 """A time line of latencies as SVG: a dot for each call, whose height is its latency on a log scale.
-Errors have another form and another colour.
-
-    with contextlib.closing(kept_in(program, taken, verdicts)) as kept:
-        print(*of_time_line(time_line_of(kept, taken.begun)))
 
 Places from left to right are parts of the width in per cent, so the line is as wide as its page,
 and its texts keep their size.
@@ -46,12 +42,9 @@ class Dot(NamedTuple):
 
 
 class TimeLine(NamedTuple):
-    """Some dots of a recording. The last of all calls begins after `end` nanoseconds.
+    """Some dots of the calls of a recording, and how many of its errors are not among them.
 
-    calls: how many calls there are
-    errors: how many errors are not among the dots
-    untimed: how many calls have no time
-    """
+    The last of all calls begins after `end` nanoseconds; some may have no time."""
     dots: Sequence[Dot]
     end: int
     calls: int
@@ -150,8 +143,6 @@ def ticks(end: int) -> Iterator[int]:
     return iter(range(0, end + 1, step * factor))
 
 
-# --- Dots ---
-
 def time_line_of(kept: Kept, begun: int, window: TimeWindow = ALL) -> TimeLine:
     """Returns the time line of the calls of a window that have a time: all of them if they are few,
     or else the errors, those without a reply, and the slowest of each column."""
@@ -177,7 +168,6 @@ def slowest(kept: Kept, timed: Sequence[int], begun: int, end: int) -> Iterable[
 
 
 def dot_of(one: KeptExchange, begun: int) -> Dot:
-    """Returns the dot of a call, of which its call, its answer and where it is are said."""
     call, answer = (words if len(words) <= WORDS_AT_MOST else f'{words[:WORDS_AT_MOST]}..'
                     for words in (' '.join(call_text(one).split()), one.answer))
     latency = 'no latency' if one.latency is None else f'{milliseconds(one.latency)} ms'

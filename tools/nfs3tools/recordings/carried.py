@@ -9,10 +9,7 @@ from .taken import Taken, TakenStream
 
 
 def places_at(taken: Taken, place: Place | FilePlace | FramePlace) -> list[Place | FilePlace]:
-    """Returns the records that a frame carries, or any other place by itself.
-
-    Raises `NoPlace` if a frame carries none.
-    """
+    """Returns the records that a frame carries, or any other place by itself. Raises `NoPlace`."""
     if not isinstance(place, FramePlace):
         return [place]
     found: list[Place | FilePlace] = [

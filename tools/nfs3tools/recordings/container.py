@@ -18,8 +18,6 @@ class BadCapture(Exception):
 
 
 class Streamed(typing.Protocol):
-    """A stream that can be written."""
-
     size: int
 
     def blocks(self) -> typing.Iterator[bytes]:
@@ -35,8 +33,6 @@ def word(number: int) -> bytes:
     return number.to_bytes(4, 'big')
 
 
-# --- Reading ---
-
 class Container:
     """Takes a capture apart."""
 
@@ -44,10 +40,7 @@ class Container:
         self.source, self.spool = source, spool
 
     def connections(self) -> typing.Iterator[tuple[Stored, Stored]]:
-        """Iterates over the streams of the client and the server of each connection.
-
-        Raises `BadCapture`, after the connections that are whole.
-        """
+        """Iterates over the streams of whole connections. May raise `BadCapture` after them."""
         take = self.pair_of_version()
         while (mark := self.word()) == 1:
             streams = Stored(self.spool), Stored(self.spool)
@@ -103,11 +96,8 @@ class Container:
         return int.from_bytes(piece, 'big')
 
 
-# --- Writing ---
-
 def capture_of(connections: typing.Iterable[StreamPair]) -> typing.Iterator[bytes]:
-    """Iterates over the bytes of a capture of version 1, in which each chunk has 65,536 bytes but
-    the last of a stream."""
+    """Iterates over the bytes of a capture of version 1, in chunks of 65,536 bytes."""
     yield MAGICS[0]
     for pair in connections:
         yield word(1)

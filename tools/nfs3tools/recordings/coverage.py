@@ -1,16 +1,11 @@
 """How much of a recording was judged: each of its connections under one word, and what it shows
 besides connections that are taken.
 
-    judged       all its NFSv3 and MOUNTv3 calls can be judged: the program's verdict is `ok`, or
-                 refuses it
+    judged       all its NFSv3 and MOUNTv3 calls can be judged
     in part      bytes of it are missing, or were left out
     left out     nothing of it is judged
-    not checked  it has calls that are carried raw, and are NFS or MOUNT of another version; or it
-                 is a connection to a port of NFS without one call of version 3
-
-`Taken.covered` returns a `Covered` for each. What is not judged though it is of no connection
-has one, too: datagrams of UDP, a recording that ends inside a frame. `Counts` is the sum of any
-number of them.
+    not checked  it has calls of another version of NFS or MOUNT, or is a connection to a port of
+                 NFS without one call of version 3
 """
 from __future__ import annotations
 
@@ -47,8 +42,7 @@ PROCEDURES: Mapping[tuple[int, int], tuple[str, ...]] = {
 
 
 class Allowed(typing.NamedTuple):
-    """What does not make the status 1: bytes that are missing and connections that are left out,
-    and calls that are not checked."""
+    """What does not make the status 1: losses, and calls that are not checked."""
     losses: bool = False
     not_checked: bool = False
 
@@ -63,13 +57,10 @@ class Called(typing.NamedTuple):
 
 
 class Covered(typing.NamedTuple):
-    """A connection, or something else that a recording shows.
+    """A connection, or something else that a recording shows, which has no number.
 
     word, reason: how much of it was judged, and why not all of it; the reason is '' if it is judged
-    number: of the connection that is taken, None for anything else
-    ends: of a connection
-    missing: its bytes that the recording lacks
-    lacks: why it is in part, other than for these bytes
+    missing, lacks: its bytes that the recording lacks, and why it is in part other than for these
     called: the calls of a connection that is taken
     shows_calls: whether calls may be in it; a connection that is left out and shows none changes no
         status
@@ -162,16 +153,13 @@ def named_calls(calls: Mapping[str, int]) -> str:
                      for name, number in sorted(calls.items(), key=lambda one: (-one[1], one[0])))
 
 
-# --- Calls ---
-
 class Sized(ReadableBytes, typing.Protocol):
     """The same, and their number is known."""
     size: int
 
 
 def called_in(stream: Sized) -> Called:
-    """Counts the calls in a stream of records. It reads the heads of their messages and nothing
-    more."""
+    """Counts the calls in a stream of records by the heads of their messages."""
     heads = heads_in(stream)
     calls = {HEAD_WORDS.unpack(head)[2:]: number for head, number in heads.items()
              if len(head) == HEAD_WORDS.size and HEAD_WORDS.unpack(head)[:2] == (0, 2)}
@@ -180,15 +168,15 @@ def called_in(stream: Sized) -> Called:
         if procedure_of(program, version, procedure) is not RAW:
             typed += number
         elif program in (NFS, MOUNT):
-            unchecked[version_named(program, version, procedure)] += number
+            name = f'{RPC_PROGRAMS[program]} version {version}'
+            unchecked[name + f' procedure {procedure}' * (version == 3)] += number
         else:
             raw[call_named(program, version, procedure)] += number
     return Called(sum(calls.values()), typed, unchecked, raw)
 
 
 def heads_in(stream: Sized) -> collections.Counter[bytes]:
-    """How many records have each head, from the word after the xid up to the procedure; fewer bytes
-    of those that have no more."""
+    """How many records have each head, from the word after the xid up to the procedure."""
     window, found = Window(stream), collections.Counter[bytes]()
     for extent in extents(window, 0, stream.size):
         if extent.marks == 1:
@@ -199,12 +187,6 @@ def heads_in(stream: Sized) -> collections.Counter[bytes]:
     return found
 
 
-def version_named(program: int, version: int, procedure: int) -> str:
-    """The name of a call of NFS or MOUNT that has no type."""
-    return f'{RPC_PROGRAMS[program]} version {version}' + (f' procedure {procedure}' if version == 3
-                                                           else '')
-
-
 def call_named(program: int, version: int, procedure: int) -> str:
     """The name of a call of another program, as `NFSACL GETACL`."""
     procedures = PROCEDURES.get((program, version), ())
@@ -213,12 +195,9 @@ def call_named(program: int, version: int, procedure: int) -> str:
     return f'{RPC_PROGRAMS.get(program, f"program {program}")} {there}'
 
 
-# --- Connections ---
-
 def of_connection(called: Called, server_port: int | None, ports: frozenset[int], missing: int,
                   lacks: tuple[str, ...]) -> Covered:
-    """Returns the word of a connection that is taken. `server_port` is `None` if it is not known;
-    `ports` are those of NFS."""
+    """Returns the word of a connection that is taken. The port is `None` if it is not known."""
     reason = not_checked(called, server_port in ports)
     if reason:
         return Covered('not checked', reason, missing=missing, lacks=lacks, called=called)

@@ -1,8 +1,4 @@
-"""An extract of a recording: some of its frames, as they were recorded, as a pcap of their own.
-
-    frames = frames_of('run.pcap', {7, 12})
-    content = b''.join(pcap_of(frames))
-"""
+"""An extract of a recording: some of its frames, as they were recorded, as a pcap of their own."""
 from __future__ import annotations
 
 import collections
@@ -21,11 +17,8 @@ PCAP_MAGICS = {scale: magic for magic, (order, scale) in PCAP.items() if order =
 
 
 def frames_of(path: str, numbers: Iterable[int]) -> list[Frame]:
-    """Returns frames of a recording by their numbers, counted through all its parts. Of a datagram
-    that came in fragments, the frames of all of them are among these if that of the last is.
-
-    Raises `OSError` if a file cannot be read.
-    """
+    """Returns frames of a recording by their numbers, counted through all its parts, and all those
+    of a datagram in fragments if that of the last is among them. Raises `OSError`."""
     wanted = set(numbers)
     frames = [frame for frame in numbered_frames(path) if frame.number in wanted]
     if all(Segments().segment(frame) is not None for frame in frames):
@@ -35,8 +28,7 @@ def frames_of(path: str, numbers: Iterable[int]) -> list[Frame]:
 
 
 def numbered_frames(path: str) -> Iterator[Frame]:
-    """Iterates over all frames of a recording that was taken before, with their numbers through all
-    its parts."""
+    """Iterates over all frames of a recording, with their numbers through all its parts."""
     before = 0
     for file in parts_in_order(files_of(path)):
         with opened(file) as content:
@@ -72,9 +64,7 @@ class NamedSegments(Segments):
 
 def pcap_of(frames: Sequence[Frame]) -> Iterator[bytes]:
     """Iterates over the bytes of a recording of these frames, with their times and their link type.
-
-    Raises `Refused` if no pcap can hold them.
-    """
+    Raises `Refused` if no pcap can hold them."""
     links = {frame.link for frame in frames}
     if len(links) > 1:
         types = ', '.join(map(str, sorted(links)))

@@ -1,8 +1,5 @@
-"""The files that an argument names: one, or the parts of one recording, as `tcpdump -C`, `-G` and
-`-W` write them.
-
-An argument that is the name of no file is a pattern, as `run.pcap*`. In quotes the shell leaves it
-to the tool.
+"""The files that an argument names: one, or by a pattern, which in quotes the shell leaves to the
+tool, the parts of one recording, as `tcpdump -C`, `-G` and `-W` write them.
 """
 from __future__ import annotations
 
@@ -30,11 +27,8 @@ class Part(typing.NamedTuple):
 
 
 def files_of(path: str) -> list[str]:
-    """Returns the files that an argument names, sorted by their names. Those that a pattern fits
-    and that are no recordings, as a page beside them, are skipped unless all are.
-
-    Raises `NotThere` if there is none.
-    """
+    """Returns the files that an argument names, sorted. Those that a pattern fits and that are no
+    recordings are skipped unless all are. Raises `NotThere` if there is none."""
     if path == '-' or os.path.exists(path):
         return [path]
     found = sorted(glob.glob(path))
@@ -69,10 +63,7 @@ def may_be_recording(path: str) -> bool:
 
 def parts_in_order(files: list[str]) -> list[str]:
     """Returns parts in the order of the times of their first frames, and of their numbers if these
-    are equal.
-
-    Raises `NoRecording` if one is none, and `OSError`.
-    """
+    are equal. Raises `NoRecording` if one is none, and `OSError`."""
     return sorted(files,
                   key=lambda file: (first_time(file), len(file), file)) if len(files) > 1 else files
 
@@ -87,8 +78,7 @@ def first_time(path: str) -> int:
 
 
 def pattern_beside(path: str) -> str | None:
-    """Returns a pattern in quotes for a file and those beside it whose names differ in a last
-    number alone, if there are any."""
+    """Returns a pattern in quotes for a file and others beside it with another last number."""
     if path == '-':
         return None
     base = re.sub(r'\d+$', '', path)

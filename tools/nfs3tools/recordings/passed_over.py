@@ -22,8 +22,6 @@ def notes_of(segments: Segments) -> list[str]:
 
 
 def nothing_in(segments: Segments) -> str:
-    """What is said of a recording in which there is no connection: the kinds of its frames, if it
-    has some."""
     kinds = sorted(segments.others.items(), key=lambda one: (-one[1], one[0]))
     told = ', '.join(f'{number:,} of {name.rstrip(TUNNEL)}' for name, number in kinds)
     frames = count(sum(segments.others.values()), 'frame')
@@ -39,16 +37,12 @@ def remarks_of(segments: Segments) -> list[Covered]:
 
 
 def unread_of(segments: Segments) -> list[Covered]:
-    """Frames of TCP whose headers cannot be read, to or from a port of NFS or of which the port is
-    not known."""
-    several = sorted(segments.unread.items(), key=lambda one: one[0] or 0)
-    return [Covered('in part', unread_words(port, number)) for port, number in several]
-
-
-def unread_words(port: int | None, number: int) -> str:
-    which, its = f' to or from port {port}' if port else '', plural(number, 'its', 'their')
-    return (f'{count(number, "frame")}{which} {plural(number, "is", "are")} not taken, since {its} '
-            f'headers are not whole or do not fit {its} length')
+    """Frames of TCP whose headers cannot be read, of a port of NFS or of an unknown one."""
+    words = '%s%s %s not taken, since %s headers are not whole or do not fit %s length'
+    return [Covered('in part', words % (
+        count(number, 'frame'), f' to or from port {port}' if port else '',
+        plural(number, 'is', 'are'), *[plural(number, 'its', 'their')] * 2))
+        for port, number in sorted(segments.unread.items(), key=lambda one: one[0] or 0)]
 
 
 def unknown_of(segments: Segments) -> list[Covered]:
@@ -63,7 +57,6 @@ def unknown_of(segments: Segments) -> list[Covered]:
 
 
 def fragments_of(segments: Segments) -> list[Covered]:
-    """Datagrams of which fragments are missing."""
     number = segments.given_up
     return [Covered('in part', f'{count(number, "datagram")} of TCP '
                     f'{plural(number, "is", "are")} not taken, since not all fragments of '

@@ -34,8 +34,6 @@ RECORD_MARK = struct.Struct('>I')
 
 
 class ReadableBytes(typing.Protocol):
-    """Bytes that can be read from anywhere."""
-
     def read(self, begin: int, size: int) -> bytes:
         """Returns the bytes from `begin` on: `size` of them, or fewer at the end."""
 
@@ -207,8 +205,7 @@ class Search:
         return RecordChain(begin, records, reaches_end, is_single)
 
     def is_hopeless(self, at: int) -> bool:
-        """Whether a record of several fragments without a head begins there; its fragments need not
-        be followed."""
+        """Whether a record of several fragments, which has no head, begins there."""
         self.marks += 1
         head = self.window.read(at, min(self.end - at, LONGEST_HEAD))
         return len(head) == LONGEST_HEAD and not head[0] >> 7 and not has_head(head, self.side)
@@ -231,8 +228,7 @@ def end_of_whole(window: Window, begin: int, end: int) -> int:
 
 
 def xids(window: Window, begin: int, end: int) -> typing.Iterator[tuple[Extent, int, int]]:
-    """Iterates over the records of a run with the xid and the mtype of each, -1 for those that it
-    has not."""
+    """Iterates over the records of a run with their xids and mtypes, -1 for what they lack."""
     for extent in extents(window, begin, end):
         first = next(fragments(window, extent), (extent.end, extent.end))
         head = window.read(first[0], min(8, first[1] - first[0]))

@@ -44,8 +44,7 @@ class KeptRanges:
 
 
 class Selected(typing.NamedTuple):
-    """What is kept of a connection: which of its ends is the client, how that is known, and what of
-    both streams."""
+    """What is kept of a connection: which end is the client, why, and what of both streams."""
     client: int
     why: str
     kept: tuple[KeptRanges, KeptRanges]
@@ -88,8 +87,7 @@ def missing_of(stream: Stream) -> int:
 
 
 def select(connection: Connection, is_growing: bool = False) -> Selected:
-    """Chooses what is kept of a connection. If the recording is growing, the end of a record may
-    come yet."""
+    """Chooses what is kept. If the recording is growing, the end of a record may come yet."""
     client, why = client_of(connection)
     ends = client, 1 - client
     streams = connection.streams[client], connection.streams[1 - client]
@@ -105,8 +103,7 @@ def select(connection: Connection, is_growing: bool = False) -> Selected:
 
 
 def add_uncertain(stream: Stream, kept: KeptRanges, side: Side) -> None:
-    """Adds what is said of bytes that are recorded and not taken, and of others that may be
-    missing."""
+    """Adds what is said of bytes that are not taken, and of others that may be missing."""
     if stream.conflicts:
         kept.notes.append(
             f'{count(stream.conflicts, "frame")} {plural(stream.conflicts, "repeats", "repeat")} '
@@ -126,16 +123,14 @@ def add_uncertain(stream: Stream, kept: KeptRanges, side: Side) -> None:
 
 
 def cut_by(connection: Connection, end: int) -> str:
-    """Why an end is not at fault if its stream ends inside a record; '' if it closed its stream or
-    reset the connection."""
+    """Why an end is not at fault if its stream ends inside a record; '' if it is."""
     if connection.streams[end].end is not None or connection.is_reset_by(end):
         return ''
     return RESET_INSIDE if connection.is_reset_by(1 - end) else ENDS_INSIDE_RECORD
 
 
 def client_of(connection: Connection) -> tuple[int, str]:
-    """Which end is the client, and how that is known: by the SYN, else by its calls, the ports, or
-    the first payload."""
+    """Which end is the client, and why: by the SYN, else its calls, the ports, or who began."""
     if connection.client is not None:
         return connection.client, 'by the SYN'
     served = [end.rpartition(':')[2] in SERVER_PORTS for end in connection.ends]
@@ -229,8 +224,7 @@ def leave_out_replies(streams: tuple[Stream, Stream], calls: KeptRanges,
 
 def with_calls(window: Window, begin: int, end: int,
                known: set[int]) -> tuple[list[tuple[int, int]], int]:
-    """The ranges of a run without the replies to calls that are not known, and how many these
-    are."""
+    """The ranges of a run without replies to calls that are not known, and how many these are."""
     ranges, left_out = list[tuple[int, int]](), 0
     for extent, xid, mtype in xids(window, begin, end):
         if mtype == MTYPE_OF_REPLY and xid not in known and not extent.is_too_long:
@@ -241,8 +235,6 @@ def with_calls(window: Window, begin: int, end: int,
             ranges.append((extent.begin, extent.end))
     return ranges, left_out
 
-
-# --- Words ---
 
 def plural(number: int, one: str, several: str) -> str:
     return one if number == 1 else several

@@ -1,13 +1,6 @@
 """What is taken of a recording or of a capture: its connections, each with the streams of both
 sides.
 
-    with take('run.pcap', Options(ports=frozenset((2049,)))) as taken:
-        for connection in taken.connections:
-            print(connection.number, connection.client_end, connection.server_end,
-                  connection.client.size)
-        taken.write_capture('run.nfs3cap')
-        taken.frames(Place(1, 'server', 7, 24))  # the frames of the recording that carry this byte
-
 `take` reads pcap and pcapng (also compressed, `-` for standard input, and the parts of one
 recording by a pattern) and captures (`NFS3CAP1`, `NFS3CAP2`). Positions of `check`, `show` and
 `same` on the file that `write_capture` writes are positions of `taken`: connections have the
@@ -40,13 +33,16 @@ from .parts import Part, files_of, parts_in_order, pattern_beside, skipped_of
 from .passed_over import notes_of, nothing_in, remarks_of
 from .records import Extent, Window, body_of, extent_of, extents, fragments
 from .segments import Segments
-from .selection import Options, Selected, count, is_of_rpc, missing_of, select
+from .selection import (
+    BEGUN_BEFORE, Options, Selected, count, is_of_rpc, missing_of, select)
 from .spool import Brought, Frames, Spool, Stored
 from .streams import SEQUENCE_SPACE, Stretch
 from .unpacking import READ_AT_ONCE, Damaged, Readable
 
 FRAMES_A_STEP = 1_000
-NO_RPC = 'no RPC'  # is why a connection is left out
+# Why connections are left out.
+NO_RPC, NO_POSITION = (
+    'no RPC', 'no position was found from which its records follow one another')
 NOTHING, NOTHING_MORE = Brought(0, 0, 0), Brought(sys.maxsize, 0, 0)
 
 
@@ -109,14 +105,12 @@ class TakenStream:
             begin, part = part_end, part + 1
 
     def part(self, runs: typing.Iterable[tuple[int, int]]) -> 'TakenStream':
-        """Returns a stream of some of the bytes: of runs from where each begins to where it ends,
-        in their order."""
+        """Returns a stream of some runs of the bytes, from where each begins to where it ends."""
         ranges = [piece for begin, end in runs for piece in self.ranges_of(begin, end)]
         return TakenStream(self.stored, self.noted, ranges, self.runs, self.first)
 
     def sequences(self, begin: int, end: int) -> typing.Iterator[tuple[int, int]]:
-        """Iterates over the pieces of some bytes of a recording, each by the sequence number of its
-        first byte and its size."""
+        """Iterates over the pieces of some bytes, by sequence number and size."""
         for low, high in self.ranges_of(begin, end):
             at = bisect.bisect_right(Keys(self.runs, lambda run: run.begin), low) - 1
             position = self.runs[at].position + low - self.runs[at].begin
@@ -166,8 +160,7 @@ class TakenStream:
             yield Completion(end - begin, last.number, last.time)
 
     def first_frames(self) -> typing.Iterator[int]:
-        """Iterates over the records in order: the number of the frame that brought the first byte
-        of each, 0 if frames are not noted."""
+        """Iterates over the records: the frame that brought the first byte, 0 if none is noted."""
         brought, held = self.brought(), NOTHING
         following = next(brought, NOTHING_MORE)
         for extent in extents(Window(self), 0, self.size):
@@ -189,15 +182,13 @@ class TakenStream:
 
 
 class TakenConnection(typing.NamedTuple):
-    """A connection that is taken.
+    """A connection that is taken; of a capture what is said of its ends is empty.
 
-    number: from 1, as in places
-    stream_number: Wireshark's tcp.stream, from 0; None if read from a capture
-    client_end, server_end: as '192.0.2.7:700' or '[2001:db8::7]:700'; '' if read from a capture
+    number, stream_number: from 1, as in places, and Wireshark's tcp.stream, from 0
+    client_end, server_end: as '192.0.2.7:700' or '[2001:db8::7]:700'
     ends: both, first the one that sent the first segment, as '192.0.2.7:700 and 192.0.2.1:2049'
-    why: how it is known which end is the client, as 'by the SYN'; '' if read from a capture
-    notes: what was left out of its streams, each beginning with the side, as
-        'client: 12 bytes are missing ..'
+    why: how it is known which end is the client, as 'by the SYN'
+    notes: what was left out of its streams, as 'client: 12 bytes are missing ..'
     missing: the bytes of both sides that were sent and are not in the recording, as far as it shows
     lacks: why it is in part, other than for these bytes
     is_closed: whether the recording shows that an end closed or reset it
@@ -222,7 +213,6 @@ class TakenConnection(typing.NamedTuple):
         return int(self.server_end.rpartition(':')[2]) if self.server_end else None
 
     def stream(self, side: Side) -> TakenStream:
-        """Returns the stream of one side."""
         return self.client if side == 'client' else self.server
 
     def capture(self) -> typing.Iterator[bytes]:
@@ -230,39 +220,18 @@ class TakenConnection(typing.NamedTuple):
         return capture_of([(self.client, self.server)])
 
 
-class LeftOut(typing.NamedTuple):
-    """A connection that is not taken: its ends, why, how many bytes are missing if that is why,
-    else 0, whether it begins before the recording, and whether calls may be in it."""
-    ends: str
-    why: str
-    missing: int = 0
-    is_begun_before: bool = False
-    shows_calls: bool = True
-
-    def __str__(self) -> str:
-        return f'{self.ends}: {self.why}'
-
-    def covered(self) -> Covered:
-        return Covered('left out', self.why, ends=self.ends, missing=self.missing,
-                       shows_calls=self.shows_calls)
-
-
 class Taken:
-    """The connections of a recording or capture. As a context manager it removes the temporary
-    files at its end.
+    """The connections of a recording or capture, and those that are left out. As a context manager
+    it removes the temporary files at its end.
 
-    left_out: the connections that are not taken
-    remarks: what else is not judged, though it is of no connection
-    notes: what is said of the whole recording or capture, a sentence each, without these
+    remarks, notes: what else is not judged, though it is of no connection, and what is said of
+        the whole, a sentence each
     damage: why what follows could not be read, or None; a recording that ends in the middle of a
         frame is not damaged
     nothing: what is said if there is no connection
-    is_recording: False if read from a capture
     has_frames: whether the frames of bytes are noted
     parts: those of a recording that has several, in order
-    ports: those of NFS
-    begun, ended: the times of the first and of the last frame of a recording that has some, in
-        nanoseconds since 1970
+    begun, ended: the times of the first and of the last frame, in nanoseconds since 1970
     """
 
     def __init__(self, spool: Spool, is_recording: bool, has_frames: bool,
@@ -270,7 +239,7 @@ class Taken:
         self.spool, self.is_recording, self.has_frames, self.ports = (
             spool, is_recording, has_frames, ports)
         self.connections: list[TakenConnection] = []
-        self.left_out: list[LeftOut] = []
+        self.left_out: list[Covered] = []
         self.remarks: list[Covered] = []
         self.notes: list[str] = []
         self.damage: str | None = None
@@ -296,8 +265,7 @@ class Taken:
         yield from self.not_taken()
 
     def not_taken(self) -> typing.Iterator[Covered]:
-        """Iterates over the connections that are left out, and the remarks."""
-        yield from (left_out.covered() for left_out in self.left_out)
+        yield from self.left_out
         yield from self.remarks
 
     def count_records(self) -> int:
@@ -309,19 +277,12 @@ class Taken:
         return [(connection.client, connection.server) for connection in self.connections]
 
     def write_capture(self, path: str, inputs: typing.Iterable[str] = ()) -> None:
-        """Writes the connections as a capture of version 1, in chunks of 65,536 bytes.
-
-        An older capture may be replaced.
-
-        Raises what `capture` and `write_file` do; then the file is as it was.
-        """
+        """Writes the connections as a capture of version 1, in place of an older one perhaps.
+        Raises what `capture` and `write_file` do; then the file is as it was."""
         write_file(path, self.capture(), inputs, (CAPTURE,))
 
     def capture(self) -> typing.Iterable[bytes]:
-        """Returns the connections as a capture of version 1, in blocks.
-
-        Raises `NotTaken` if they are more than a capture may have.
-        """
+        """Returns them as a capture of version 1, in blocks. Raises `NotTaken` if too many."""
         size = sum(stream.size for pair in self.pairs() for stream in pair)
         if len(self.connections) > MOST_CONNECTIONS:
             raise NotTaken(f'{len(self.connections)} connections are more than the '
@@ -331,14 +292,10 @@ class Taken:
         return capture_of(self.pairs())
 
     def frames(self, place: Place | FilePlace) -> list[FrameRef]:
-        """Returns the frames that carry a byte, or all frames that carry a record if the place
-        names no byte.
-
-        The frame of a byte is the first that brought it, not a retransmission. At the end of a body
-        it is that of the last byte. Returns an empty list if no frames are noted.
-
-        Raises `NoPlace` if there is no such record or byte.
-        """
+        """Returns the frames that carry a byte, or all that carry a record if the place names no
+        byte, or nothing if no frames are noted. Of a byte it is the first that brought it, and at
+        the end of a body that of the last byte. Raises `NoPlace` if there is no such record or
+        byte."""
         if isinstance(place, FilePlace):
             found = place_in(self.pairs(), place.byte)
             if found is None:
@@ -350,8 +307,7 @@ class Taken:
         return stream.frames(*range_of_place(stream, extent, place))
 
     def record_at(self, place: Place) -> tuple[TakenStream, Extent]:
-        """Returns the stream of a record, and where the record is in it. Raises `NoPlace` if there
-        is no such record."""
+        """Returns the stream of a record, and where it is there. Raises `NoPlace` if it is not."""
         # (some may be left out)
         at = bisect.bisect_left(Keys(self.connections, lambda one: one.number), place.connection)
         if at == len(self.connections) or self.connections[at].number != place.connection:
@@ -363,8 +319,7 @@ class Taken:
         return stream, extent
 
     def all_frames(self) -> typing.Iterator[FrameRef]:
-        """Iterates over the frames that brought bytes of the connections, stream by stream, if
-        frames are noted."""
+        """Iterates over the frames that brought bytes, stream by stream, if frames are noted."""
         for stream in itertools.chain.from_iterable(self.pairs()):
             if stream.noted is not None:
                 yield from (FrameRef(brought.number, brought.time)
@@ -401,13 +356,9 @@ def range_of_place(stream: TakenStream, extent: Extent, place: Place) -> tuple[i
 def take(path: str, options: Options = Options(), frames: bool = True,
          shows_progress: bool = True) -> Taken:
     """Reads a recording or a capture, `-` for standard input. A path that is the name of no file is
-    a pattern, whose files are parts of one recording, in the order of the times of their first
-    frames. `frames` says whether the frames of bytes are noted, which takes 24 bytes of a temporary
-    file for each frame; `shows_progress` whether their number is shown on a terminal meanwhile.
-
-    Raises `NotTaken`, `Missing` (of `programs`), and `OSError` if a file cannot be read or a
-    temporary file not be written.
-    """
+    a pattern, whose files are parts of one recording. `frames` says whether the frames of bytes are
+    noted, which takes 24 bytes of a temporary file for each frame; `shows_progress` whether their
+    number is shown on a terminal meanwhile. Raises `NotTaken`, `Missing`, and `OSError`."""
     progress, files = Progress(shows_progress), files_of(path)
     taken = (take_parts(files, options, frames, progress) if len(files) > 1
              else take_file(files[0], options, frames, progress))
@@ -421,7 +372,7 @@ def take_file(path: str, options: Options, keeps_frames: bool, progress: Progres
         source = Source(stack.enter_context(opened(path)))
         taken = take_from(source, options, keeps_frames, progress,
                           share_of(source, 0, size_of([path])))
-    begun = sum(left_out.is_begun_before for left_out in taken.left_out)
+    begun = sum(BEGUN_BEFORE in left_out.lacks for left_out in taken.left_out)
     pattern = pattern_beside(path) if begun else None
     if pattern:
         taken.notes.append(f'it begins in the middle of {count(begun, "connection")}: if it is a '
@@ -436,8 +387,7 @@ def size_of(files: typing.Iterable[str]) -> int | None:
 
 
 def share_of(source: Source, before: int, size: int | None) -> Share | None:
-    """Returns what gives the share of files that was read, if their size is known: of this one, and
-    of the bytes of those before it."""
+    """Returns what gives the share of files that was read, if their size is known."""
     if not size:
         return None
     all_bytes = size
@@ -509,7 +459,8 @@ class Taking:
 
     def __init__(self, options: Options, keeps_frames: bool, progress: Progress) -> None:
         self.options, self.connections, self.progress = options, Connections(keeps_frames), progress
-        self.taken = Taken(self.connections.spool, True, keeps_frames, nfs_ports(options))
+        self.taken = Taken(self.connections.spool, True, keeps_frames,
+                           (options.ports or NFS_PORTS) - {PORT_MAPPER})
         self.segments = Segments(self.taken.ports)
         self.count = 0  # frames
 
@@ -547,15 +498,10 @@ class Taking:
         return self.taken
 
 
-def nfs_ports(options: Options) -> frozenset[int]:
-    """The ports of NFS: those that were chosen, or else the usual ones."""
-    return (options.ports or NFS_PORTS) - {PORT_MAPPER}
-
-
 def add(taken: Taken, connection: Connection, options: Options) -> None:
     """Takes a connection, or says why it is left out."""
     if connection.is_bare:
-        taken.left_out.append(without_payload(connection))
+        taken.left_out.append(without_calls(connection, 'no payload'))
         return
     selected = select(connection, options.is_growing)
     left_out = left_out_of(connection, selected, options)
@@ -565,26 +511,27 @@ def add(taken: Taken, connection: Connection, options: Options) -> None:
         taken.connections.append(taken_connection(len(taken.connections) + 1, connection, selected))
 
 
-def left_out_of(connection: Connection, selected: Selected, options: Options) -> LeftOut | None:
-    """Why a connection is left out, or `None` if it is not."""
-    ends = ' and '.join(connection.ends)
+def left_out_of(connection: Connection, selected: Selected, options: Options) -> Covered | None:
     if connection.first_payload is None and not any(
             stream.gap_at_end() for stream in connection.streams):
-        return without_payload(connection)
+        return without_calls(connection, 'no payload')
     if not is_of_rpc(connection, options.ports):
-        return LeftOut(ends, NO_RPC, shows_calls=False)
+        return without_calls(connection, NO_RPC)
     if any(kept.ranges for kept in selected.kept):
         return None
-    return LeftOut(ends, why_left_out(connection), selected.missing, connection.client is None)
+    missing, why = sum(map(missing_of, connection.streams)), NO_POSITION
+    if missing and not any(stream.stored.size for stream in connection.streams):
+        why = f'{count(missing, "byte")} acknowledged and not recorded'
+    return Covered('left out', why, ends=' and '.join(connection.ends), missing=selected.missing,
+                   lacks=(BEGUN_BEFORE,) if connection.client is None else ())
 
 
-def without_payload(connection: Connection) -> LeftOut:
-    """What is said of a connection that shows neither payload nor that some is missing."""
-    return LeftOut(' and '.join(connection.ends), 'no payload', shows_calls=False)
+def without_calls(connection: Connection, why: str) -> Covered:
+    """What is said of a connection in which there are no calls."""
+    return Covered('left out', why, ends=' and '.join(connection.ends), shows_calls=False)
 
 
 def taken_connection(number: int, connection: Connection, selected: Selected) -> TakenConnection:
-    """What is taken of a connection."""
     streams = connection.streams[selected.client], connection.streams[1 - selected.client]
     client, server = (TakenStream(stream.stored, stream.frames, kept.ranges, stream.runs,
                                   stream.first or 0)
@@ -594,11 +541,3 @@ def taken_connection(number: int, connection: Connection, selected: Selected) ->
         connection.ends[1 - selected.client], ' and '.join(connection.ends), selected.why, client,
         server, [*selected.notes, *connection.strays], selected.missing, selected.lacks,
         connection.is_closed, connection.opened_by)
-
-
-def why_left_out(connection: Connection) -> str:
-    """Why nothing of a connection is taken in which there may be calls."""
-    missing = sum(map(missing_of, connection.streams))
-    if missing and not any(stream.stored.size for stream in connection.streams):
-        return f'{count(missing, "byte")} acknowledged and not recorded'
-    return 'no position was found from which its records follow one another'

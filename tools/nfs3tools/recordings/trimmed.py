@@ -18,8 +18,7 @@ SequenceRange = tuple[int, int]  # the sequence number of the first, and how man
 
 
 class Layers(Segments):
-    """Notes where the header of TCP is in a frame, 0 if it is not in the frame itself but in one
-    that was joined of fragments."""
+    """Notes where the header of TCP is in a frame, 0 if it was joined of fragments."""
     data, at = b'', 0
 
     def of_tcp(self, data: bytes, at: int, end: int, addresses: bytes) -> Segment | None:
@@ -27,13 +26,11 @@ class Layers(Segments):
         return super().of_tcp(data, at, end, addresses)
 
     def found_in(self, frame: Frame) -> Segment | None:
-        """Returns the segment of a frame."""
         self.data, self.at = frame.data, 0
         return self.of_any(frame)
 
     def datagram_at(self, frame: Frame) -> int | None:
-        """Returns where the datagram of a frame is in it, if it has the segment itself, behind no
-        header of a tunnel."""
+        """Returns where the datagram of a frame is, if the segment is in it, and in no tunnel."""
         at = network_layer(frame.data, *LINKS[frame.link])[1] if self.at else None
         is_plain = at is not None and not self.tunnels and frame.data[at:at + 1] != b''
         return at if is_plain and is_before(frame.data, at or 0, self.at) else None
@@ -62,8 +59,7 @@ def trimmed(frames: Iterable[Frame],
 
 def with_bytes(frame: Frame, segment: Segment, layers: Layers,
                wanted: Iterable[SequenceRange]) -> Frame | None:
-    """Returns a frame with the bytes that are wanted of its segment, and what is between them;
-    `None` if it cannot be trimmed."""
+    """Returns a frame with the bytes that are wanted of it; `None` if it cannot be trimmed."""
     pieces = [piece for piece in (within(segment, *one) for one in wanted) if piece[0] < piece[1]]
     begin = min((low for low, _ in pieces), default=0)
     end = max((high for _, high in pieces), default=len(segment.payload))
@@ -77,8 +73,7 @@ def with_bytes(frame: Frame, segment: Segment, layers: Layers,
 
 
 def within(segment: Segment, sequence: int, size: int) -> tuple[int, int]:
-    """Returns where bytes begin and end in the payload of a segment; they are none if they end
-    before they begin."""
+    """Returns where bytes begin and end in the payload of a segment, if there are some."""
     half = SEQUENCE_SPACE // 2
     begin = (sequence - segment.sequence + half) % SEQUENCE_SPACE - half
     return max(0, begin), min(len(segment.payload), begin + size)

@@ -32,15 +32,12 @@ class CutShort(Damaged):
 
 
 class Readable(typing.Protocol):
-    """What bytes are read from."""
-
     def read(self, size: int, /) -> bytes:
         """Returns `size` bytes, or fewer; none at the end."""
 
 
 class Packed:
-    """A compressed file. `packed` has what was read of it, of which the bytes up to `at` are done
-    with."""
+    """A compressed file. `packed` was read of it, of which the bytes up to `at` are done with."""
 
     def __init__(self, file: Readable, begun: bytes) -> None:
         self.file, self.packed, self.at = file, begun, 0
@@ -59,8 +56,7 @@ class Packed:
         return b''
 
     def is_followed_by(self, magic: bytes) -> bool:
-        """Whether another stream follows, perhaps after zeros. If anything else does, the file is
-        damaged."""
+        """Whether another stream follows, perhaps after zeros. Anything else is damage."""
         while self.peek(1) == b'\0':
             rest = self.peek(USUAL_STEP)
             self.at += len(rest) - len(rest.lstrip(b'\0'))
@@ -72,16 +68,14 @@ class Packed:
 
 
 class Inflated(Packed):
-    """The bytes of a gzipped file, decompressed block by block. What stands before damage is
-    read."""
+    """The bytes of a gzipped file, block by block. What stands before damage is read."""
 
     def __init__(self, file: Readable, begun: bytes) -> None:
         super().__init__(file, begun)
         self.begin_member()
 
     def begin_member(self) -> None:
-        """A member gets few bytes at first, and then more: what comes after its end is copied for
-        nothing."""
+        """A member gets few bytes at first: what comes after its end is copied for nothing."""
         self.inflate, self.step = zlib.decompressobj(31), FIRST_STEP
 
     def read(self, size: int, /) -> bytes:
@@ -98,8 +92,7 @@ class Inflated(Packed):
         return self.end()
 
     def inflated(self, piece: bytes, size: int) -> bytes:
-        """The next bytes, of which there may be none yet; of damaged ones those before the
-        damage."""
+        """The next bytes, of which there may be none yet; of damaged ones those before it."""
         before = self.inflate.copy()
         try:
             content = self.inflate.decompress(piece, size)
@@ -121,8 +114,7 @@ def byte_by_byte(inflate: 'zlib._Decompress', packed: bytes) -> bytes:
 
 
 class Unpacked(Packed):
-    """The bytes of a file of xz or bzip2, which may be several streams one after the other. What
-    stands before damage is read."""
+    """The bytes of a file of xz or bzip2, of one or several streams, up to damage."""
 
     def __init__(self, file: Readable, begun: bytes, magic: bytes) -> None:
         super().__init__(file, begun)

@@ -16,7 +16,6 @@ TIMED_FRAMES_AT_MOST = 12  # frames of which the time is printed
 
 def place_lines(taken: Taken, place: Place | FilePlace,
                 frames: list[FrameRef]) -> typing.Iterator[str]:
-    """Iterates over what is printed."""
     if isinstance(place, Place):
         connection = taken.connections[place.connection - 1]
         yield (f'{place}: client {connection.client_end}, server {connection.server_end}, '

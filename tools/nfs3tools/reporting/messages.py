@@ -75,11 +75,8 @@ def exit_status(main: typing.Callable[[list[str]], int]) -> int:
         return end.code if isinstance(end.code, int) else 0
 
 
-# --- The standard streams ---
-
 def occupy_closed_streams() -> None:
-    """Makes sure that no other file gets the number of a standard stream. Standard input that is
-    closed cannot be read."""
+    """Makes sure that no other file gets the number of a standard stream that is closed."""
     while (number := os.open(os.devnull, os.O_WRONLY)) <= 2:
         pass
     os.close(number)
@@ -109,16 +106,14 @@ def drop_unwritten() -> None:
 
 
 def end_by_signals() -> None:
-    """The tool ends by these signals as after a failure, unless whoever started it has them
-    ignored."""
+    """These signals end the tool as a failure does, unless whoever started it ignores them."""
     for number in ENDING:
         if signal.getsignal(number) is not signal.SIG_IGN:
             signal.signal(number, interrupted)
 
 
 def advice_on(refused: NotTaken, name: str) -> str:
-    """Why a file is not taken, and what to type if it is compressed: for the tool that was called,
-    by the name by which it was."""
+    """Why a file is not taken, and what to type if it is compressed, by the tool's own name."""
     if not refused.packed_by:
         return str(refused)
     tool, unpack = as_called(f'tools/{name}'), f'{refused.packed_by} -dc'
@@ -138,8 +133,6 @@ def ignore_signals() -> None:
         signal.signal(number, signal.SIG_IGN)
 
 
-# --- Messages ---
-
 def failure_text(failed: Exception, name: str) -> str:
     """Returns what is said of a failure by a tool of this name."""
     if isinstance(failed, NotTaken):
@@ -157,8 +150,7 @@ def error_text(failed: OSError) -> str:
 
 
 def ended(name: str, message: str, status: int) -> int:
-    """Prints how a tool ends, and returns its status, which is another if that cannot be
-    printed."""
+    """Prints how a tool ends, and returns its status, or FAILED if that cannot be printed."""
     try:
         print(f'{called(name)}: {printable(message)}', file=sys.stderr, flush=True)
     except OSError:
@@ -167,8 +159,7 @@ def ended(name: str, message: str, status: int) -> int:
 
 
 class Parser(argparse.ArgumentParser):
-    """A parser of command lines that repeats no control characters, and fails if it cannot
-    print."""
+    """A parser of command lines that repeats no control characters, and fails if it cannot."""
 
     def error(self, message: str) -> typing.NoReturn:
         """Prints the usage as one line, which leaves the options to the help, and what is wrong. Of
@@ -209,8 +200,7 @@ def parser_of(text: str | None, name: str) -> argparse.ArgumentParser:
 
 
 def help_of(text: str, name: str) -> str:
-    """Returns what a tool does, how it is called, its status, and where the rest is: in its manual
-    page. Without one it is the whole text."""
+    """Returns what a tool does, its lines, its status, and where its manual page is."""
     if STATUS_TEXT not in text:
         return text
     what, lines, *_ = text.strip('\n').split('\n\n')
@@ -238,24 +228,7 @@ def manual_of(name: str) -> str:
             else f'man/{name}.1 of the tools in a clone of nfs3canon')
 
 
-class Gone(argparse.Action):
-    """An option of an earlier version. Its constant is what to use in its place."""
-
-    def __call__(self, parser: argparse.ArgumentParser, *_: object) -> None:
-        parser.exit(REFUSED, f'{parser.prog}: error: {self.option_strings[0]} is gone: '
-                             f'{self.const}\n')
-
-
-def add_gone(parser: argparse.ArgumentParser, option: str, instead: str) -> None:
-    """Has an option of an earlier version say in one line what to use in its place."""
-    parser.add_argument(option, action=Gone, nargs='?', const=as_called(instead),
-                        help=argparse.SUPPRESS)
-
-
 def add_options(parser: argparse.ArgumentParser) -> None:
-    """The options of which connections are taken."""
-    add_gone(parser, '--filter', 'write a smaller recording first: '
-             '`tshark -r RECORDING -Y FILTER -w OUT`')
     parser.add_argument('--port', metavar='PORT,..', type=port_numbers, default=frozenset(),
                         help='takes the connections that have one of these ports')
 
@@ -269,14 +242,12 @@ def port_numbers(word: str) -> frozenset[int]:
 
 
 def add_program(parser: argparse.ArgumentParser) -> None:
-    """The option that names the program."""
     parser.add_argument('--program', metavar='PROGRAM',
                         help='the nfs3canon to run, if it is not the one of this folder')
 
 
 def add_judging(parser: argparse.ArgumentParser) -> None:
-    """The options of a tool that judges recordings: the program, how they are taken, and what
-    counts as good."""
+    """The options of a tool that judges: the program, how to take, and what counts as good."""
     add_program(parser)
     add_options(parser)
     parser.add_argument('--allow-losses', action='store_true',
@@ -297,8 +268,7 @@ def allowed_of(chosen: argparse.Namespace) -> Allowed:
 
 
 def position_text(word: str | None, file: str, what: str) -> str:
-    """The text of a position: an argument, or else what standard input has. Raises `NoPlace` if
-    that is the file as well."""
+    """A position: an argument, or standard input. Raises `NoPlace` if that is the file as well."""
     if word is None and file == '-':
         raise NoPlace(f'POSITION has to be an argument if {what} is standard input')
     return word if word is not None else sys.stdin.buffer.read().decode(errors='replace')
@@ -309,13 +279,12 @@ def options_of(chosen: argparse.Namespace) -> Options:
 
 
 def recording_lines(taken: Taken, has_taken: bool = True) -> list[str]:
-    """What is said of a recording: a line for each connection that is taken, if that is asked for,
-    or left out, and for what is missing."""
+    """What is said of a recording: of connections, taken or left out, and what is missing."""
     lines = [*taken.notes]
     for connection in taken.connections:
         sizes = f'{connection.client.size} and {connection.server.size} bytes'
         lines += [f'connection {connection.number}: {connection.ends}: '
                   f'client {connection.client_end} {connection.why}, {sizes}'] if has_taken else []
         lines += [f'connection {connection.number} {note}' for note in connection.notes]
-    return (lines + [f'left out: {line}' for line in taken.left_out]
+    return (lines + [f'left out: {one.ends}: {one.reason}' for one in taken.left_out]
             + [f'{remark.word}: {remark.reason}' for remark in taken.remarks])

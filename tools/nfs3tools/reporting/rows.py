@@ -11,8 +11,7 @@ Rows = Iterable[Sequence[object]]
 
 
 class JsonRows:
-    """An object with the version of its form, a list of objects, a line for each row, and then
-    other members."""
+    """An object with the version of its form, a list of a line for each row, and members."""
 
     def __init__(self, version: int, name: str, columns: Sequence[str]) -> None:
         self.columns, self.before = columns, ''
@@ -28,8 +27,6 @@ class JsonRows:
 
 
 class CsvRows:
-    """A line with the heads, and one for each row."""
-
     def __init__(self, columns: Sequence[str]) -> None:
         self.writer = csv.writer(sys.stdout, lineterminator='\n')
         self.writer.writerow(columns)

@@ -67,15 +67,13 @@ def signed_rows(difference: Difference) -> list[tuple[str, str, str]]:
 
 
 def difference_lines(difference: Difference) -> Iterator[str]:
-    """Two lines, as `diff` has them, and a remark after the second. A value that is equal in both
-    runs is one line."""
+    """Two lines, as `diff` has them, and a remark; one line of a value that is equal in both."""
     return (f'  {sign} {value}' + (f'    # {remark}' if remark else '')
             for sign, value, remark in signed_rows(difference))
 
 
 def value_of(difference: Difference, number: int) -> str:
-    """Returns a value as it is printed, with its name if it has one: that of the first run, of
-    number 0, or of the second."""
+    """Returns a value as it is printed, with its name: that of the first run, 0, or the second."""
     if difference.apart:
         return difference.apart.shown[number]
     return value_with_meaning(difference.name, (difference.first, difference.second)[number] or '',
@@ -83,8 +81,7 @@ def value_of(difference: Difference, number: int) -> str:
 
 
 def value_with_meaning(name: str, value: Value, meaning: str) -> str:
-    """Returns the value of an item with what it is called, if it has a name. A mode is known by its
-    octal digits, which come first."""
+    """Returns the value of an item with its name, if it has one; of a mode octal digits first."""
     if name == 'mode' and meaning:
         return f'{meaning} ({value})'
     return shortened(value) + (f' ({meaning})' if meaning else '')
@@ -98,8 +95,7 @@ def of_arguments(finding: Finding) -> list[str]:
 
 
 def groups_alike(findings: Iterable[Finding]) -> list[list[Finding]]:
-    """Returns the findings in groups that say the same of one procedure, each with its first
-    finding's place among the others."""
+    """Returns findings in groups that say the same, in the order of their first ones."""
     groups: dict[object, list[Finding]] = {}
     for number, finding in enumerate(findings):
         groups.setdefault(said_by(finding) or number, []).append(finding)
@@ -203,8 +199,7 @@ def brief_difference(difference: Difference) -> str:
 
 
 def of_silent(compared: Compared, framings: Sequence[Framing], most: int | None) -> Iterator[str]:
-    """The calls that are left out, those together of one procedure and path, up to `most` of such
-    groups, or each by itself."""
+    """The calls that are left out, by procedures and paths, up to `most`, or each by itself."""
     groups = defaultdict[object, list[Finding]](list)
     for number, call in enumerate(compared.silent):
         key = call.kind, call.first is None, call.message.procedure, call.path
@@ -216,8 +211,6 @@ def of_silent(compared: Compared, framings: Sequence[Framing], most: int | None)
 
 
 def silent_line(some: Sequence[Finding], framings: Sequence[Framing]) -> str:
-    """Which calls are left out, of one procedure and path, and why: the change that explains an
-    answer, or how often a call was sent."""
     call, path = some[0], f' {some[0].path}' if some[0].path else ''
     whom = '' if call.first and call.second else f' of the {call.run} run'
     kind = f', {WHY_LEFT_OUT[call.kind]}' if call.kind in WHY_LEFT_OUT else ''
@@ -289,8 +282,7 @@ def up_to(most: int, some: Sequence[str], comma: str = ', ') -> str:
 
 def json_of_comparison(report: Report, compared: Compared, left_out: Counter[tuple[str, str]],
                        framings: Sequence[Framing]) -> Iterator[bytes]:
-    """The comparison, in pieces: an object, each of whose findings is a line. Without findings
-    there need be no framings."""
+    """The comparison, in pieces: an object, each of whose findings is a line."""
     found, runs = report.found, zip(report.names, report.covers, compared.lonely,
                                     compared.left_out)
     head = {
@@ -322,8 +314,7 @@ def json_of_comparison(report: Report, compared: Compared, left_out: Counter[tup
 
 
 def cover_members(cover: Cover) -> dict[str, Any]:
-    """How much of a run is compared: its size, the bytes that are missing, the counts, and what is
-    not judged as a whole."""
+    """How much of a run is compared: size, missing bytes, counts, and what is not judged whole."""
     return {**cover.size._asdict(), 'missing': cover.missing, 'counts': cover.counts().members(),
             'not_judged': [{**row._asdict(), 'ends': row.ends or None} for row in cover.rows()]}
 
@@ -347,14 +338,12 @@ def of_finding(finding: Finding, framings: Sequence[Framing]) -> dict[str, Any]:
 
 
 def both_positions(one: Finding, framings: Sequence[Framing]) -> dict[str, Any]:
-    """Returns where the messages of both runs are."""
     return {run: message and {'position': str(message.place), 'frames': list(framing(message))}
             for run, message, framing in zip(RUNS, (one.first, one.second), framings)}
 
 
 def difference_object(difference: Difference) -> dict[str, Any]:
-    """The values are as the listing spells them. Long ones are cut, and have a digest of their
-    bytes."""
+    """Values are as the listing spells them. Long ones are cut, and have a digest."""
     both, apart = (difference.first, difference.second), difference.apart
     parting = apart and {
         'at': apart.at, 'offset': apart.offset, 'differing': apart.differing,
@@ -385,8 +374,7 @@ class Cases:
 
     def add(self, given: str, tag: str | None = None, message: str = '', text: Iterable[str] = (),
             **attributes: str) -> None:
-        """Adds a case, which passed if there is no tag. If several have one name, they are
-        numbered."""
+        """Adds a case, which passed if there is no tag. Equal names are numbered."""
         name = printable(given)
         self.number_of[name] += 1
         name += f' ({self.number_of[name]})' if self.number_of[name] > 1 else ''

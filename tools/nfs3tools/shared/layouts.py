@@ -122,8 +122,7 @@ MOUNT_PROCEDURES = [
 
 
 class Procedure(NamedTuple):
-    """The layouts of one procedure. If `statuses` is None, its results are `done`; otherwise they
-    are a status and `done` or `failed`."""
+    """The layouts of one procedure. Results are `done`, or a status and `done` or `failed`."""
     name: str
     arguments: str
     done: str
@@ -132,8 +131,7 @@ class Procedure(NamedTuple):
 
 
 def procedures() -> Iterator[tuple[tuple[int, int], Procedure]]:
-    """Yields those that have a type, each with its program and number. The version of both programs
-    is 3."""
+    """Yields those that have a type, with program and number. The version of both is 3."""
     for number, (name, arguments, done, failed) in enumerate(NFS_PROCEDURES):
         yield (NFS, number), Procedure('NFSPROC3_' + name, arguments, done, failed,
                                        NFSSTAT if number else None)
@@ -203,8 +201,7 @@ class Walk:
         raise NotImplementedError
 
     def whose(self, name: str, number: int = 0) -> contextlib.AbstractContextManager[None]:
-        """Says whose the items are that come inside: a name of the layouts, or of a list, with the
-        number of its part from 1 on."""
+        """Says whose the items inside are: a name, or of a list, with a number from 1 on."""
         return contextlib.nullcontext()
 
     def message(self, is_call: bool) -> None:
@@ -289,7 +286,6 @@ class Walk:
 
 
 def cases_of(inner: str) -> dict[int, str]:
-    """Returns the part that goes with each number of a case."""
     return {int(number): part for number, part in (case.split(':') for case in inner.split(','))}
 
 
@@ -329,8 +325,7 @@ class BodyReader(Walk):
 
     def taken(self, size: int, name: str, allowed: str, spell: Spell,
               meaning: Callable[[str], str] | None = None) -> bytes:
-        """Reads an item of this size, and returns its bytes, of a long one the first. Raises `Stop`
-        if fewer bytes are left."""
+        """Reads an item, and returns its first bytes. Raises `Stop` if fewer are left."""
         begin, self.at = self.at, min(self.at + size, self.end)
         piece = self.body[begin:min(self.at, begin + self.most)]
         value, is_whole = spell(piece), self.at - begin == size

@@ -14,19 +14,16 @@ def is_installed() -> bool:
 
 
 def called(tool: str) -> str:
-    """Returns the name by which a tool was called. Its help, its version and its messages have that
-    name."""
+    """Returns the name by which a tool was called, which its help and its messages have."""
     return os.path.basename(sys.argv[0]) if is_installed() else tool
 
 
 def as_called(text: str) -> str:
-    """Returns a text in which tools are named as `tools/compare`, with the names under which they
-    are installed if this one was called so."""
+    """Returns a text with the names under which tools are installed, if this one was called so."""
     return re.sub(r'\btools/(\w+)', lambda found: installed_name(found[1]),
                   text) if is_installed() else text
 
 
 def installed_name(tool: str) -> str:
-    """Returns the name under which a tool is installed: plain names as `where` and `compare` are
-    others' as well."""
+    """Returns the name under which a tool is installed: plain names are others' as well."""
     return INSTALLED + tool.replace('_', '-')

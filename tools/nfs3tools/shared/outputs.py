@@ -38,10 +38,7 @@ def write_file(path: str, blocks: Iterable[bytes], inputs: Iterable[str] = (),
                replaces: tuple[str, ...] = ()) -> None:
     """Writes a file. `replaces` has what it may replace although it would be refused: of RECORDING,
     CAPTURE and COMPRESSED. A file that is replaced keeps its permissions, and a new one has those
-    of its folder and the umask.
-
-    Raises `Refused`, and `OSError`; then what has the name is as it was.
-    """
+    of its folder and the umask. Raises `Refused`, and `OSError`; then nothing has changed."""
     with failures_named(path):
         found = check_output(path, inputs, replaces)
         if is_replaced(found):
@@ -52,8 +49,7 @@ def write_file(path: str, blocks: Iterable[bytes], inputs: Iterable[str] = (),
 
 
 def is_replaced(found: os.stat_result | None) -> bool:
-    """Whether an output is written beside its name: a new one, or a regular file that is not
-    standard output."""
+    """Whether an output is written beside its name: if new, or regular and not standard output."""
     return found is None or stat.S_ISREG(found.st_mode) and not is_standard_output(found)
 
 
@@ -68,8 +64,7 @@ def write_into(path: str, found: os.stat_result | None, blocks: Iterable[bytes])
 
 
 def write_temporary(path: str, blocks: Iterable[bytes]) -> None:
-    """Writes a file in a temporary folder of this process. It is gone with the folder, so it need
-    not be safe on the disk. Raises `OSError`."""
+    """Writes a file in a temporary folder, with which it is gone. Raises `OSError`."""
     number = os.open(path, os.O_WRONLY | os.O_CREAT | os.O_TRUNC, OWNER_ALONE)
     try:
         with failures_named(path):
@@ -95,11 +90,9 @@ def failures_named(path: str) -> Iterator[None]:
 
 def check_output(path: str, inputs: Iterable[str] = (),
                  replaces: tuple[str, ...] = ()) -> os.stat_result | None:
-    """Returns what has the name of an output, or `None` for a new name. Makes nothing.
-
-    Raises `Refused` if it is an input, or begins as what is not to be replaced, and `OSError`, also
-    for a folder, a link that leads to nothing, and a file that nobody may write.
-    """
+    """Returns what has the name of an output, or `None` for a new name. Raises `Refused` if it is
+    an input, or begins as what is not to be replaced, and `OSError`, also for a folder, a link that
+    leads to nothing, and a file that nobody may write."""
     try:
         found = os.fstat(1) if path == STANDARD_OUTPUT else os.stat(path)
     except FileNotFoundError:
@@ -120,7 +113,6 @@ def check_output(path: str, inputs: Iterable[str] = (),
 
 
 def failure(code: int, path: str) -> OSError:
-    """Returns the failure of a code of errno at a path."""
     return OSError(code, os.strerror(code), path)
 
 
@@ -128,10 +120,7 @@ def try_outputs(paths: Iterable[str | None], inputs: Iterable[str] = (),
                 replaces: tuple[str, ...] = ()) -> None:
     """Tries before the work whether outputs can be written, as far as that can be known: each is
     checked, a new file is made in its folder and removed again, and no two outputs are one file.
-    None means an output that is not wanted.
-
-    Raises what `write_file` does.
-    """
+    None means an output that is not wanted. Raises what `write_file` does."""
     outputs, inputs, known = list(filter(None, paths)), list(inputs), dict[object, int]()
     for number, path in enumerate(outputs):
         found = check_output(path, inputs, replaces)
@@ -145,8 +134,7 @@ def try_outputs(paths: Iterable[str | None], inputs: Iterable[str] = (),
 
 
 def identity_of(path: str, found: os.stat_result | None) -> object:
-    """Returns what is equal for two outputs that are one file. Devices swallow any number of them,
-    but standard output does not."""
+    """Returns what is equal for two outputs that are one file. Devices swallow any number."""
     if found is None:
         return os.path.realpath(path)
     if path != STANDARD_OUTPUT and stat.S_ISCHR(found.st_mode):
@@ -156,8 +144,7 @@ def identity_of(path: str, found: os.stat_result | None) -> object:
 
 @contextlib.contextmanager
 def printed_beside(outputs: Iterable[str | None]) -> Iterator[None]:
-    """What is printed goes to standard error if an output is standard output, which then has that
-    alone."""
+    """What is printed goes to standard error if an output is standard output."""
     with (contextlib.redirect_stdout(sys.stderr) if STANDARD_OUTPUT in outputs
           else contextlib.nullcontext()):
         yield
@@ -166,8 +153,7 @@ def printed_beside(outputs: Iterable[str | None]) -> Iterator[None]:
 @contextlib.contextmanager
 def writing(inputs: Sequence[str],
             *files: tuple[str | None, Callable[[], Iterable[bytes]]]) -> Iterator[None]:
-    """Tries whether outputs can be written, goes on, and writes those that are wanted. What is
-    printed meanwhile goes beside them."""
+    """Tries outputs, goes on with what is printed beside them, and writes those wanted."""
     outputs = [path for path, _ in files]
     try_outputs(outputs, inputs)
     with printed_beside(outputs):
@@ -178,8 +164,7 @@ def writing(inputs: Sequence[str],
 
 
 def is_read_from(given: str, found: os.stat_result) -> bool:
-    """Whether an input, `-` for standard input, is this file. One of which nothing can be known is
-    not read either."""
+    """Whether an input, `-` for standard input, is this file, as far as can be known."""
     try:
         return os.path.samestat(os.fstat(0) if given == '-' else os.stat(given), found)
     except (OSError, ValueError):
@@ -206,8 +191,7 @@ def kind_of_file(path: str) -> str | None:
 
 
 def write_all(number: int, blocks: Iterable[bytes]) -> None:
-    """Writes many small blocks at once. After a failure or a signal nothing is left that waits to
-    be written."""
+    """Writes many small blocks at once. After a failure nothing waits to be written."""
     gathered = bytearray()
     for block in blocks:
         gathered += block
@@ -222,8 +206,6 @@ def write_whole(number: int, block: bytes | bytearray) -> None:
     while left:
         left = left[os.write(number, left):]
 
-
-# --- Beside the name ---
 
 @contextlib.contextmanager
 def held() -> Iterator[None]:
@@ -252,8 +234,7 @@ def part_beside(target: str, mode: int) -> Iterator[tuple[str, int]]:
 
 
 def write_beside(target: str, blocks: Iterable[bytes], found: os.stat_result | None) -> None:
-    """Writes a file beside its name, which it gets once it is whole and safe on the disk, in place
-    of the file that was found there."""
+    """Writes a file beside its name, which it gets once it is whole and safe on the disk."""
     mode = None if found is None else mode_of_replaced(target, found)
     with part_beside(target, EVERYBODY if mode is None else OWNER_ALONE) as (part, number):
         write_all(number, blocks)

@@ -13,8 +13,7 @@ class NoPlace(Exception):
 
 
 class Place(typing.NamedTuple):
-    """A record, or a byte of its body. Connections and records are numbered from 1, bytes from
-    0."""
+    """A record, or a byte of its body. Connections and records count from 1, bytes from 0."""
     connection: int
     side: Side
     record: int
@@ -39,8 +38,7 @@ class FilePlace(typing.NamedTuple):
 
 
 class FramePlace(typing.NamedTuple):
-    """A frame of a recording, numbered from 1 as Wireshark counts. It means the records whose
-    bytes it carries."""
+    """A frame, numbered from 1 as Wireshark counts: the records whose bytes it carries."""
     frame: int
 
     def __str__(self) -> str:
@@ -66,15 +64,9 @@ EXAMPLE = "as in 'connection 1 server record 7 byte 24'"
 
 
 def parse_place(text: str) -> Place | FilePlace | FramePlace:
-    """Reads a position from a line of `check`, of `same`, or of `show`, a call as tools/calls
-    prints it (`7:3182`), or a frame. Of several lines the first that is one counts.
-
-    A line of `check` or `same` may have `first: `, `second: ` or `differ at ` before the position,
-    and a reason after it. A line of `show` begins with the numbers of its connection and record.
-    Nothing else may be before or after a position.
-
-    Raises `NoPlace` if there is none.
-    """
+    """Reads a position from a line of `check`, `same` or `show`, a call as tools/calls prints it
+    (`7:3182`), or a frame. Of several lines the first that is one counts. Before and after it only
+    what these print there may be. Raises `NoPlace` if there is none."""
     for line in map(str.strip, text.splitlines()):
         listed, found, frame = LISTED.fullmatch(line), PLACE.fullmatch(line), FRAME.fullmatch(line)
         counted = COUNTED_CALL.fullmatch(line)

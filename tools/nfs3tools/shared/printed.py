@@ -13,8 +13,7 @@ def escaped(name: str) -> str:
 
 
 def printable(text: str) -> str:
-    """Returns a text in which names are escaped already, and nothing else is a control
-    character."""
+    """Returns a text whose names are escaped already, without other control characters."""
     return ''.join(letter if letter.isprintable() else hexadecimal(letter) for letter in text)
 
 

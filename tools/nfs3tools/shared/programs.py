@@ -22,8 +22,6 @@ PIPE_SIZE = 1 << 16  # of Linux
 NOT_FOUND = ('nfs3canon is missing: it is neither beside the tools nor on the PATH; '
              '`make install` in a clone of nfs3canon installs it')
 Redirection = typing.Union[typing.IO[bytes], int]
-# Of a program itself; a shell and a loader have those above for one that cannot run
-MOST_STATUS = 125
 
 
 class Missing(Exception):
@@ -43,10 +41,7 @@ class Answer(typing.NamedTuple):
 
 def program_path(named: str | None = None) -> str:
     """The program: the one that is named, else the one built here, else the launcher that builds
-    it, else the one beside which the tools are installed, else the one on the PATH.
-
-    Raises `Missing`.
-    """
+    it, else that beside which the tools are installed, or on the PATH. Raises `Missing`."""
     here = [TOP / 'crates/nfs3canon/out/nfs3canon', TOP / 'nfs3canon',
             TOP.parent.parent / 'libexec/nfs3canon/nfs3canon']
     for name in [named] if named else [*map(str, here), 'nfs3canon']:
@@ -59,10 +54,7 @@ def program_path(named: str | None = None) -> str:
 @functools.cache
 def program_beside(program: str, name: str) -> str:
     """Another program: what is beside the given one, or in its own crate's folder or under its own
-    launcher, else on the PATH.
-
-    Raises `Missing`.
-    """
+    launcher, else on the PATH. Raises `Missing`."""
     for place in (str(path_beside(pathlib.Path(program), name)), str(TOP / name), name):
         found = shutil.which(place)
         if found:
@@ -71,8 +63,7 @@ def program_beside(program: str, name: str) -> str:
 
 
 def path_beside(program: pathlib.Path, name: str) -> pathlib.Path:
-    """Where another program is that was built with a given one: beside it, or in its own crate's
-    folder."""
+    """Where another program is that was built with one: beside it, or in its crate's folder."""
     path = program.resolve()
     return (path.parents[2] / name / 'out' / name if path.parent.name == 'out'
             else path.parent / name)
@@ -81,10 +72,8 @@ def path_beside(program: pathlib.Path, name: str) -> pathlib.Path:
 def run_program(program: str, words: list[str], expected: typing.Mapping[int, str],
                 content: typing.Iterable[bytes] = ()) -> Answer:
     """Runs the program with the content as its standard input, which it may leave unread.
-    `expected` has each status that is an answer, and how its standard output begins then.
-
-    Raises `Died` if it ends in another way.
-    """
+    `expected` has each status that is an answer, and how its standard output begins then. Raises
+    `Died` if it ends in another way."""
     with tempfile.TemporaryFile() as out, tempfile.TemporaryFile() as error:
         with begun([program, *words], stdin=subprocess.PIPE, stdout=out, stderr=error) as process:
             assert process.stdin is not None
@@ -105,11 +94,7 @@ def expected_of(command: list[str], answer: Answer,
 
 def run_side_by_side(commands: typing.Sequence[list[str]],
                      expected: typing.Mapping[int, str]) -> list[Answer]:
-    """Runs commands at once, each a program with its words, which read nothing. Returns their
-    answers.
-
-    Raises what `run_program` does.
-    """
+    """Runs commands at once, and returns their answers. Raises what `run_program` does."""
     with contextlib.ExitStack() as stack:
         running = []
         for command in commands:
@@ -123,10 +108,8 @@ def run_side_by_side(commands: typing.Sequence[list[str]],
 
 def lines_of_program(program: str, words: list[str], expected: int = 0,
                      stdin: Redirection = subprocess.DEVNULL) -> typing.Iterator[str]:
-    """Iterates over the lines that a program prints.
-
-    Raises `Died` after the last of them unless its status is the one that is expected.
-    """
+    """Iterates over the lines that a program prints. Raises `Died` after the last of them unless
+    its status is the one that is expected."""
     with tempfile.TemporaryFile() as error:
         with begun([program, *words], stdin=stdin, stdout=subprocess.PIPE, stderr=error) as process:
             assert process.stdout is not None

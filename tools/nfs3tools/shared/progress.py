@@ -26,7 +26,9 @@ class Progress:
     def step(self, what: str, share: Share | None = None) -> None:
         """Says how much is done, if it was not said just now."""
         if self.is_shown and time.monotonic() > self.told + BETWEEN:
-            self.write(what if share is None else f'{what}, {percent(share())}')
+            # (a file may have grown)
+            self.write(what if share is None
+                       else f'{what}, {min(100, max(0, int(100 * share())))} %')
 
     def write(self, what: str) -> None:
         self.told = time.monotonic()
@@ -54,8 +56,3 @@ class Progress:
     def end(self) -> None:
         if self.is_shown:
             print('\r\x1b[K', end='', file=sys.stderr, flush=True)
-
-
-def percent(share: float) -> str:
-    """Returns a share in per cent. It is at most 100, since a file may have grown."""
-    return f'{min(100, max(0, int(100 * share)))} %'

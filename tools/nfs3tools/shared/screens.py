@@ -23,8 +23,7 @@ class Colour(enum.Enum):
 
 
 class Screen(NamedTuple):
-    """Where something is printed: the columns of the terminal, None if it is none, and whether it
-    has colours."""
+    """Where something is printed: the columns of a terminal, None if it is none, and colours."""
     width: int | None = None
     is_coloured: bool = False
 
@@ -65,8 +64,7 @@ def positive(word: str) -> int:
 
 
 def screen_of(when: str, width: int | None = None) -> Screen:
-    """Returns what standard output is now: it may be standard error in its place. `width` is the
-    one that a user wants, 0 for none."""
+    """Returns what standard output is now. `width` is what a user wants, 0 for none."""
     is_terminal = sys.stdout.isatty()
     is_wanted = is_terminal and not os.environ.get('NO_COLOR') and os.environ.get('TERM') != 'dumb'
     own = shutil.get_terminal_size().columns if is_terminal else None
@@ -82,8 +80,7 @@ class Styled(NamedTuple):
 
 def table_lines(rows: Sequence[Styled], screen: Screen, right: Container[int] = (),
                 is_cut: bool = False) -> Iterator[str]:
-    """Returns the lines of a table, as `columns` does. On a terminal they may be cut at its
-    width."""
+    """Returns the lines of a table. On a terminal they may be cut at its width."""
     heads = columns([[*row.cells[:-1], ''] for row in rows], right)
     width = screen.width if is_cut else None
     for head, row in zip(heads, rows):

@@ -1,15 +1,9 @@
 """The rule: which answers of two runs may differ, and which calls of one run alone are left out.
 
-A difference between two answers to one question is explained if
-
-- a change of this very value stands otherwise to the question in both runs (`facts`), and
-- each of both answers is one that the history of its own run allows at that time (`history`).
-
-What a history does not know must be equal. compare.1 has the same in more words.
-
-A client's caches decide how often it asks. So a call of one run alone that only asks is left out if
-it has one answer that the history of its run allows, if what it asks about is known in the other
-run, if that has no such call alone, too, and if they are few.
+A difference between two answers to one question is explained if a change of this very value stands
+otherwise to the question in both runs (`facts`), and each of both answers is one that the history
+of its own run allows at that time (`history`). What a history does not know must be equal.
+compare.1 has the same in more words, and when a call that only asks is left out.
 """
 from __future__ import annotations
 
@@ -25,7 +19,8 @@ from ...exchanges.history import (
 from ...exchanges.in_words import short
 from ...exchanges.objects import DOTS
 from ...exchanges.procedures import (
-    ACCESS, BEFORE, DONE, LISTINGS, LOOKUP, NO_ENTRY, STEADY, owners_in, statements_of_entry)
+    ACCESS, BEFORE, DONE, LISTINGS, LOOKUP, NO_ENTRY, STEADY, is_of_files, owners_in,
+    statements_of_entry)
 from ...exchanges.timelines import SaidValues
 from ...exchanges.values import Values
 from ...recordings.taken import Taken
@@ -51,8 +46,7 @@ ReasonsOfCalls = tuple[dict[int, str], dict[int, str]]  # calls of both runs, ea
 
 
 class Unexplained(Exception):
-    """A difference that no order explains. The text says why, if it is not that no change stands
-    otherwise."""
+    """A difference that no order explains, and why, if a change stands otherwise."""
 
 
 def free_items(mask: Mask) -> frozenset[str]:
@@ -281,8 +275,6 @@ class OrderRule:
         times = self.present(reply.history, reply.folder, reply.at if reply.at in wholes else -1)
         return 'it lacks a name' if lacking(reply.history, reply.folder, listed, times) else ''
 
-    # --- Two answers that are equal ---
-
     def equal_and_wrong(self) -> Iterator[tuple[Pair, str]]:
         """Iterates over pairs that say the same of a value, which one of their runs does not allow
         though a change of it stands otherwise: each with why."""
@@ -299,8 +291,6 @@ class OrderRule:
                 if wrong:
                     label = 'name' if key[1][0] == '/' else key[1]
                     yield pair, f'{label}: {NOT_ALLOWED.format(RUN_WORDS[wrong[0]])}'
-
-    # --- An answer of one run alone ---
 
     def wrong_answer(self, run: int, at: int) -> str:
         """Returns why an answer is not all allowed by its run, or nothing."""
@@ -328,8 +318,6 @@ def found_in(reply: Reply) -> object:
         return GONE if reply.one.status == NO_ENTRY else None
     return reply.facts.known_as(reply.reply['fh'])
 
-
-# --- Calls of one run alone ---
 
 class Extras:
     """The calls of a run that the other run does not have, and only ask."""
@@ -377,8 +365,7 @@ class Extras:
         return self.rule.wrong_answer(self.run, at) or self.wrong_results(at, other)
 
     def wrong_results(self, at: int, other: 'Extras') -> str:
-        """Returns why its results are not those of the same question, or nothing. Of ACCESS each
-        bit has to be that of another answer."""
+        """Returns why its results are not those of the same question. Of ACCESS each bit counts."""
         one = self.facts.messages[at][0][1]
         key = one.procedure, self.facts.known_as(one.handle)
         own, others = (run.facts.history.results.get(key, SaidValues()).but(source)
@@ -407,15 +394,12 @@ def refused(first: Extras, second: Extras) -> ReasonsOfCalls:
     return out
 
 
-# --- The whole ---
-
 @dataclass
 class Explanation:
     """What an order explains.
 
     pairs: those whose answers differ, with the changes that explain it
-    counted: calls of the first and of the second run alone that only ask and count all the same,
-        each with the reason
+    counted: calls of both runs alone that only ask and count all the same, with the reasons
     remarks: why answers of others are not explained, if it is not for want of a change
     noted: pairs whose answers are equal, and which their run does not allow, with why
     """
@@ -429,8 +413,7 @@ def explanation_of(taken: Sequence[Taken], pairing: Pairing,
                    listings: Callable[[], tuple[Listing, Listing]], leaves_out: frozenset[str],
                    mask: Mask) -> Explanation:
     """Returns what an order explains of two runs. `listings` returns those of the canonical forms
-    without a mask, which are read if something differs as an order may explain: some change stands
-    otherwise to it, or it lists folders, in which masked names may have other places."""
+    without a mask, which are read if something differs as an order may explain."""
     out, (here, there) = Explanation(), pairing.runs
     unequal = dict.fromkeys((at, to) for at, to in pairing.pairs()
                             if here.said[at] != there.said[to])
@@ -441,7 +424,8 @@ def explanation_of(taken: Sequence[Taken], pairing: Pairing,
     identify(pairing)
     turns = [Turns(one, pairing, run) for run, one in enumerate(taken)
              if all(other.has_frames for other in taken)]
-    doubtful = [pair for pair in unequal if turns and (
+    # (of what MOUNT or another program answers a history knows nothing)
+    doubtful = [pair for pair in unequal if turns and is_of_files(here.procedure_of(pair[0])) and (
         here.procedure_of(pair[0]) in LISTINGS or not is_quiet(turns, pair))]
     if not doubtful and not any(extras):
         return out

@@ -131,10 +131,7 @@ class ChangesOfKey:
         return None
 
 
-# --- What a run says ---
-
 def handles_asked(outlines: Outlines, at: int) -> Values:
-    """Returns the handles of a call as its values."""
     return {item: f'{handle:x}' for item, handle in zip(
         handle_items(outlines.procedure_of(at)), outlines.objects_of(at))}
 
@@ -149,8 +146,6 @@ def id_in(statement: Statement) -> Id:
 
 
 class IdsOfRun:
-    """What answers say of ids."""
-
     def __init__(self, outlines: Outlines) -> None:
         self.outlines = outlines
         self.votes = defaultdict[KnownObject, Counter[Id]](Counter)
@@ -170,8 +165,7 @@ class IdsOfRun:
 
     @cached_property
     def of_objects(self) -> dict[KnownObject, Id]:
-        """The id of each object: that which most of its answers say, of those with a file system
-        if there are some."""
+        """The id of each object that most answers say, of those with a file system if some are."""
         return {own: max(some, key=lambda one: (some[one] * bool(one[0]), some[one]))
                 for own, some in self.votes.items()}
 
@@ -184,11 +178,8 @@ class IdsOfRun:
 
 
 class Facts:
-    """What is read of a run.
-
-    messages: some exchanges: each reply as it begins, and the exchange with it
-    names: those of each call that has some
-    """
+    """What is read of a run: messages, which are replies as they begin, with their exchanges, and
+    names of calls."""
 
     def __init__(self, outlines: Outlines, lines: Iterable[str], turns: Turns | None,
                  wanted: set[int]) -> None:
@@ -214,8 +205,7 @@ class Facts:
         self.history.settle()
 
     def identity(self, handle: str) -> int:
-        """Returns what an object is called in both runs, 0 if that is not known. Some handles are
-        in entries of folders alone."""
+        """Returns what an object is called in both runs, 0 if that is not known."""
         number, identities = int(handle or '0', 16), self.outlines.identities
         return identities[number] if number < len(identities) else 0
 

@@ -1,10 +1,8 @@
 """The second run with values of the first one: ids that follow their objects, cookies that follow
 entries, and verifiers of exclusive creates that follow files.
 
-Servers give out ids again, so the ids of two runs need not be one to one. Which object of one run
-is which of the other is known by the exchanges that belong together. Of an object the id counts
-that most of its run's answers say. Each answer has the first run's id in the place of that; any
-other id stays, and differs.
+Which object of one run is which of the other is known by the exchanges that belong together. Of an
+object the id counts that most of its run's answers say. Any other id stays, and differs.
 """
 from __future__ import annotations
 
@@ -59,7 +57,6 @@ class SaidValuesOfRun:
 
 
 def entries_listed(line: Line) -> list[Values]:
-    """Returns the entries of a listing, none of one that failed."""
     if line.procedure not in LISTINGS:
         return []
     return list(read_reply(line.procedure, line.text)[1].get('entries', ()))
@@ -135,8 +132,6 @@ def swapped(said: str, own: str, other: str) -> str:
     differs."""
     return {own: other, other: own}.get(said, said)
 
-
-# --- The second run, written anew ---
 
 def with_values(taken: Taken, values: ReplacedValues) -> Taken:
     """Returns a run with other values in some messages, each record as one fragment."""

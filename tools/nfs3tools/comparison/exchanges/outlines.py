@@ -242,7 +242,6 @@ class Outlines:
         return bisect_right(self.starts, at) - 1
 
     def place_of(self, connection: int) -> int:
-        """Returns the place of a connection, by its number."""
         return bisect_left(self.connections, connection)
 
     def exchanges_of(self, place: int) -> range:
@@ -277,7 +276,6 @@ class Outlines:
                 yield at, line_of(text)
 
     def objects_of(self, at: int) -> list[int]:
-        """Returns the handles of a call."""
         return [handle for handle in (self.folders[at], self.seconds.get(at, 0)) if handle]
 
     @cached_property

@@ -83,7 +83,6 @@ class Pairing:
         return array('I', (pair[run] for pair in self.pairs()))
 
     def alone(self, run: int) -> list[int]:
-        """Returns the exchanges of a run that have no partner."""
         return [at for at, other in enumerate((self.partners, self.owners)[run]) if other == NOBODY]
 
     @cached_property
@@ -100,8 +99,7 @@ class Pairing:
                 else range(0))
 
     def at_home(self, place: int) -> Iterator[Pair]:
-        """Iterates over the pairs of a connection of the first run and of the one that belongs to
-        it."""
+        """Iterates over the pairs of a connection of the first run and of its partner."""
         own, home = self.here.exchanges_of(place), self.home_of(place)
         return ((at, to) for at, to in zip(own, islice(self.partners, own.start, own.stop))
                 if to in home)
@@ -156,8 +154,7 @@ class Pairing:
         return {home: place for place, home in enumerate(self.homes) if home != NOBODY}
 
     def turns_of_replies(self, place: int) -> 'array[int]':
-        """Returns the records of the second run's replies, in the order of those of a connection of
-        the first run to which they belong."""
+        """Returns the records of the second run's replies, in the order of the first run's."""
         turns = array('I', [0]) * (1 + len(self.here.owners[self.here.connections[place]][False]))
         for at, to in self.at_home(place):
             for record, other in zip(self.here.replies_of(at), self.there.replies_of(to)):
@@ -219,8 +216,7 @@ class Pairing:
                         self.bind(at, to)
 
     def by_key(self, keys: KeysOfRuns) -> None:
-        """Binds exchanges that have a key in common: those between near neighbours first, for one
-        run may have one more before them."""
+        """Binds exchanges that have a key in common: those between near neighbours first."""
         self.in_gaps(keys, SURPLUS_AT_MOST)
         self.by_turn(keys)
 

@@ -20,13 +20,11 @@ from ...shared.places import SIDES, Side
 from ...shared.programs import Died
 
 class WrongOrder(Died):
-    """An order that is none of the run: an exchange is there twice or not at all, or its messages
-    have several xids."""
+    """An exchange is in an order twice or not at all, or its messages have several xids."""
 
 
 class Numbered(NamedTuple):
-    """Calls and their replies: the number of the connection, and the records, all from 1. Those
-    that are written are one call."""
+    """Calls and their replies: the connection's number, and those of the records, from 1."""
     connection: int
     calls: Sequence[int]
     replies: Sequence[int]
@@ -44,10 +42,7 @@ class Records:
         self.block, self.block_begin = b'', 0  # bytes that were read ahead
 
     def use(self, number: int) -> bytes:
-        """Returns the body of a record: the bytes of its fragments, joined.
-
-        Raises `WrongOrder` if there is no such record, or if it was used.
-        """
+        """Returns the body of a record. Raises `WrongOrder` if it is not there, or was used."""
         if not 0 < number <= len(self.is_used) or self.is_used[number - 1]:
             raise WrongOrder(
                 f'record {number} of a stream is not there, or comes twice in an order')
@@ -130,11 +125,8 @@ class WrittenStream:
 def write_in_order(taken: Taken, exchanges: Iterable[Numbered], left_out: Iterable[Numbered],
                    path: str,
                    writer: type[Rewriting] = Rewriting) -> None:
-    """Writes the exchanges of a run, which are iterated over twice, as a capture in a temporary
-    folder. With those that are left out they are all of it.
-
-    Raises `WrongOrder` if they are not, and `OSError`.
-    """
+    """Writes the exchanges of a run, which are iterated over twice, as a temporary capture. With
+    those that are left out they are all of it: raises `WrongOrder` if not, and `OSError`."""
     rewriting = writer(taken, exchanges)
     rewriting.leave_out(left_out)
     write_temporary(path, capture_of([(WrittenStream(rewriting, 'client'),

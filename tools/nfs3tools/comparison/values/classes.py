@@ -15,8 +15,7 @@ class Way(enum.Enum):
 
 @dataclass(frozen=True)
 class ValueClass:
-    """A class of values: the names of its items in a listing, how it is masked, and whether it is
-    by default."""
+    """A class of values: the names of its items, how it is masked, and whether by default."""
     name: str
     items: frozenset[str]
     way: Way
@@ -96,8 +95,7 @@ def default_mask() -> Mask:
 
 
 def changed_mask(mask: Mask, word: str) -> Mask:
-    """Returns a mask with one class added (`+NAME`), removed (`-NAME`) or masked in the way that is
-    named (`NAME=zero`)."""
+    """Returns a mask with a class added (`+NAME`), removed (`-NAME`) or masked so (`NAME=zero`)."""
     name, _, way = word.lstrip('+-').partition('=')
     if name not in CLASSES_BY_NAME:
         raise argparse.ArgumentTypeError(
@@ -113,8 +111,7 @@ def changed_mask(mask: Mask, word: str) -> Mask:
 
 
 def mask_of(text: str) -> Mask:
-    """Reads the word of `--mask`. Words that begin with `+` or `-` change the default mask; any
-    others are the whole mask."""
+    """Reads the word of `--mask`. Words with `+` or `-` change the default mask."""
     words = [word for word in text.split(',') if word and word != 'none']
     mask = default_mask() if words and all(word[0] in '+-' for word in words) else {}
     for word in words:
@@ -154,8 +151,7 @@ def named_in(text: str | None) -> frozenset[str] | None:
 
 
 def following(text: str | None) -> frozenset[str]:
-    """Returns the classes whose values follow their objects in any order, if they are not one to
-    one: those that `--mask` does not name."""
+    """Returns the classes that `--mask` does not name, whose values may follow their objects."""
     named = named_in(text)
     return frozenset() if named is None else FOLLOWING_CLASSES - named
 

@@ -14,14 +14,12 @@ ESCAPED = re.compile(r'\\x([0-9a-f]{2})')
 
 
 class Parting(NamedTuple):
-    """Two values that differ.
+    """Two values that differ, with some bytes round the first that does, as they are printed.
 
-    at: the first byte that differs, or the size of a value with which the other begins; bytes are
-        numbered from 0
-    offset: the place of this byte in the file, of data of a file
+    at: this byte from 0, or the size of a value with which the other begins
+    offset: its place in the file, of data of a file
     differing: how many bytes differ, of those that both values have
     sizes: how many bytes each of them has
-    shown: some bytes of each, round the first that differs, as they are printed
     """
     at: int
     offset: int | None
@@ -70,8 +68,7 @@ def parting(one: bytes, other: bytes) -> tuple[int, int]:
 
 
 def bytes_around(content: bytes | Long, at: int, is_text: bool) -> str:
-    """Returns the bytes round a place: of a name as the listing spells it, of others in
-    hexadecimal, with a space before the place."""
+    """Returns the bytes round a place: a name as it is listed, others in two parts of digits."""
     begin = max(0, at - SHOWN // 2)
     piece, before, after = (content[begin:begin + SHOWN], '..' * (begin > 0),
                             '..' * (begin + SHOWN < len(content)))

@@ -126,7 +126,6 @@ def kind_of_entry(entry: AcceptedEntry) -> str:
 
 def entries_with(entries: Sequence[AcceptedEntry], numbers: Iterable[int],
                  difference: Difference) -> list[int]:
-    """Returns which of some entries have a field and its values."""
     values = values_by_run(difference)
     return [number for number in numbers
             if entries[number].get('field') in (difference.label, difference.field)
@@ -139,8 +138,6 @@ def values_by_run(difference: Difference) -> dict[str, str | None]:
     return {side: None if value is None else str(value) for side, value in zip(RUNS, both)}
 
 
-# --- The file ---
-
 def accepted_of(path: str) -> Accepted:
     """Reads a file of accepted findings. Raises `ArgumentTypeError` if it is none."""
     with open(path, 'rb') as file:
@@ -150,10 +147,7 @@ def accepted_of(path: str) -> Accepted:
         version = whole['version'] if isinstance(whole, dict) else None
         entries = whole['accepted'] if version == ACCEPTED_VERSION else None
     except (ValueError, KeyError, RecursionError):
-        version = entries = None
-    if version == 1:
-        raise refusal(path, 'it has version 1, whose entries accept more than one finding; '
-                            '--accept-new writes a new one')
+        entries = None
     if not isinstance(entries, list):
         raise refusal(path,
                       f'it has no object with "version": {ACCEPTED_VERSION} and a list "accepted"')
@@ -213,8 +207,7 @@ def file_of(findings: Iterable[Finding], mask: Mask) -> bytes:
 
 
 def entries_of(finding: Finding, mask: Mask) -> Iterator[AcceptedEntry]:
-    """Iterates over the entries that accept a finding. Whole connections are not accepted, nor is
-    the order of all replies of one."""
+    """Iterates over the entries that accept a finding: none of a connection, or its order."""
     message = finding.message
     if finding.kind in ('connection', 'order'):
         return
@@ -242,8 +235,6 @@ def entry_text(entry: AcceptedEntry) -> str:
     where = [path] if (path := entry.get('path', ANY)) is not None else []
     return printable(' '.join([entry['procedure'], *where, about]) + ''.join(values))
 
-
-# --- Fields that a user left out ---
 
 class Ignored(NamedTuple):
     """A field of a procedure, or of any if that is `*`: a label, one without the names of entries,

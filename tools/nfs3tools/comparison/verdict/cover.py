@@ -17,7 +17,7 @@ from ...recordings.coverage import Allowed, CountedWord, Counts, Covered, counts
 from ...recordings.selection import count
 from ...recordings.taken import Taken, TakenConnection
 from ...shared.places import FilePlace, parse_fault
-from ...shared.programs import CHECKED, Answer, Died, run_program, run_side_by_side
+from ...shared.programs import CHECKED, Answer, Died, run_program
 
 CHECKED_COUNTS = re.compile(r'ok connections=(\d+) calls=(\d+) ')
 
@@ -32,8 +32,7 @@ class Size(NamedTuple):
 
 
 class NotJudged(NamedTuple):
-    """What is not judged as a whole, or is refused: its word, the number of its connection if it is
-    taken, its ends, and why."""
+    """What is not judged whole, or is refused: its word, its connection, its ends, and why."""
     word: CountedWord
     connection: int | None
     ends: str
@@ -42,13 +41,8 @@ class NotJudged(NamedTuple):
 
 @dataclass(frozen=True)
 class Cover:
-    """How much of a run is compared.
-
-    taken: its connections that are compared
-    size: how much they have
-    covered: all connections, and what else the recording shows
-    refused: by the numbers of connections that are refused: the fault, with its frame
-    """
+    """How much of a run is compared: its connections, what the recording shows besides, and by the
+    numbers of those that are refused their faults, with their frames."""
     taken: Taken
     size: Size
     covered: Sequence[Covered]
@@ -71,7 +65,6 @@ class Cover:
                             for one in self.covered), *damaged])
 
     def rows(self) -> Iterator[NotJudged]:
-        """Iterates over what is not judged as a whole."""
         for one in self.covered:
             word = self.word_of(one)
             if word != 'judged' or not one.is_whole:
@@ -117,15 +110,6 @@ class Cover:
 def is_connection(covered: Covered) -> bool:
     """Whether it is that of a connection, taken or left out."""
     return covered.number is not None or bool(covered.ends)
-
-
-def covers_of(program: str, runs: Sequence[Taken], captures: Sequence[str]) -> list[Cover]:
-    """Returns how much of each run, which is written as a capture, is compared.
-
-    Raises `Died` if the program gives no answer.
-    """
-    answers = run_side_by_side([[program, 'check', capture] for capture in captures], CHECKED)
-    return [cover_of(program, *one) for one in zip(runs, answers)]
 
 
 def cover_of(program: str, taken: Taken, answer: Answer) -> Cover:

@@ -41,13 +41,12 @@ KeyedLines = tuple[tuple[bool, int], int, list[tuple[str, str]]]
 
 @dataclass(frozen=True)
 class Choices:
-    """How runs are compared.
+    """How runs are compared, and whether both are shown side by side.
 
     order: whether the order counts; if it is None, any order is tried, and counts if it makes a
         difference
     masks: that of the comparison, and those of any order, each with more than the one before
     leaves_out: the procedures whose calls are left out in any order if one run alone has them
-    is_shown: whether both runs are shown side by side
     accepted: the findings that were accepted before, if there is a file of them
     follows: the classes whose values follow their objects in any order, if they are not one to one
     """
@@ -78,8 +77,7 @@ class Outcome:
 
 
 class NothingToCompare(Exception):
-    """A run has no call that can be compared, or none that is not left out; the text is the message
-    for the user."""
+    """A run has no call that can be compared and is not left out; the text is for the user."""
 
 
 class Orders:
@@ -345,8 +343,7 @@ def run_of(trial: Trial, taken: Taken, capture: str, name: str) -> Run:
 
 def judged_runs(trial: Trial, runs: Sequence[Run], names: Sequence[str], choices: Choices,
                 covers: Sequence[Cover]) -> Report:
-    """Compares both runs of a trial. They are brought together only if they differ, or are to be
-    shown side by side."""
+    """Compares both runs of a trial. They are brought together if they differ, or for a page."""
     place = trial.placed(trial.difference(trial.captures, choices.masks[0]))
     if not place and not choices.is_shown:
         first, second = (cover.size.calls for cover in covers)
@@ -375,7 +372,6 @@ def turns(compared: Compared) -> list[str]:
 
 
 def left_out(compared: Compared) -> Iterator[tuple[str, str]]:
-    """The calls that are left out of each run, and the run's name."""
     for name, procedures in zip(RUNS, compared.left_out):
         for procedure, number in sorted(procedures.items()):
             yield f'{number:,} {short(procedure)}', name

@@ -54,8 +54,7 @@ class Difference:
 
 
 def offset_of(message: Message, call: Message | None) -> int | None:
-    """Returns where in the file the data of a message is, if that is known. Of a reply its call
-    says it."""
+    """Returns where in the file the data of a message is, if its call or itself says it."""
     asking = message if message.is_call else call
     if asking is None or asking.procedure != (WRITE if message.is_call else READ):
         return None
@@ -70,8 +69,7 @@ class Bindings:
     back: dict[tuple[str, str], str] = field(default_factory=dict)
 
     def bind(self, name: str, first: str, second: str) -> str | None:
-        """Binds two values of a class. Returns None if they are bound to each other now, or why
-        they cannot be."""
+        """Binds two values of a class. Returns None if they are bound, or why they cannot be."""
         bound, owner = self.forth.get((name, first)), self.back.get((name, second))
         if bound is None and owner is None:
             self.forth[name, first], self.back[name, second] = second, first
@@ -247,8 +245,7 @@ def in_both(ours: Items, theirs: Items) -> Iterator[tuple[Item, Item]]:
 
 
 def by_name(entries: Iterable[tuple[str, Items]]) -> dict[tuple[str, int], Items]:
-    """Returns entries by their keys, and by how many of a key are before. A broken directory may
-    have several of a name."""
+    """Returns entries by their keys, and by how many of a key are before: names may repeat."""
     counts, out = Counter[str](), dict[tuple[str, int], Items]()
     for key, entry in entries:
         out[key, counts[key]] = entry
@@ -267,11 +264,8 @@ def of_entry(first: str | None, second: str | None, remark: str = '') -> Differe
     return Difference(name, first, second, remark, field, field)
 
 
-# --- Calls of one run alone ---
-
 def arguments_of(call: Message, mask: Mask) -> tuple[Item, ...]:
-    """Returns the arguments of a call. Values that are masked as zero are left out, and words that
-    only say what follows."""
+    """Returns the arguments of a call but for masked ones, and words that say what follows."""
     return tuple(item for item in call.after(LAST_OF_HEAD) if item.name not in CHOICES
                  and (item.name not in TIMES or item.value == SERVER_TIME)
                  and not is_zero(item, mask))

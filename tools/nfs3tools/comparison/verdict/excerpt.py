@@ -17,8 +17,7 @@ SHOWN_AT_MOST = 2_000  # pairs that differ
 
 
 class ExcerptRow(NamedTuple):
-    """An exchange of each run, None if the run does not have it, the path of what it is about, and
-    whether it is reported."""
+    """An exchange of each run, or None, the path of what it is about, and if it is reported."""
     first: Exchange | None
     second: Exchange | None
     path: str | None
@@ -34,8 +33,7 @@ class HiddenCalls(NamedTuple):
 
 
 class ExcerptConnection(NamedTuple):
-    """The numbers that a connection has in both runs, None if one does not have it, and its rows
-    and gaps in order."""
+    """The numbers of a connection in both runs, or None, and its rows and gaps in order."""
     first: int | None
     second: int | None
     rows: list[ExcerptRow | HiddenCalls]
@@ -90,8 +88,7 @@ class Shown:
                                                 len(self.pairing.homes))
 
     def key_of(self, pair: Pair) -> tuple[int, int, int]:
-        """The order in which pairs are shown: that of the first run. What the second run alone has
-        comes after what is before it."""
+        """The order of the first run; what the second alone has comes after what is before it."""
         at, to = pair
         place = self.place_of(pair)
         if at != NOBODY:

@@ -27,8 +27,7 @@ Framing = Callable[[Message], Sequence[int]]
 
 @dataclass
 class Run:
-    """One of two runs: its name, its listing, which begins anew if it is called, and the frames
-    that carry a message (none of a capture)."""
+    """One of two runs: its name, its listing, begun anew by a call, and the frames of a message."""
     name: str
     listing: Listing
     frames: Framing
@@ -76,20 +75,16 @@ class Finding:
 
 @dataclass
 class Compared:
-    """All findings, in the order of the first run, and what is matched.
+    """All findings, in the order of the first run, and what is matched under the mask.
 
-    exchanges: how many exchanges were brought together
-    calls: how many each run has
+    exchanges, calls: how many exchanges were brought together, and how many calls each run has
     moved, elsewhere: how many of those are reordered, or are on another connection
-    late: how many replies come in another order
-    late_connections: how many connections do
+    late, late_connections: how many replies come in another order, and on how many connections
     lonely: how many calls the first and the second run have alone, which are reported
     silent: all calls that are left out
     noted: pairs whose answers are equal, and which a run does not allow; they count for nothing
-    beside: what differs with some pairs before and after it, for those who show both runs side by
-        side
+    beside: what differs with some pairs before and after it, to show both runs side by side
     explained: how many pairs are left out whose answers differ as an order explains
-    mask: that under which they were compared
     """
     findings: list[Finding] = field(default_factory=list)
     exchanges: int = 0
@@ -107,8 +102,7 @@ class Compared:
 
     @property
     def left_out(self) -> list[Counter[str]]:
-        """How often each procedure was left out of the first and of the second run, that one run
-        alone has."""
+        """How often each procedure was left out that the first, or the second run alone has."""
         return [Counter(call.message.procedure for call in self.silent
                         if call.kind == 'only' and call.run == name) for name in RUNS]
 
@@ -119,8 +113,7 @@ class Compared:
 
 
 class ParsedExchanges:
-    """Exchanges of a run that are taken apart, with the paths of their files. Long values are in a
-    temporary file."""
+    """Exchanges of a run that are taken apart, with paths. Long values are in a temporary file."""
 
     def __init__(self, run: Run, outlines: Outlines, wanted: Iterable[int]) -> None:
         self.exchanges, self.paths, values = dict[int, Exchange](), Paths(), LongValues()
@@ -188,8 +181,7 @@ class OneOfTwo:
             finding, first=None, second=one.call, statuses=finding.statuses[::-1])
 
     def results(self, at: int, mask: Mask) -> Iterator[Item]:
-        """Iterates over what the replies of an exchange say. Of an object it is the path, or that
-        nobody knows it before."""
+        """Iterates over what replies say. Of an object it is the path, or that it is new."""
         for reply in self.apart.exchanges[at].replies:
             for one in results_of(reply, mask):
                 if one.name == 'fh':
@@ -282,8 +274,7 @@ class Explaining:
                 yield from (((at, to), self.completed(finding, (at, to))) for finding in found)
 
     def completed(self, finding: Finding, pair: Pair) -> Finding:
-        """Returns a finding with the paths of file handles, and of a reply with the reason why no
-        order explains it."""
+        """Returns a finding with the paths of handles, and why no order explains a reply."""
         is_told = finding.kind == 'changed' and not finding.message.is_call and not all(
             one.is_equal for one in finding.differences)
         return replace(finding, differences=tuple(map(self.with_paths, finding.differences)),
@@ -333,14 +324,12 @@ class Explaining:
             yield from (own.alone('only', at) for at in own.silent)
 
     def named(self, change: Change) -> str:
-        """Returns a change in words: its procedure, its path, and where it is."""
         apart = self.runs[change.run].apart
         call, path = apart.exchanges[change.at].call, apart.path(change.at) or '?'
         return f'{short(call.procedure)} {path} at {call.place} of the {RUNS[change.run]} run'
 
     def place_of(self, finding: Finding) -> tuple[int, int, bool]:
-        """Where a finding stands: in the order of the first run; what the second run alone has
-        comes at its own place."""
+        """Where a finding stands: in the order of the first run, or at its own place."""
         message, is_second = finding.message, finding.first is None
         place = self.runs[is_second].outlines.place_of(message.connection)
         if is_second:
@@ -396,8 +385,7 @@ def of_pair(one: Exchange, other: Exchange, path: str | None,
 
 
 def further_results(one: Exchange, other: Exchange, mask: Mask) -> Iterator[Item]:
-    """Iterates over what the replies say that one exchange has alone. Of a file handle it is
-    whether the first reply has it."""
+    """Iterates over what replies of one exchange alone say. A handle is the first one, or not."""
     for reply in (*one.replies[len(other.replies):], *other.replies[len(one.replies):]):
         first = (one if reply in one.replies else other).replies[0].value_of('fh')
         for result in results_of(reply, mask):

@@ -34,8 +34,7 @@ def when_of(taken: Taken) -> When | None:
 
 
 class Trial:
-    """Two runs, which are written as captures. What is made of them is written beside them, each
-    once and under a new name."""
+    """Two runs, written as captures. What is made of them is written beside them, once."""
 
     def __init__(self, program: str, folder: Path, runs: Sequence[Taken],
                  progress: Progress = Progress(False)) -> None:
@@ -49,7 +48,6 @@ class Trial:
             write_temporary(capture, taken.capture())
 
     def with_second(self, second: Taken) -> 'Trial':
-        """Returns a trial of the first run and another second one."""
         folder = Path(tempfile.mkdtemp(dir=self.folder))
         return Trial(self.program, folder, [self.runs[0], second], self.progress)
 
@@ -76,8 +74,7 @@ class Trial:
                             lambda capture, name: [program, capture, name, *words], MASKED)
 
     def difference(self, captures: Sequence[str], mask: Mask) -> str:
-        """Returns where the program says that two captures differ, or nothing if it calls them the
-        same."""
+        """Returns where the program says that captures differ, or nothing if they are the same."""
         masked = self.masked(captures, mask)
         key = masked[0], masked[1]
         if key not in self.said:
@@ -87,8 +84,7 @@ class Trial:
         return self.said[key]
 
     def listing(self, capture: str) -> Listing:
-        """Returns the lines of a capture. Connections have the numbers that they have in the run,
-        of which some may be left out."""
+        """Returns the lines of a capture, in which connections have the numbers of the run."""
         return partial(self.lines, capture, self.runs[RUN_LETTERS.index(Path(capture).name[0])])
 
     def lines(self, capture: str, taken: Taken) -> Iterable[str]:
