@@ -50,13 +50,12 @@ GIVEN_AT_ONCE = {'getattr': 3, 'two_connections': 7, 'bad_bool': 1, 'bad_server_
 WRITTEN_AT_ONCE = 499
 # What `same` says of a file, by the number under which it is open.
 OF_FILE: dict[int | None, str] = {3: 'first: ', 4: 'second: '}
-# The calls of the system that each fail once for each kind of output, and how.
+# The calls of the system that each fail once for each kind of output, and how. The first `stat` is
+# of standard output, which is closed if it is not there.
 LOOKING = (errno.ENOMEM, errno.EIO, errno.EACCES)
 FAILING = {'stat': (*LOOKING, errno.ENOENT), 'open': LOOKING, 'readlink': LOOKING,
-           'link': (errno.EIO, errno.EPERM, errno.EEXIST),
            'rename': (errno.EIO,), 'unlink': (errno.EIO,), 'mode': (errno.EPERM,),
-           'owner': (errno.EPERM,), 'sync': (errno.EIO,),
-           'random': (errno.EAGAIN,)}
+           'sync': (errno.EIO,), 'random': (errno.EAGAIN,)}
 MIXED = messages.interleaved(messages.in_turn([call(1, NFS, 3, 0)], [success(1)]))
 
 
@@ -305,6 +304,8 @@ def calls(setting: Setting, place: Place) -> None:
     for kind, errors in FAILING.items():
         last = plain.answer.counts[kind]
         for number, error in itertools.product(range(1, last + 1), errors):
+            if (kind, number, error) == ('stat', 1, errno.ENOENT):
+                continue
             outputs.make(place.folder, setting, capture)
             what = '%s with %s %d of %d failed by %s' % (setting.line, kind, number, last,
                                                          errno.errorcode[error])
@@ -371,6 +372,16 @@ def without_front(found: Found, setting: Setting, before: Found, after: Found) -
     if name in before and content_of(after, name).startswith(content_of(found, name)):
         return {**found, name: before[name]}
     return found
+
+
+def pipes_that_become_files(line: str, place: Place) -> None:
+    """A file that has got the name of a pipe when it is opened is not written."""
+    place.put(example('getattr'))
+    os.mkfifo(place.path('pipe'))
+    answer = place.fail(line, Fault('open', 1, name='pipe', before=lambda: os.replace(
+        place.path('out'), place.path('pipe'))))
+    place.want_end(line, answer, 3, '', 'open failed: pipe\n')
+    place.want('files', place.files(), {'a': place.capture, 'pipe': AS_IT_WAS})
 
 
 # --- How often is read ---
@@ -460,6 +471,8 @@ def tries() -> Iterator[tuple[str, Callable[..., None], *tuple[object, ...]]]:
         yield 'unopened names: ' + line, unopened_names, line, told
     for name, setting in SETTINGS.items():
         yield 'outputs: ' + name, calls, setting
+    for line in ('canon a pipe', 'nfs3mask a pipe', 'pack pipe a a'):
+        yield 'pipes that become files: ' + line, pipes_that_become_files, line
     for make in (of_version_1, of_version_2):
         yield 'number of reads: ' + make.__name__, number_of_reads, make
     yield 'number of writes', number_of_writes

@@ -376,66 +376,20 @@ def signals_in_the_middle(place: Place) -> None:
 def names_that_are_taken_in_the_middle(place: Place) -> None:
     """If the whole output cannot get its name, what was written beside it is removed, and what has
     got the name stays."""
-    def take(name: str, make: Callable[[str], object], before: bytes | None) -> None:
-        for old in place.names():
-            remove(place.path(old))
-        if before is not None:
-            place.write(name, before)
+    place.write('out', b'as it was')
+    for name in ('out', 'new'):
         process = place.begin('canon', '/dev/stdin', name, stdin=subprocess.PIPE)
         given = pipe_of(process.stdin)
         given.write(LARGE[:2_000_000])
         part_in(place)
-        remove(place.path(name))
-        make(place.path(name))
+        if name == 'out':
+            os.remove(place.path(name))
+        os.mkdir(place.path(name))
         feed(given, [LARGE[2_000_000:]])
         place.want('canon', (process.wait(LIMIT), pipe_of(process.stderr).read()),
                    (3, b'write failed\n'))
-        place.want('files', place.names(), [name] if os.path.lexists(place.path(name)) else [])
-
-    def other(path: str) -> None:
-        with open(path, 'wb') as file:
-            file.write(b'of somebody else')
-    for before in (None, b'as it was'):
-        take('out', os.mkdir, before)
-        take('out', lambda path: os.symlink('absent', path), before)
-        take('out', other, before)
-        place.want('what has got the name', place.read('out'), b'of somebody else')
-    take('out', lambda path: None, b'as it was')
-
-
-def files_that_get_the_name_in_the_middle(place: Place) -> None:
-    """A capture is replaced, as one that another run has put there, and the output has its rights.
-    It is left alone if it is one of the inputs or nobody may write it, as is any other file."""
-    def take(words: list[str], make: Callable[[str], object], answer: tuple[int, bytes],
-             wanted: bool) -> None:
-        for old in place.names():
-            remove(place.path(old))
-        for name in ('a', 'out', 'other'):
-            place.write(name, b'as it was' if name == 'out' else LARGE)
-        with place.begin(*words, stdin=subprocess.PIPE) as process:
-            given = pipe_of(process.stdin)
-            given.write(LARGE[:2_000_000])
-            part_in(place)
-            make(place.path('out'))
-            feed(given, [LARGE[2_000_000:]])
-            found = process.wait(LIMIT), pipe_of(process.stderr).read()
-            pipe_of(process.stdout).read()
-        place.want(' '.join(words), (*found, place.read('out') == LARGE), (*answer, wanted))
-        place.want('parts', [name for name in place.names() if PART.fullmatch(name)], [])
-
-    def taken(name: str, mode: int) -> Callable[[str], object]:
-        def make(path: str) -> None:
-            os.chmod(place.path(name), mode)
-            os.replace(place.path(name), path)
-        return make
-
-    for mode in (0o600, 0o644):
-        take(['canon', '/dev/stdin', 'out'], taken('other', mode), (0, b''), True)
-        place.want('mode', os.stat(place.path('out')).st_mode & 0o7777, mode)
-    take(['pack', 'out', '/dev/stdin', 'a'], taken('other', 0o600), (0, b''), False)
-    failed = 3, b'write failed\n'
-    take(['canon', '/dev/stdin', 'out'], taken('other', 0o444), failed, True)
-    take(['pack', 'out', '/dev/stdin', 'a'], taken('a', 0o600), failed, True)
+        place.want('files', (place.names(), os.listdir(place.path(name))), ([name], []))
+        os.rmdir(place.path(name))
 
 
 def runs_at_once(place: Place) -> None:
@@ -471,13 +425,6 @@ def runs_at_once(place: Place) -> None:
             place.want('files', place.names(), ['no', 'out'])
 
 
-def remove(path: str) -> None:
-    if os.path.isdir(path) and not os.path.islink(path):
-        os.rmdir(path)
-    elif os.path.lexists(path):
-        os.remove(path)
-
-
 def many_streams_and_few_open_files(place: Place) -> None:
     place.write('call', fragment(NULL[0][0]))
     place.write('reply', fragment(NULL[1][0]))
@@ -502,8 +449,8 @@ def names_of_the_most_bytes(place: Place) -> None:
 
 
 def folders_that_no_path_names(place: Place) -> None:
-    """An output is written again as the first time if the name of its folder is no text, or the
-    path is longer than the system takes."""
+    """An output that is no link is written again as the first time if the name of its folder is no
+    text, or the path is longer than the system takes."""
     for names in ([b'\xff'], [b'd' * 200] * 30):
         folder = os.open(place.folder, os.O_RDONLY)
         for part in names:
@@ -511,26 +458,10 @@ def folders_that_no_path_names(place: Place) -> None:
             folder = os.open(part, os.O_RDONLY, dir_fd=folder)
         with open(os.open('a', os.O_WRONLY | os.O_CREAT, dir_fd=folder), 'wb') as file:
             file.write(GOOD)
-        os.symlink('out', 'link', dir_fd=folder)
-        for name in ('out', 'out', 'link'):
-            answer = place.run('canon', 'a', name, prepare=functools.partial(os.fchdir, folder))
-            place.want('canon a ' + name, answer, (0, GOOD_LINE, ''))
-        place.want('files', sorted(os.listdir(folder)), ['a', 'link', 'out'])
-
-
-def chains_of_links(place: Place) -> None:
-    """Linux follows 40 links: the file behind so many is replaced, and each link stays. A longer
-    chain is no output."""
-    place.write('a', GOOD)
-    place.write('l41', b'before')
-    for number in range(41):
-        os.symlink(f'l{number + 1}', place.path(f'l{number}'))
-    place.want('41 links', place.run('canon', 'a', 'l0'), (3, '', 'open failed: l0\n'))
-    place.want('what is left', place.read('l41'), b'before')
-    place.want('40 links', place.run('canon', 'a', 'l1'), (0, GOOD_LINE, ''))
-    place.want('what is there', place.read('l41'), GOOD)
-    place.want('links',
-               [number for number in range(41) if not os.path.islink(place.path(f'l{number}'))], [])
+        for _ in range(2):
+            answer = place.run('canon', 'a', 'out', prepare=functools.partial(os.fchdir, folder))
+            place.want('canon a out', answer, (0, GOOD_LINE, ''))
+        place.want('files', sorted(os.listdir(folder)), ['a', 'out'])
 
 
 def as_nobody(place: Place) -> Callable[..., Answer] | None:
@@ -575,63 +506,25 @@ def outputs_that_are_refused_before_the_work(place: Place) -> None:
 
 
 def rights_on_an_output(place: Place) -> None:
-    """A file that is replaced keeps its owner and who may open it, but for rights that its group
-    has and others have not, and never the bits that lend its owner's rights."""
+    """The owner of an output has the rights that the one before had. The group and the others have
+    those of all before, and nobody those of the bits that lend its owner's rights."""
     place.write('a', GOOD)
     path = place.path('out')
-
-    def rights(mode: int, owner: int | None,
-               run: Callable[..., Answer] = place.run) -> tuple[int, int, int]:
-        """The mode, the owner and the group of an output that had these before the run."""
-        place.write('out', b'as it was')
-        if owner is not None:
-            os.chown(path, owner, owner)
-        os.chmod(path, mode)
-        place.want('canon', run('canon', 'a', 'out'), (0, GOOD_LINE, ''))
-        state = os.stat(path)
-        return state.st_mode & 0o7777, state.st_uid, state.st_gid
-    own = os.geteuid(), os.getegid()
-    kept = {0o644: 0o644, 0o600: 0o600, 0o6755: 0o755, 0o1606: 0o606, 0o640: 0o600, 0o664: 0o644,
-            0o770: 0o700}
-    for mode, wanted in kept.items():
-        place.want('rights of %o' % mode, rights(mode, None), (wanted, *own))
-    run = as_nobody(place)
-    if run is not None:
-        for mode, wanted in {0o640: 0o600, 0o6755: 0o755}.items():
-            place.want('rights of %o, of nobody' % mode, rights(mode, NOBODY),
-                       (wanted, NOBODY, NOBODY))
-        place.want('rights that cannot be given back', rights(0o666, 0, run),
-                   (0o666 & ~umask(), NOBODY, NOBODY))
+    kept = {0o644: 0o644, 0o600: 0o600, 0o6755: 0o755, 0o1606: 0o600, 0o640: 0o600, 0o664: 0o644,
+            0o770: 0o700, 0o266: 0o222, 0o666: 0o666}
+    for owner in (os.geteuid(), NOBODY) if os.geteuid() == 0 else (os.geteuid(),):
+        for mode, wanted in kept.items():
+            place.write('out', b'as it was')
+            os.chown(path, owner, -1)
+            os.chmod(path, mode)
+            place.want('canon', place.run('canon', 'a', 'out'), (0, GOOD_LINE, ''))
+            place.want('rights of %o, of %d' % (mode, owner), os.stat(path).st_mode & 0o7777,
+                       wanted)
     for mask in (0o022, 0o027, 0o077):
         os.remove(path)
         answer = place.run('canon', 'a', 'out', before=by_shell('umask %o; exec "$@"' % mask))
         place.want('canon to a new file', (answer, os.stat(path).st_mode & 0o7777),
                    ((0, GOOD_LINE, ''), 0o666 & ~mask))
-
-
-def rights_that_cannot_be_given_back(place: Place) -> None:
-    """Nobody but the owner of an output may do more with it than before. A class of which somebody
-    may be in another one now has what each of them had."""
-    place.write('a', GOOD)
-    run = as_nobody(place)
-    if run is None:
-        print('left out, since the tests do not run as root: rights that cannot be given back')
-        return
-    path, new = place.path('out'), 0o666 & ~umask()
-    of_another_group = {0o600: 0o600, 0o640: 0o600, 0o644: 0o604, 0o664: 0o604, 0o755: 0o705,
-                        0o606: 0o600, 0o2666: 0o606}
-    of_another_owner = {0o666: new, 0o622: new & 0o722, 0o606: new & 0o700, 0o266: new & 0o722,
-                        0o676: new}
-    for owner, modes in ((NOBODY, of_another_group), (0, of_another_owner)):
-        for mode, wanted in modes.items():
-            place.write('out', b'as it was')
-            os.chown(path, owner, 0)
-            os.chmod(path, mode)
-            place.want('canon', run('canon', 'a', 'out'), (0, GOOD_LINE, ''))
-            state = os.stat(path)
-            found = state.st_mode & 0o7777, state.st_uid, state.st_gid
-            place.want('rights of %o, of %d and group 0' % (mode, owner), found,
-                       (wanted, NOBODY, NOBODY))
 
 
 def access_list(*entries: tuple[int, int, int]) -> bytes:
@@ -675,12 +568,6 @@ def access_control_lists(place: Place) -> None:
     place.want('a default list, and rights of all others', mode_after(0o644, None), 0o644)
 
 
-def umask() -> int:
-    """The modes that a new file does not get."""
-    with open('/proc/self/status') as file:
-        return int(next(line.split()[1] for line in file if line.startswith('Umask:')), 8)
-
-
 def mounted(place: Place, script: str, *words: str) -> Answer | None:
     """A run after a script that mounts something for it alone, or nothing if that may not be."""
     flags = '-m' if os.geteuid() == 0 else '-rm'
@@ -709,58 +596,6 @@ def files_of_two_devices_with_one_number(place: Place) -> None:
                   'number')
             return
         place.want(' '.join(words), answer, (0, out, ''))
-
-
-def outputs_on_which_something_is_mounted(place: Place) -> None:
-    """They are refused before the work, also if it is a file of the same device."""
-    place.write('a', messages.MAGIC)
-    place.write('out', b'as it was')
-    place.write('other', b'as it was')
-    os.mkdir(place.path('far'))
-    for script in ('mount --bind other out',
-                   'mount -t tmpfs none far && cp other far && mount --bind far/other out'):
-        answer = mounted(place, script, 'canon', 'a', 'out')
-        if answer is None:
-            print('left out, since nothing can be mounted here: outputs on which something is '
-                  'mounted')
-            return
-        place.want(script, answer, (3, '', 'open failed: out\n'))
-    place.want('files', place.names(), ['a', 'far', 'other', 'out'])
-
-
-def standard_output_without_its_name(place: Place) -> None:
-    """The line of the command does not follow the capture if there is no /dev/stdout."""
-    place.write('a', GOOD)
-    before = hiding('/dev')
-    if before is None:
-        print('left out, since nothing can be mounted here: standard output without its name')
-        return
-    for words, wanted in ((['canon', 'a', '/proc/self/fd/1'], GOOD_LINE),
-                          (['nfs3mask', 'a', '/proc/self/fd/1', 'ids=keep'], GOOD_LINE),
-                          (['pack', '/proc/self/fd/1', 'a', 'a'], '')):
-        found = place.ended(*words, before=before)
-        place.want(words[0], (found.status, found.error.decode().startswith(wanted),
-                              b'ok ' in found.out), (0, True, False))
-        if words[0] == 'canon':
-            place.want('what was written', found.out, GOOD)
-        with open(place.path('log'), 'wb') as log:
-            log.write(b'first')
-            log.flush()
-            found = place.ended(*words, before=before, stdout=log)
-        content = place.read('log') or b''
-        place.want(words[0] + ' to a file', (found.status, content.startswith(b'firstNFS3CAP1'),
-                                             b'ok ' in content), (0, True, False))
-
-
-def hiding(folder: str) -> list[str] | None:
-    """The words that run a program with nothing in this folder, or None if that may not be."""
-    flags = '-m' if os.geteuid() == 0 else '-rm'
-    before = ['unshare', flags, *by_shell('mount -t tmpfs none %s 2>/dev/null || exit 77; exec "$@"'
-                                          % folder)]
-    try:
-        return before if ended([*before, '/bin/true'], '/').status == 0 else None
-    except FileNotFoundError:
-        return None
 
 
 def removed_files_by_their_numbers(place: Place) -> None:
@@ -1106,13 +941,12 @@ TESTS: list[Test] = [
     streams_without_an_end, lengths_with_nothing_after_them, disks_that_are_full_in_the_middle,
     readers_that_go_away,
     standard_error_that_nobody_reads, standard_files_that_are_closed, signals_in_the_middle,
-    names_that_are_taken_in_the_middle, files_that_get_the_name_in_the_middle, runs_at_once,
+    names_that_are_taken_in_the_middle, runs_at_once,
     pipes_that_do_not_wait, names_of_the_most_bytes, folders_that_no_path_names,
-    chains_of_links, outputs_that_are_refused_before_the_work, rights_on_an_output,
-    access_control_lists, rights_that_cannot_be_given_back,
-    standard_output_without_its_name, removed_files_by_their_numbers,
+    outputs_that_are_refused_before_the_work, rights_on_an_output,
+    access_control_lists, removed_files_by_their_numbers,
     files_of_two_devices_with_one_number,
-    outputs_on_which_something_is_mounted, many_streams_and_few_open_files, inputs_that_never_end,
+    many_streams_and_few_open_files, inputs_that_never_end,
     fifos, reads_cut_at_each_length,
     files_that_may_not_be_read, files_that_change_while_they_are_read]
 

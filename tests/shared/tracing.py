@@ -37,10 +37,8 @@ NOWHERE = 16  # Addresses below the least that may be mapped, so many bytes apar
 MOVING = {0: 'read', 1: 'write'}
 KINDS = {**MOVING, 74: 'sync', 75: 'sync', 4: 'stat', 5: 'stat', 6: 'stat', 262: 'stat',
          332: 'stat', 2: 'open', 257: 'open',
-         86: 'link', 265: 'link', 82: 'rename', 264: 'rename', 316: 'rename', 87: 'unlink',
-         263: 'unlink', 89: 'readlink',
-         267: 'readlink', 90: 'mode', 91: 'mode', 268: 'mode', 92: 'owner', 93: 'owner',
-         94: 'owner', 260: 'owner', 318: 'random'}
+         82: 'rename', 264: 'rename', 316: 'rename', 87: 'unlink', 263: 'unlink', 89: 'readlink',
+         267: 'readlink', 90: 'mode', 91: 'mode', 268: 'mode', 318: 'random'}
 # Calls whose first argument is a folder, and whose second is a name.
 WITH_FOLDERS = range(257, 333)
 NO_WAIT = 1  # A flag of getrandom: the C library asks so for itself, and does without.
@@ -65,15 +63,13 @@ class Registers(ctypes.Structure):
 class Fault:
     """What happens at the growth or call of a kind (`growth`, or one of KINDS) that has this
     number, from 1: it fails with an error, or takes so many bytes, or something is done before it,
-    and then it is made. If it has a name, calls with this name alone are counted. `then` is the
-    next fault, which is counted from there."""
+    and then it is made. If it has a name, calls with this name alone are counted."""
     kind: str
     number: int
     error: int = errno.EIO
     takes: int | None = None
     before: Callable[[], object] | None = None
     name: str | None = None
-    then: 'Fault | None' = None
 
 
 class Answer(NamedTuple):
@@ -281,7 +277,7 @@ class Traced:
         fault = self.fault if self.counted(kind) else None
         if fault and fault.before:
             fault.before()
-            self.fault, self.left, fault = fault.then, fault.then.number if fault.then else 0, None
+            fault = None
         self.file = self.registers.rdi if fault else self.file
         asked = self.registers.rdx if self.registers.orig_rax in MOVING else None
         most = fault.takes if fault else self.pieces.get(kind)
@@ -313,16 +309,12 @@ class Traced:
 
 def run(program: str, words: Sequence[str], folder: str, fault: Fault | None = None,
         pieces: Mapping[str, int] | None = None,
-        stdout: int | IO[bytes] | None = None, closed: Sequence[int] = (),
-        prepare: Callable[[], object] | None = None) -> Answer:
+        stdout: int | IO[bytes] | None = None, closed: Sequence[int] = ()) -> Answer:
     """A run of the program there, with this fault, whose reads and writes move at most so many
     bytes at once as `pieces` says by kind. Growths are counted if the fault is one, and else the
     calls of the system. Its standard output is a file of its own if none is given, and is then
-    answered; the outputs are Latin-1. The standard files with the numbers `closed` are closed, and
-    `prepare` is called in the new process."""
+    answered; the outputs are Latin-1. The standard files with the numbers `closed` are closed."""
     def begun() -> None:
-        if prepare:
-            prepare()
         for number in closed:
             os.close(number)
         trace_me()

@@ -6,7 +6,7 @@ use Rattle.capture3.specs.declared.fault.Error.TheVariants as errors
 use Rattle.capture3.proofs.Lemmas.Reader.ObservedLemmas.{prefix_of_observed}
 use Rattle.capture3.specs.declared.fault.Fault.{Fault}
 use Rattle.packing3.specs.Stopped.{BreaksOff, HasNoRoom}
-use Rattle.program3.specs.Files.{FailsToMake, FailsToOpenStream, FilesRun, FinishesNone}
+use Rattle.program3.specs.Files.{FailsToOpenStream, FilesRun, FinishesNone}
 use Rattle.program3.specs.declared.reading.Closed.{Closed}
 use Rattle.program3.specs.declared.outcome.Outcome.TheVariants as outcomes
 use Rattle.nfs3canon.specs.machinery.Packing.{StopsPacking}
@@ -77,18 +77,12 @@ module _ (run : FilesRun) (output : List ℕ) (names : List (List ℕ))
   not_made (outcomes.Packed (Err error)) fails = none
   not_made outcome fails = (inl fails, none)
 
-  packs_failed : (outcome : Outcome) → FailsToMake output names outcome
-      → PacksFile run output names outcome
-  packs_failed outcome (inl fails) = not_made outcome fails
-  packs_failed outcome (inr any) =
-      packs_stopped outcome (stops run.holds names run.readings outcome any)
-
 -- the output was not made
 pub packs_none : (run : FilesRun) (output : List ℕ) (names : List (List ℕ)) → run.readings ≡ []
-    → FinishesNone run.finished → (outcome : Outcome) → FailsToMake output names outcome
+    → FinishesNone run.finished → (outcome : Outcome) → FailsToOpenStream output outcome
     → PacksFile run output names outcome
 packs_none run output names nothing same outcome fails =
-    packs_failed run output names
+    not_made run output names
     ((names, ap (λ readings. names_read readings ++ names) (sym nothing)), same) outcome fails
 
 -- the name of the stream at an index

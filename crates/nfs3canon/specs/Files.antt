@@ -1,5 +1,5 @@
 -- What came of a job, by what was read of its files.
-use Rattle.std.specs.Prelude.{◌≡◌, ◌≢◌, ◌≤◌, ◌⊎◌, ℕ, true, List, [], ◌∷◌, ◌++◌, length, map, IfErr, IfSome, Option, Some, Ok, Err, ⊤}
+use Rattle.std.specs.Prelude.{◌≡◌, ◌≢◌, ◌≤◌, ◌⊎◌, ℕ, true, List, [], ◌∷◌, ◌++◌, length, map, Any, IfErr, IfSome, Option, Some, Ok, Err, ⊤}
 use Rattle.capture3.specs.declared.fault.Error.TheVariants as errors
 use Rattle.capture3.specs.declared.fault.Fault.{Fault}
 use Rattle.capture3.specs.Capture.{One, IsCapture, max_connections, total_size}
@@ -13,7 +13,7 @@ use Rattle.canon3.specs.declared.comparison.verdict.Which.TheVariants.{First, Se
 use Rattle.listing3.specs.Listing.{shown}
 use Rattle.packing3.specs.Packed.{IsPacked}
 use Rattle.packing3.specs.Stopped.{BreaksOff, HasNoRoom}
-use Rattle.program3.specs.Files.{FailsToMake, FilesRun, FinishesNone, ReadsFile}
+use Rattle.program3.specs.Files.{FailsToOpenStream, FilesRun, FinishesNone, ReadsFile}
 use Rattle.program3.specs.Opening.{IsOfName}
 use Rattle.program3.specs.Readings.{FileReading, MayContain}
 use Rattle.program3.specs.declared.outcome.Outcome.{Outcome}
@@ -142,4 +142,5 @@ PacksFile run output names (outcomes.Packed (Err (errors.Refused fault))) =
 PacksFile run output names (outcomes.Packed (Err errors.Read)) =
     OneHasFailed run.readings × PacksNone run names
 PacksFile run output names (outcomes.Packed (Err error)) = PacksNone run names
-PacksFile run output names outcome = FailsToMake output names outcome × PacksNone run names
+PacksFile run output names outcome = (FailsToOpenStream output outcome
+    ⊎ Any (λ stream. FailsToOpenStream stream outcome) names) × PacksNone run names

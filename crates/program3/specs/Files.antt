@@ -1,5 +1,5 @@
 -- Files that a command reads and writes, and what came of it.
-use Rattle.std.specs.Prelude.{◌≡◌, ◌⊎◌, ℕ, List, [], ◌∷◌, Option, Some, Result, Ok, Err, Any}
+use Rattle.std.specs.Prelude.{◌≡◌, ◌⊎◌, ℕ, List, [], ◌∷◌, Option, Some, Result, Ok, Err}
 use Rattle.std.specs.Io.KnownBytes.{Keeps}
 use Rattle.line3.specs.declared.asked.LineFault.TheVariants as lines
 use Rattle.capture3.specs.declared.fault.Error.{Error}
@@ -31,15 +31,10 @@ FailsToOpen input output outcome = IsOfName input outcome ⊎ IsOfName output ou
     ⊎ (outcome ≡ outcomes.Line lines.SameName)
     ⊎ (outcome ≡ outcomes.Counted (Err errors.Memory))
 
--- the file of this name could not be opened, or is the output, or memory ran out
+-- the file of this name could not be opened or made, or the output is a stream; or memory ran out
 abbrev pub FailsToOpenStream : (stream : List ℕ) → Outcome → Type 0
 FailsToOpenStream stream outcome = IsOfName stream outcome
     ⊎ (outcome ≡ outcomes.Line lines.SameName) ⊎ (outcome ≡ outcomes.Packed (Err errors.Memory))
-
--- the same of the output, or of one of the streams
-abbrev pub FailsToMake : (output : List ℕ) → (streams : List (List ℕ)) → Outcome → Type 0
-FailsToMake output streams outcome = FailsToOpenStream output outcome
-    ⊎ Any (λ stream. FailsToOpenStream stream outcome) streams
 
 -- the bytes that were gathered for a writer are written, and what came of the job stays, or a write
 -- failed

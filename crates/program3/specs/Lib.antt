@@ -1,3 +1,4 @@
+pub mod Destinations
 pub mod Ending
 pub mod Files
 pub mod Hashing
@@ -5,5 +6,4 @@ pub mod Opening
 pub mod Printed
 pub mod Readings
 pub mod Rights
-pub mod Standard
 pub mod Systems

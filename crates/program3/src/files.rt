@@ -1,8 +1,8 @@
 //! Files that commands read and write, by their names.
 
-ghost use Rattle.std.specs.Prelude.{◌≡◌, ◌∷◌, ℕ, List, Option, IfErr, IfOk, OnErr, OnOk, map, string_bytes};
+ghost use Rattle.std.specs.Prelude.{◌≡◌, ◌∷◌, ℕ, List, Option, IfErr, IfOk, OnErr, OnOk};
 ghost use Rattle.canon3.specs.WriteErrors.{IsOfWriting};
-ghost use Rattle.program3.specs.Files.{FailsToOpenStream, FailsToMake, FailsToOpen, IsNew, WrittenFile};
+ghost use Rattle.program3.specs.Files.{FailsToOpenStream, FailsToOpen, IsNew, WrittenFile};
 ghost use Rattle.program3.specs.Readings.{IsOpened};
 
 use crate::outcome::Outcome;
@@ -71,8 +71,7 @@ pub trait Files {
     /// # Errors
     ///
     /// Nothing is left behind.
-    /// - `Outcome::Unopened` with the name of the output if it cannot be made, or with that of a stream of
-    ///   which the system does not say what it is.
+    /// - `Outcome::Unopened` with the name of the output if it cannot be made.
     /// - `Outcome::Line(LineFault::SameName)` if the output is a stream, also under another name.
     /// - `Outcome::Packed(Err(Error::Memory))` if memory ran out.
     fn make_apart(
@@ -81,7 +80,7 @@ pub trait Files {
         streams: &[String],
     ) -> Result<Made<Self::Output, Self::Place>, Outcome>
         ensures made { IfOk result (λ made. IsNew Self.Output.contents name_of made output.now) }
-        ensures failed { IfErr result (FailsToMake output.now (map string_bytes streams.now)) };
+        ensures failed { IfErr result (FailsToOpenStream output.now) };
 
     /// Opens a stream that is not what is written.
     ///

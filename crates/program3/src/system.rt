@@ -1,8 +1,7 @@
 //! The files of the system.
 
-ghost use Rattle.std.specs.Prelude.{◌≡◌, [], Any, Err, IfErr, IfOk, IfSome, map, string_bytes};
+ghost use Rattle.std.specs.Prelude.{◌≡◌, [], Err, IfOk, IfSome};
 ghost use Rattle.capture3.specs.declared.fault.Error.TheVariants as errors;
-ghost use Rattle.program3.specs.Files.{FailsToOpenStream};
 ghost use Rattle.program3.specs.Opening.{ReportsUnopened};
 ghost use Rattle.program3.specs.declared.outcome.Outcome.TheVariants.{Packed};
 ghost use Rattle.program3.specs.Systems.{IsMade, finished_of};
@@ -11,16 +10,14 @@ use crate::files::{Files, Made};
 use crate::input::opening::{OpenError, counting_failure, open_failure, open_file};
 use crate::input::retried::Retried;
 use crate::outcome::Outcome;
-use crate::output::destination::Destination;
-use crate::output::identity::{FileIdentity, if_there};
+use crate::output::identity::FileIdentity;
 use crate::output::place::OutputPlace;
-use crate::output::standard::StandardOutput;
 use crate::reading::Opened;
 use canon3::Traced;
 use capture3::Error;
 use line3::LineFault;
-use std::alloc::{AllocError, Global};
-use std::fs::{File, Metadata};
+use std::alloc::Global;
+use std::fs::File;
 use std::{fs, io};
 
 /// A file whose bytes are safe on the disk. Nothing is written to it from now on.
@@ -47,38 +44,30 @@ impl<'a> System<'a> {
         }
     }
 
-    /// Makes the output, unless it is the input, of which the system says `read`. The name may lead to another
-    /// file once it is open, so it is compared again.
-    fn make_output(
+    /// Makes the output of a packing, or returns `None` if it is one of the streams. One that is
+    /// not there is told when it is opened.
+    fn make_packed(
         &self,
         output: &str,
-        own: io::Result<StandardOutput>,
-        read: &Metadata,
+        streams: &[String],
     ) -> Result<Option<Made<Traced<File>, OutputPlace>>, OpenError>
         ensures { IfOk result (λ found. IfSome found (λ made. IsMade made output.now)) }
     {
-        let own = own?;
-        let destination = Destination::of(self.rt, output, own)?;
-        if destination.is_regular(read) {
-            return Ok(None);
+        let own = FileIdentity::of_standard_output(self.rt)?;
+        let mut inputs = Vec::new(self.rt.alloc());
+        for stream in streams {
+            if let Ok(data) = fs::metadata(self.rt, stream.as_str()) {
+                let added = inputs.push(FileIdentity::of(&data));
+                added.map_err(|_| OpenError::Memory)?;
+            }
         }
-        let mut spared = standard_output_ids(self.rt.alloc(), own)?;
-        add_id(&mut spared, FileIdentity::of(read))?;
-        let made = OutputPlace::make(self.rt, output, &destination, spared)?;
-        if made.place.is_regular(read) {
-            made.place.remove(self.rt);
-            return Ok(None);
-        }
-        Ok(Some(made))
+        OutputPlace::make(self.rt, output, own, inputs.as_slice())
     }
 
     /// Gives the last file its name, and returns whether it has it.
     fn last_is_named(&self) -> bool {
         match self.finished.last() {
-            Some(made) => {
-                let file = made.file.file.inner();
-                made.place.give_name(self.rt, file).is_ok()
-            }
+            Some(made) => made.place.give_name(self.rt).is_ok(),
             None => false,
         }
     }
@@ -115,12 +104,16 @@ impl Files for System<'_> {
         output: &str,
     ) -> Result<(Opened<Retried<File>>, Made<Traced<File>, OutputPlace>), Outcome> {
         let alloc = self.rt.alloc();
-        let own = StandardOutput::new(self.rt);
+        let own = FileIdentity::of_standard_output(self.rt);
         let (reader, read) = match open_file(self.rt, input) {
             Ok(opened) => opened,
             Err(error) => return Err(counting_failure(alloc, input, error)),
         };
-        match self.make_output(output, own, &read) {
+        let made = match own {
+            Ok(own) => OutputPlace::make(self.rt, output, own, &[FileIdentity::of(&read)]),
+            Err(error) => Err(OpenError::from(error)),
+        };
+        match made {
             Ok(Some(made)) => Ok((Opened::new(input, Retried { reader }), made)),
             Ok(None) => Err(Outcome::Line(LineFault::SameName)),
             Err(error) => Err(counting_failure(alloc, output, error)),
@@ -132,23 +125,10 @@ impl Files for System<'_> {
         output: &str,
         streams: &[String],
     ) -> Result<Made<Traced<File>, OutputPlace>, Outcome> {
-        let alloc = self.rt.alloc();
-        let own = match StandardOutput::new(self.rt) {
-            Ok(own) => own,
-            Err(error) => return Err(packing_failure(alloc, output, OpenError::from(error))),
-        };
-        let destination = match Destination::of(self.rt, output, own) {
-            Ok(destination) => destination,
-            Err(error) => return Err(packing_failure(alloc, output, OpenError::from(error))),
-        };
-        let mut spared = match standard_output_ids(alloc, own) {
-            Ok(spared) => spared,
-            Err(error) => return Err(packing_failure(alloc, output, OpenError::from(error))),
-        };
-        all_stand_apart(self.rt, &destination, streams, &mut spared)?;
-        match OutputPlace::make(self.rt, output, &destination, spared) {
-            Ok(made) => Ok(made),
-            Err(error) => Err(packing_failure(alloc, output, error)),
+        match self.make_packed(output, streams) {
+            Ok(Some(made)) => Ok(made),
+            Ok(None) => Err(Outcome::Line(LineFault::SameName)),
+            Err(error) => Err(packing_failure(self.rt.alloc(), output, error)),
         }
     }
 
@@ -190,62 +170,6 @@ impl Files for System<'_> {
 
     fn remove(&self, place: OutputPlace) {
         place.remove(self.rt);
-    }
-}
-
-/// The file to which the program prints, if there is one.
-fn standard_output_ids(
-    alloc: Global,
-    own: StandardOutput,
-) -> Result<Vec<FileIdentity>, AllocError> {
-    let mut ids = Vec::new(alloc);
-    if let Some(id) = own.id() {
-        add_id(&mut ids, id)?;
-    }
-    Ok(ids)
-}
-
-fn add_id(ids: &mut Vec<FileIdentity>, id: FileIdentity) -> Result<(), AllocError> {
-    ids.push(id).map_err(|_| AllocError)
-}
-
-/// None of the streams is the output. Adds them to `ids`.
-fn all_stand_apart(
-    rt: &HostRuntime,
-    destination: &Destination,
-    streams: &[String],
-    ids: &mut Vec<FileIdentity>,
-) -> Result<(), Outcome>
-    ensures { IfErr result (λ outcome.
-        Any (λ stream. FailsToOpenStream stream outcome) (map string_bytes streams.now)) }
-{
-    for stream in streams {
-        if let Err(outcome) = stands_apart(rt, destination, stream.as_str(), ids) {
-            return Err(outcome);
-        }
-    }
-    Ok(())
-}
-
-/// The stream of this name is not the output. If there is none, that is told when it is opened.
-fn stands_apart(
-    rt: &HostRuntime,
-    destination: &Destination,
-    stream: &str,
-    ids: &mut Vec<FileIdentity>,
-) -> Result<(), Outcome>
-    ensures { IfErr result (FailsToOpenStream stream.now) }
-{
-    match if_there(fs::metadata(rt, stream)) {
-        Ok(Some(data)) if destination.is_regular(&data) => {
-            Err(Outcome::Line(LineFault::SameName))
-        }
-        Ok(Some(data)) => match add_id(ids, FileIdentity::of(&data)) {
-            Ok(()) => Ok(()),
-            Err(_) => Err(Outcome::Packed(Err(Error::Memory))),
-        },
-        Ok(None) => Ok(()),
-        Err(error) => Err(packing_failure(rt.alloc(), stream, OpenError::from(error))),
     }
 }
 

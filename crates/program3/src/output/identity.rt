@@ -5,9 +5,9 @@ ghost use Rattle.std.specs.Fs.{file_type, IsFile};
 ghost use Rattle.std.specs.IoError.{error_kind};
 
 use std::fs::Metadata;
-use std::io;
 use std::io::ErrorKind;
 use std::os::unix::fs::MetadataExt;
+use std::{fs, io};
 
 /// Returns what the system found, or `None` if it says that nothing has the name.
 ///
@@ -42,6 +42,18 @@ impl FileIdentity {
             device: data.dev(),
             inode: data.ino(),
         }
+    }
+
+    /// Returns that of the file to which the program prints, or `None` if its standard output is
+    /// closed, or if there is no `/proc`. Call it before any file is opened, since the first one
+    /// gets the number of a standard output that is closed.
+    ///
+    /// # Errors
+    ///
+    /// That of the system if it does not say which file it is.
+    pub fn of_standard_output(rt: &HostRuntime) -> io::Result<Option<FileIdentity>> {
+        let found = if_there(fs::metadata(rt, "/proc/self/fd/1"))?;
+        Ok(found.map(|data| FileIdentity::of(&data)))
     }
 
     /// Whether this is the regular file of which the system says `data`.
