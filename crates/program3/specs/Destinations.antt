@@ -1,5 +1,5 @@
 -- What is done with the file that has the name of an output.
-use Rattle.std.specs.Prelude.{◌==◌, ◌&&◌, ℕ, Bool, true, false, if◌then◌else◌, List, Option, None, Some}
+use Rattle.std.specs.Prelude.{◌==◌, ◌&&◌, Bool, true, false, if◌then◌else◌, List, Option, None, Some}
 use Rattle.std.specs.List.{list_any}
 use Rattle.program3.specs.declared.output.destination.Destination.{Destination}
 use Rattle.program3.specs.declared.output.destination.Destination.TheVariants.{Input, Replaced, AsItIs}
