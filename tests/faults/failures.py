@@ -50,8 +50,7 @@ GIVEN_AT_ONCE = {'getattr': 3, 'two_connections': 7, 'bad_bool': 1, 'bad_server_
 WRITTEN_AT_ONCE = 499
 # What `same` says of a file, by the number under which it is open.
 OF_FILE: dict[int | None, str] = {3: 'first: ', 4: 'second: '}
-# The calls of the system that each fail once for each kind of output, and how. The first `stat` is
-# of standard output, which is closed if it is not there.
+# The calls of the system that each fail once for each kind of output, and how.
 LOOKING = (errno.ENOMEM, errno.EIO, errno.EACCES)
 FAILING = {'stat': (*LOOKING, errno.ENOENT), 'open': LOOKING, 'readlink': LOOKING,
            'rename': (errno.EIO,), 'unlink': (errno.EIO,), 'mode': (errno.EPERM,),
@@ -304,7 +303,9 @@ def calls(setting: Setting, place: Place) -> None:
     for kind, errors in FAILING.items():
         last = plain.answer.counts[kind]
         for number, error in itertools.product(range(1, last + 1), errors):
-            if (kind, number, error) == ('stat', 1, errno.ENOENT):
+            # Standard output, at which the first look is, is closed if it is not there. A link to
+            # nothing that comes after the last look is replaced.
+            if error == errno.ENOENT and (number == 1 or setting.status == 3):
                 continue
             outputs.make(place.folder, setting, capture)
             what = '%s with %s %d of %d failed by %s' % (setting.line, kind, number, last,
