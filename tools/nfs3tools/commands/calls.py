@@ -301,6 +301,3 @@ def main(words: list[str]) -> int:
 
 
 command = partial(run, 'calls', main)
-
-if __name__ == '__main__':
-    sys.exit(command())

@@ -160,7 +160,7 @@ def whole_of(program: str, folder: Path, names: list[str], inputs: list[str],
     progress.begin('checking both runs')
     trial = Trial(program, folder, runs, progress)
     checks = [[program, 'check', capture] for capture in trial.captures]
-    covers = list(map(partial(cover_of, program), runs, run_side_by_side(checks, CHECKED)))
+    covers = list(map(partial(cover_of, program), runs, names, run_side_by_side(checks, CHECKED)))
     progress.end()
     for cover, name in zip(covers, names):
         if not cover.size.calls:
@@ -170,7 +170,7 @@ def whole_of(program: str, folder: Path, names: list[str], inputs: list[str],
     for cover, name in zip(covers, names):
         for line in cover.notes():
             print(f'{escaped(name)}: {line}', file=sys.stderr)
-    if any(cover.refused for cover in covers):
+    if any(cover.of_states('refused') for cover in covers):
         trial = Trial(program, folder, [cover.taken for cover in covers], progress)
     return Whole(names, inputs, covers, trial,
                  [run_of(trial, *one) for one in zip(trial.runs, trial.captures, names)])
@@ -268,6 +268,3 @@ def main(words: list[str]) -> int:
 
 
 command = partial(run, 'compare', main)
-
-if __name__ == '__main__':
-    sys.exit(command())

@@ -15,7 +15,6 @@ import argparse
 import contextlib
 import io
 import os
-import sys
 import tempfile
 from collections import defaultdict
 from collections.abc import Iterable, Iterator, Mapping
@@ -257,6 +256,3 @@ def record_line(taken: Taken, place: Place | None, old: Place) -> str:
 
 
 command = partial(run, 'cut', main)
-
-if __name__ == '__main__':
-    sys.exit(command())

@@ -11,7 +11,6 @@ FILE is refused, 3 if a file or memory failed.
 """
 from __future__ import annotations
 
-import sys
 from functools import partial
 
 from ..captures.explained import reason_in_words, tell_record
@@ -67,6 +66,3 @@ def main(command_line: list[str]) -> int:
 
 
 command = partial(run, 'explain', main)
-
-if __name__ == '__main__':
-    sys.exit(command())

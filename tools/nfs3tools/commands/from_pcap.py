@@ -40,6 +40,3 @@ def main(words: list[str]) -> int:
 
 
 command = partial(run, 'from_pcap', main)
-
-if __name__ == '__main__':
-    sys.exit(command())

@@ -377,6 +377,3 @@ def main(words: list[str]) -> int:
 
 
 command = partial(run, 'meaning', main)
-
-if __name__ == '__main__':
-    sys.exit(command())

@@ -176,10 +176,10 @@ def told_of_clock(tally: Tally) -> str:
     return f'; the clock went back: {number:,} {are} negative' if number else ''
 
 
-def table_title(verdict: Verdict, screen: Screen) -> str:
+def table_title(verdict: Verdict, message: str, screen: Screen = Screen()) -> str:
     ends = f': client {verdict.client}, server {verdict.server}' if verdict.client else ''
     how_far = '; counted up to there' if verdict.state == 'refused' else ''
-    word = screen.painted(printable(verdict.message), colour_of(verdict))
+    word = screen.painted(printable(message), colour_of(verdict))
     return f'{printable(f"{subject_of(verdict)}{ends}")}: {word}{how_far}'
 
 
@@ -189,10 +189,11 @@ def print_tables(found: Sequence[CountedRecording], is_total: bool, column: str,
     for one in found:
         for table in [] if is_total else one.tables:
             assert table.verdict
-            print_table(table_title(table.verdict, screen), table, column, screen)
+            title = table_title(table.verdict, table.verdict.message, screen)
+            print_table(title, table, column, screen)
         for verdict in one.seen.verdicts:
             if is_row(verdict) and (verdict.state == 'error' or verdict.connection is None):
-                print('\n' + table_title(verdict, screen))
+                print('\n' + table_title(verdict, verdict.message, screen))
         title = printable(f'{escaped(one.seen.recording)} in all: {sums_of(one.seen.verdicts)}')
         print_table(title, one.in_all, column, screen)
     if len(found) > 1:
@@ -262,9 +263,7 @@ def procedures_page(found: Sequence[CountedRecording],
         if len(found) > 1:
             whole = [shown_table('all recordings', in_all_of(found), column)]
         of_each = [[shown_table('in all', one.in_all, column),
-                    *(shown_table(table_title(
-                        table.verdict._replace(message=said_of(table.verdict)), Screen()),
-                                  table, column)
+                    *(shown_table(table_title(table.verdict, said_of(table.verdict)), table, column)
                       for table in one.tables if table.verdict and not chosen.total)]
                    for one in found]
     seen, allowed = [one.seen for one in found], allowed_of(chosen)
@@ -364,6 +363,3 @@ def main(words: list[str]) -> int:
 
 
 command = partial(run, 'procedures', main)
-
-if __name__ == '__main__':
-    sys.exit(command())

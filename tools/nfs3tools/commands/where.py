@@ -11,7 +11,6 @@ POSITION or RECORDING is refused, 3 if a file or memory failed.
 """
 from __future__ import annotations
 
-import sys
 from functools import partial
 
 from ..recordings.carried import places_at
@@ -43,6 +42,3 @@ def main(words: list[str]) -> int:
 
 
 command = partial(run, 'where', main)
-
-if __name__ == '__main__':
-    sys.exit(command())

@@ -14,7 +14,7 @@ from typing import NamedTuple
 
 from ..recordings.records import Window, body_of, extent_of, xids
 from ..recordings.taken import TakenStream
-from ..shared.layouts import MOUNTSTAT, NFSSTAT, VALUES
+from ..shared.layouts import BY_NAME, VALUES
 
 REPLY_STATUS = re.compile(r' mtype=1 reply_stat=(?:'
                           r'0 verf_flavor=\d+ verf_body=\w* accept_stat=(\d+)(?: status=(\d+))?'
@@ -126,6 +126,5 @@ def error_name(procedure: str, accepted: str | None, status: str | None,
     if rejected is not None:
         return VALUES['reject_stat'][int(rejected)]
     if status is not None:
-        names = MOUNTSTAT if procedure.startswith('MOUNT') else NFSSTAT
-        return names[int(status)] if int(status) else ''
+        return (BY_NAME[procedure].statuses or {})[int(status)] if int(status) else ''
     return VALUES['accept_stat'][int(accepted or 0)] if accepted != '0' else ''

@@ -15,13 +15,14 @@ from typing import Optional
 
 from ..comparison.values.classes import mask_text
 from ..comparison.verdict.accepted import Ignored
-from ..comparison.verdict.cover import NotJudged, losses_of
+from ..comparison.verdict.cover import cause_of, losses_of
 from ..comparison.verdict.decision import Report, compared_in_words
 from ..comparison.verdict.excerpt import (
     SHOWN_AT_MOST, ExcerptConnection, ExcerptRow, HiddenCalls)
 from ..comparison.verdict.findings import RUNS, Compared, Finding, Run
 from ..exchanges.in_words import short
 from ..exchanges.listing import Message
+from ..judgement.verdict import Verdict
 from ..recordings.coverage import named_calls
 from ..recordings.parts import files_of
 from ..recordings.selection import count, plural
@@ -125,9 +126,9 @@ def facts_of(content: ComparedContent, at: int) -> Iterator[tuple[str, str, str]
     yield 'calls left out', ', '.join(left_out) or NO_VALUE, NO_VALUE
 
 
-def not_judged_text(row: NotJudged) -> str:
-    number = f'connection {row.connection}: ' if row.connection is not None else ''
-    return f'{number}{row.ends}{": " if row.ends else ""}{row.word}: {row.reason}'
+def not_judged_text(one: Verdict) -> str:
+    number = f'connection {one.connection}' if one.connection is not None else ''
+    return ': '.join(filter(None, [number, one.covered.ends, one.state, cause_of(one)]))
 
 
 def words_of_masks(content: ComparedContent) -> Iterator[tuple[str, str]]:

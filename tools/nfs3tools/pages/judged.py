@@ -19,7 +19,7 @@ from ..recordings.coverage import Allowed, Counts, named_calls
 from ..recordings.parts import Part
 from ..recordings.selection import count, plural
 from ..recordings.taken import Taken
-from ..shared.places import NoPlace, Place, parse_place
+from ..shared.places import NoPlace, Place
 from ..shared.printed import escaped, printable
 from ..shared.screens import Styled
 from . import markup
@@ -196,8 +196,7 @@ def table_of(seen: Sequence[Seen]) -> ShownTable:
 
     def rows(some: Iterable[Verdict]) -> list[str]:
         # (a verdict is green only if calls were checked)
-        return [row_of_cells(verdict_row(verdict._replace(message=said_of(verdict))), range(4, 6),
-                             VERDICT_HEADS,
+        return [row_of_cells(verdict_row(verdict, said_of(verdict)), range(4, 6), VERDICT_HEADS,
                              '' if verdict.state == 'ok' and is_raw(verdict)
                              else LOOKS[verdict.state], links.get(id(verdict), ''))
                 for verdict in some]
@@ -214,10 +213,8 @@ def is_raw(verdict: Verdict) -> bool:
 
 def said_of(verdict: Verdict) -> str:
     """Returns the words of a verdict. Nothing in part, or not checked, is called ok."""
-    if verdict.state == 'in part':
-        return verdict.message.removeprefix('ok ')
     if verdict.state != 'ok':
-        return verdict.message
+        return verdict.told
     raw = f'{named_calls(verdict.raw)} raw' if verdict.raw else ''
     return '; '.join(filter(None, ['' if is_raw(verdict) else 'ok', raw])) or 'no calls'
 
@@ -229,13 +226,13 @@ def numbered_faults(seen: Sequence[Seen]) -> list[tuple[int, ExplainedFault, See
 
 def explained_fault(taken: Taken, verdict: Verdict) -> ExplainedFault:
     item, message, within = FirstLines(), FirstLines(), Within(taken.spool, None, taken)
+    fault = verdict.fault
     with contextlib.suppress(NoPlace):
-        place = parse_place(f'connection {verdict.connection} {verdict.position}')
-        if isinstance(place, Place):
-            found = within.record(place)
-            tell_record(found, place, verdict.reason, item.take)
-            if place.byte is not None:
-                tell_record(found, place._replace(byte=None), None, message.take)
+        if fault and isinstance(fault.place, Place):
+            found = within.record(fault.place)
+            tell_record(found, fault.place, fault.reason, item.take)
+            if fault.place.byte is not None:
+                tell_record(found, fault.place._replace(byte=None), None, message.take)
     return ExplainedFault(verdict, item.all(), message.all())
 
 

@@ -10,7 +10,7 @@ from typing import Any
 from ..comparison.values import long_values
 from ..comparison.values.classes import Mask
 from ..comparison.verdict.accepted import Split, entry_text
-from ..comparison.verdict.cover import Cover
+from ..comparison.verdict.cover import Cover, cause_of
 from ..comparison.verdict.decision import Report
 from ..comparison.verdict.differences import Difference
 from ..comparison.verdict.findings import RUNS, Compared, Finding, Framing
@@ -316,7 +316,9 @@ def json_of_comparison(report: Report, compared: Compared, left_out: Counter[tup
 def cover_members(cover: Cover) -> dict[str, Any]:
     """How much of a run is compared: size, missing bytes, counts, and what is not judged whole."""
     return {**cover.size._asdict(), 'missing': cover.missing, 'counts': cover.counts().members(),
-            'not_judged': [{**row._asdict(), 'ends': row.ends or None} for row in cover.rows()]}
+            'not_judged': [{'word': one.state, 'connection': one.connection,
+                            'ends': one.covered.ends or None, 'reason': cause_of(one)}
+                           for one in cover.rows()]}
 
 
 def ways_by_class(mask: Mask) -> dict[str, str]:

@@ -5,6 +5,7 @@ import contextlib
 import functools
 import io
 import pathlib
+import re
 import shutil
 import signal
 import subprocess
@@ -18,6 +19,7 @@ from .version import TOP
 # How the programs answer: by which status, and how standard output begins then.
 CHECKED, COMPARED, MASKED = {0: 'ok ', 2: ''}, {0: 'same\n', 1: 'differ at '}, {0: 'ok '}
 COMMANDS = ('check', 'same', 'show')
+CHECKED_COUNTS = re.compile(r'ok connections=(\d+) calls=(\d+) replies=(\d+) handles=\d+\n')
 PIPE_SIZE = 1 << 16  # of Linux
 NOT_FOUND = ('nfs3canon is missing: it is neither beside the tools nor on the PATH; '
              '`make install` in a clone of nfs3canon installs it')
@@ -37,6 +39,18 @@ class Answer(typing.NamedTuple):
     status: int
     out: str
     error: str
+
+
+class CheckedCounts(typing.NamedTuple):
+    """What `check` counts in a capture that is valid."""
+    connections: int
+    calls: int
+    replies: int
+
+
+def checked_counts(answer: Answer) -> CheckedCounts | None:
+    found = CHECKED_COUNTS.fullmatch(answer.out)
+    return CheckedCounts(*map(int, found.groups())) if found else None
 
 
 def program_path(named: str | None = None) -> str:

@@ -22,7 +22,7 @@ from ...exchanges.procedures import (
     ACCESS, BEFORE, DONE, LISTINGS, LOOKUP, NO_ENTRY, STEADY, is_of_files, owners_in,
     statements_of_entry)
 from ...exchanges.timelines import SaidValues
-from ...exchanges.values import Values
+from ...exchanges.values import OWNED_ITEMS, OwnedItem, Values
 from ...recordings.taken import Taken
 from ..values.classes import CLASSES, Mask, Way
 from .facts import Change, ChangesOfKey, Facts, Turns, is_quiet
@@ -45,6 +45,10 @@ Question = tuple[str, int, tuple[str, ...]]  # the procedure, the object, and th
 ReasonsOfCalls = tuple[dict[int, str], dict[int, str]]  # calls of both runs, each with a reason
 
 
+def owned(label: str) -> OwnedItem:
+    return OWNED_ITEMS.get(label) or OwnedItem((), label)
+
+
 class Unexplained(Exception):
     """A difference that no order explains, and why, if a change stands otherwise."""
 
@@ -54,7 +58,7 @@ def free_items(mask: Mask) -> frozenset[str]:
     masked = {name for one in CLASSES for name in one.items if mask.get(one.name) is Way.ZERO
               and not one.is_of_changes and not one.has_names}
     # (a time is one value)
-    return frozenset(name.removesuffix('_sec') for name in masked) | {
+    return frozenset(masked) | {time for time in TIMES_OF_FILES if f'{time}_sec' in masked} | {
         name for name, way in FOLLOWING_ITEMS.items() if way in mask}
 
 
@@ -78,11 +82,11 @@ class Reply:
 
     def claim(self, label: str, value: Any, own: object) -> Claim | None:
         """Returns what an item of the reply, or of an entry of an object, says of a history."""
-        owner, _, item = label.rpartition('.')
-        own = self.owners.get(owner.partition('.')[0], own)
+        owners, item = owned(label)
+        own = self.owners.get(owners[0], own) if owners else own
         kept = (TIMES_ITEM if item in TIMES_OF_FILES else
                 item if item in KEPT_ITEMS or item in LASTING_ITEMS else '')
-        return Claim((own, kept), value, f'{owner}.'.endswith(BEFORE)) if (
+        return Claim((own, kept), value, owners[-1:] == (BEFORE,)) if (
             kept and own is not None) else None
 
     def object_in(self, entry: Values) -> object:
@@ -173,7 +177,7 @@ class OrderRule:
         for label in (label for label in first if label != 'entries'):
             one, other = (reply.shared(its[label]) if label == 'fh' else its[label]
                           for reply, its in zip(both, values))
-            if one != other and label.rpartition('.')[2] not in self.free:
+            if one != other and owned(label).name not in self.free:
                 yield self.of_claims(both, label, [reply.claim(label, its[label], own)
                                                    for reply, its in zip(both, values)])
 
@@ -198,7 +202,8 @@ class OrderRule:
                 if claim.key[0] == found_in(reply):
                     self.check(reply, claim, f'obj.{claim.key[1]}')
         yield from self.of_values(both, [
-            {label: value for label, value in reply.reply.items() if label.startswith('dir.')}
+            {label: value for label, value in reply.reply.items()
+             if owned(label).owners[:1] == ('dir',)}
             for reply in both])
 
     # --- Folders ---
