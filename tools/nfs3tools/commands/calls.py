@@ -23,18 +23,18 @@ from collections.abc import Callable, Iterator, Sequence
 from functools import partial
 
 from ..comparison.values.long_values import bytes_of
-from ..exchanges.kept import Kept, KeptExchange, call_text, host_of
+from ..exchanges.kept import WIDTH, Kept, KeptExchange, call_text, host_of
 from ..judgement.tallies import milliseconds
 from ..judgement.verdict import (
     VERDICTS_VERSION, Verdict, count_unanswered, is_row, kept_in, status_of, subject_of, sums_of,
     tell_notes, verdict_members)
 from ..judgement.window import ALL, DAY, add_window, window_of
-from ..recordings.coverage import PROCEDURES
+from ..recordings.coverage import PROCEDURES, call_named
 from ..recordings.selection import count, plural
 from ..recordings.taken import Taken
 from ..reporting.messages import add_recordings, allowed_of, parser_of, run
 from ..reporting.rows import add_forms, form_of
-from ..shared.layouts import BY_NAME, RAW
+from ..shared.layouts import BY_NUMBER
 from ..shared.printed import escaped, printable
 from ..shared.screens import Colour, Screen, screen_of
 from .verdicts import Judge, judge_of
@@ -48,6 +48,10 @@ CALL_COLUMNS = ('recording', 'connection', 'record', 'client', 'server', 'frame'
                 'latency_ns', 'user', 'procedure', 'path', 'second_path', 'other_names',
                 'arguments', 'sent_again', 'earlier', 'later', 'answer', 'waited_ns', 'is_error',
                 'replies')
+# The last names of procedures, also of those of other programs.
+LAST_NAMES = {**{one.name: one.last for one in BY_NUMBER.values()}, **{
+    call_named(program, version, number): name for (program, version), some in PROCEDURES.items()
+    for number, name in enumerate(some)}}
 Condition = Callable[[KeptExchange], bool]
 
 
@@ -73,17 +77,14 @@ def wanted_by(chosen: argparse.Namespace) -> list[Condition]:
         (chosen.no_reply, lambda one: one.is_unanswered),
         (chosen.slow is not None,
          lambda one: bool((one.latency or one.waited or 0) >= chosen.slow)),
-        (bool(chosen.procedure), lambda one: last_name(one.procedure) in chosen.procedure),
+        (bool(chosen.procedure),
+         lambda one: LAST_NAMES.get(one.procedure, '') in chosen.procedure),
         (chosen.user is not None, lambda one: bool(one.asked.user == chosen.user)),
         (bool(chosen.client), lambda one: bool(host_of(one.part.client) == chosen.client)),
         (chosen.path is not None, lambda one: any(
             path is not None and fits(os.fsdecode(bytes_of(f'"{path}"')) if '\\' in path else path)
             for path in (one.path, one.other_path, *one.other_names)))]
     return [holds for is_given, holds in conditions if is_given]
-
-
-def last_name(procedure: str) -> str:
-    return re.split('[ _]', procedure)[-1] if procedure in BY_NAME else procedure.rpartition(' ')[2]
 
 
 def listed(judge: Judge, recording: str, chosen: argparse.Namespace,
@@ -120,7 +121,7 @@ def call_time(time: int, begun: int | None) -> str:
 def cells_of(one: KeptExchange, begun: int | None) -> tuple[str, ...]:
     answer = one.answer if one.kept.firsts[one.at] else answer_of(one)
     return (call_time(one.time, begun), milliseconds(one.latency), str(one.frame or '-'),
-            f'{one.part.number}:{one.record}', call_text(one), answer)
+            f'{one.part.number}:{one.record}', call_text(one, WIDTH), answer)
 
 
 def answer_of(one: KeptExchange) -> str:
@@ -231,9 +232,9 @@ def duration(word: str) -> int:
 
 
 def procedure_names(word: str) -> frozenset[str]:
-    known = {last_name(name) for name in BY_NAME if name != RAW.name}.union(*PROCEDURES.values())
-    names = frozenset(last_name(name.strip()) for name in word.upper().split(','))
-    for name in names - known:
+    words = (name.strip() for name in word.upper().split(','))
+    names = frozenset(LAST_NAMES.get(name) or name.rpartition(' ')[2] for name in words)
+    for name in names - {*LAST_NAMES.values()}:
         raise argparse.ArgumentTypeError(f'no procedure: {name}')
     return names
 
@@ -241,7 +242,8 @@ def procedure_names(word: str) -> frozenset[str]:
 def address(word: str) -> str:
     """An address of IPv4 or IPv6, as the ends of connections have it."""
     try:
-        return str(ipaddress.ip_address(word.strip('[]')))
+        found = ipaddress.ip_address(word.strip('[]'))
+        return f'[{found}]' if found.version == 6 else str(found)
     except ValueError:
         raise argparse.ArgumentTypeError(f'no address: {word}') from None
 

@@ -35,7 +35,7 @@ from ..judgement.verdict import (
     Verdict, count_unanswered, counts_after, kept_in, status_of, sums_of, verdict_members)
 from ..meaning.across import findings_in
 from ..meaning.recorded import Recorded
-from ..meaning.rules import CLIENT, NOTE, RULES, Looked, RuleFinding
+from ..meaning.rules import CLIENT, NOTE, RULES, SECTIONS, Looked, RuleFinding
 from ..pages import markup
 from ..pages.judged import (
     BAD, PARTIAL, Seen, ShownTable, headline_of, judged_page, of_table, row_of_cells, table_of)
@@ -144,7 +144,7 @@ class RecordingFindings:
     def words(self, finding: RuleFinding) -> str:
         one = self.kept.exchange(finding.number)
         frame = f'frame {self.frame(finding)}' if one.frame else f'{one.part.number}:{one.record}'
-        return printable(f'{frame}: {" ".join(call_text(one).split())}: {finding.text}')
+        return printable(f'{frame}: {call_text(one)}: {finding.text}')
 
     def values(self) -> Iterator[Sequence[object]]:
         """Iterates over the values of FINDING_COLUMNS of all findings, by time."""
@@ -333,7 +333,7 @@ def explained(name: str) -> list[str]:
     """Returns what is to know of a rule, and what to do next."""
     rule = RULES[name]
     by = 'This is permitted, and worth knowing.' if rule.by == NOTE else f'Broken by the {rule.by}.'
-    about = rule.sections if rule.sections == rule.about else f'section {rule.sections}'
+    about = f'section {rule.sections}' if rule.subjects[0] in SECTIONS else rule.sections
     return [f'{name}: {rule.sentence} (RFC 1813, {about}).', f'{by} {rule.cause}',
             as_called(f'All of them: tools/meaning --all --rule {name} RECORDING'),
             as_called("The fields of one: tools/explain RECORDING 'frame N'"),

@@ -29,7 +29,7 @@ from ..judgement.verdict import (
     status_of, subject_of, sums_of, tell_notes, verdict_members)
 from ..judgement.window import add_window, window_of
 from ..pages.judged import (
-    Seen, ShownTable, as_printed, headline_of, judged_page, said_of, verdicts_in)
+    Seen, ShownTable, headline_of, judged_page, row_of_cells, said_of, verdicts_in)
 from ..pages.time_line import TimeLine, time_line_of
 from ..recordings.parts import files_in
 from ..recordings.selection import count, plural
@@ -280,9 +280,9 @@ def shown_table(title: str, table: TallyTable, column: str) -> ShownTable:
 
 def shown_of(title: str, styled: Sequence[Styled]) -> ShownTable:
     """The same of rows. Errors come last, and are folded."""
-    heads = styled[0].cells
-    return as_printed(title, styled,
-                      [at for at, head in enumerate(heads) if head in PROCEDURE_HEADS[1:-1]])
+    heads, *rows = (row.cells for row in styled)
+    numbers = [at for at, head in enumerate(heads) if head in PROCEDURE_HEADS[1:-1]]
+    return ShownTable(title, heads, [row_of_cells(cells, numbers, look='folded') for cells in rows])
 
 
 def tally_object(name: str, tally: Tally) -> dict[str, typing.Any]:

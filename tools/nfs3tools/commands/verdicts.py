@@ -22,6 +22,7 @@ import typing
 from functools import partial
 from xml.etree.ElementTree import SubElement
 
+from ..exchanges.kept import host_of
 from ..judgement.unanswered import Unanswered, open_calls
 from ..judgement.verdict import (
     COVERED, VERDICTS_VERSION, VERDICT_HEADS, Verdict, colour_of, counts_after, error_verdict,
@@ -231,7 +232,7 @@ def name_of_case(verdict: Verdict) -> str:
         return (printable(verdict.message) if verdict.state in ('left out', 'in part')
                 else 'as a whole')
     # (a client has another port in each run)
-    ends = f' {verdict.client.rpartition(":")[0]} to {verdict.server}' if verdict.client else ''
+    ends = f' {host_of(verdict.client)} to {verdict.server}' if verdict.client else ''
     return f'connection {verdict.connection}{ends}'
 
 

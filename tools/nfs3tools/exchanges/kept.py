@@ -151,9 +151,9 @@ class KeptExchange:
         return end - self.time if end and self.time else None
 
 
-def call_text(one: KeptExchange) -> str:
-    """A call with its paths and its other arguments."""
-    asked, words, path = one.asked, [short(one.procedure).ljust(WIDTH)], one.path
+def call_text(one: KeptExchange, width: int = 0) -> str:
+    """A call with its paths and its other arguments. Names of procedures are as wide as that."""
+    asked, words, path = one.asked, [short(one.procedure).ljust(width)], one.path
     if path is not None:
         words.append(path)
     if asked.other is not None:
@@ -210,7 +210,7 @@ class Kept:
 
     def take(self, program: str, connection: TakenConnection, is_refused: bool) -> None:
         """Takes the exchanges of a connection, up to its fault. Raises what `listed_of` does."""
-        paths = self.paths.setdefault(connection.server_end.rpartition(':')[0], Paths())
+        paths = self.paths.setdefault(host_of(connection.server_end), Paths())
         # (all replies are recorded if the end is, and no byte is missing but for the beginning)
         lacks = bool(connection.missing or {*connection.lacks} - {BEGUN_BEFORE})
         has_all = not is_refused and connection.is_closed and not lacks
@@ -354,4 +354,5 @@ class Kept:
 
 
 def host_of(end: str) -> str:
-    return end.rpartition(':')[0].strip('[]')
+    """Returns the address of an end, as a recording has it: of IPv6 in brackets."""
+    return end.rpartition(':')[0]

@@ -9,12 +9,9 @@ from typing import NamedTuple
 from ..shared.layouts import BY_NUMBER, NFS
 from .values import Values
 
-NULL, GETATTR, SETATTR, LOOKUP, ACCESS, READLINK, READ, WRITE = (f'NFSPROC3_{name}' for name in (
-    'NULL', 'GETATTR', 'SETATTR', 'LOOKUP', 'ACCESS', 'READLINK', 'READ', 'WRITE'))
-CREATE, MKDIR, SYMLINK, MKNOD, REMOVE, RMDIR, RENAME, LINK = (f'NFSPROC3_{name}' for name in (
-    'CREATE', 'MKDIR', 'SYMLINK', 'MKNOD', 'REMOVE', 'RMDIR', 'RENAME', 'LINK'))
-READDIR, READDIRPLUS, FSSTAT, FSINFO, PATHCONF, COMMIT = (f'NFSPROC3_{name}' for name in (
-    'READDIR', 'READDIRPLUS', 'FSSTAT', 'FSINFO', 'PATHCONF', 'COMMIT'))
+(NULL, GETATTR, SETATTR, LOOKUP, ACCESS, READLINK, READ, WRITE, CREATE, MKDIR, SYMLINK, MKNOD,
+ REMOVE, RMDIR, RENAME, LINK, READDIR, READDIRPLUS, FSSTAT, FSINFO, PATHCONF, COMMIT) = OF_FILES = [
+     one.name for (program, _), one in BY_NUMBER.items() if program == NFS]
 MAKING, REMOVING = frozenset((CREATE, MKDIR, SYMLINK, MKNOD)), frozenset((REMOVE, RMDIR))
 LISTINGS = frozenset((READDIR, READDIRPLUS))
 # Calls that change names, and all that change what others are answered.
@@ -38,7 +35,6 @@ NAMES_OF_CALLS = {RENAME: (('from.fh', 'from.name'), ('to.fh', 'to.name')),
                   LINK: (('link.fh', 'link.name'),)}
 NAME_OF_CALLS = (('fh', 'name'),)
 BEFORE, OF_ENTRY = 'before', 'listed.'  # what was before a change; an entry's own file id
-OF_FILES = frozenset(one.name for (program, _), one in BY_NUMBER.items() if program == NFS)
 
 
 def is_of_files(procedure: str) -> bool:

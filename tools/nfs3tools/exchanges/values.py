@@ -40,7 +40,7 @@ def time_in(text: str) -> Time:
 # Of each kind of item the pattern behind its name, and what makes a value of it.
 NUMBER = r'=(\d+)', int
 ITEM_KINDS: Mapping[str, tuple[str, Callable[[str], object]]] = {
-    't': (r'="([^"]*)"', str), **dict.fromkeys(('o', 'x', 'fh'), (r'=(\w*)', str)),
+    't': (r'="([^"]*)"', str), **dict.fromkeys(('o', 'x'), (r'=(\w*)', str)),
     **dict.fromkeys(('atime', 'mtime', 'ctime'), (r'_sec=(\d+ \w+=\d+)', time_in))}
 
 

@@ -6,9 +6,9 @@ from bisect import bisect_left
 from collections import defaultdict
 from collections.abc import Iterator
 
-from ..exchanges.answering import calls_in, unanswered
+from ..exchanges.answering import Answering
 from ..exchanges.kept import host_of
-from ..recordings.records import Window, xids
+from ..recordings.records import Window, body_of, xids
 from ..recordings.taken import TakenStream
 
 UNANSWERED_AT_MOST = 1 << 16  # calls without a reply; then those so far are forgotten
@@ -35,13 +35,18 @@ class Unanswered:
 
 
 def open_calls(client: TakenStream, server: TakenStream) -> set[CallDigest]:
-    """Returns the calls of a client without a reply. Few of them are read."""
-    calls, replies = sorted_xids(client), sorted_xids(server)
-    if any(map(int.__eq__, calls, calls[1:])):
-        return {(call.xid, call.said()) for call in unanswered(calls_in(client), server)}
-    wanted = set(missing_from(replies, calls))
-    return {(call.xid, call.said()) for call in calls_in(client)
-            if call.xid in wanted} if wanted else set()
+    """Returns the calls of a client without a reply. Of few it is read what they say: of those with
+    an xid that no reply has, or several calls."""
+    calls, rule, first = sorted_xids(client), Answering(), list[CallDigest]()
+    wanted = {*missing_from(sorted_xids(server), calls),
+              *(one for one, other in zip(calls, calls[1:]) if one == other)}
+    for extent, xid, _ in xids(Window(client), 0, client.size) if wanted else ():
+        if xid in wanted:
+            said = hash(body_of(Window(client), extent)[4:])
+            first += [(xid, said)] * rule.call(xid, said)[1]
+    answered = {rule.reply(xid) for _, xid, _ in xids(Window(server), 0, server.size)
+                if xid in wanted} if wanted else set()
+    return {call for at, call in enumerate(first) if at not in answered}
 
 
 def sorted_xids(stream: TakenStream) -> array[int]:

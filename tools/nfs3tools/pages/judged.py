@@ -168,14 +168,6 @@ def of_table(table: ShownTable, level: str) -> str:
     return ''.join(chain(title, shown, folded if table.valid else ()))
 
 
-def as_printed(title: str, rows: Sequence[Styled], numbers: Container[int]) -> ShownTable:
-    """Returns a table of rows that are printed, that of the heads first. The columns of these
-    numbers are set to the right, and the last one is folded."""
-    heads, *others = (row.cells for row in rows)
-    return ShownTable(title, heads,
-                      [row_of_cells(cells, numbers, look='folded') for cells in others])
-
-
 def row_of_cells(cells: Sequence[str], numbers: Container[int], heads: Sequence[str] = (),
                  look: str = '', link: str = '') -> str:
     """A row of a table, the last of whose cells has a look, or leads somewhere. Cells that are

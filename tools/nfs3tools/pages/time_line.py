@@ -169,7 +169,7 @@ def slowest(kept: Kept, timed: Sequence[int], begun: int, end: int) -> Iterable[
 
 def dot_of(one: KeptExchange, begun: int) -> Dot:
     call, answer = (words if len(words) <= WORDS_AT_MOST else f'{words[:WORDS_AT_MOST]}..'
-                    for words in (' '.join(call_text(one).split()), one.answer))
+                    for words in (call_text(one), one.answer))
     latency = 'no latency' if one.latency is None else f'{milliseconds(one.latency)} ms'
     where = f'connection {one.part.number} client record {one.record}, frame {one.frame}'
     return Dot(one.time - begun, one.latency, one.is_error, f'{call}: {answer}; {where}, {latency}')

@@ -54,8 +54,8 @@ BITS = {
 }
 
 # A part is a list of items: `w` a word, `e` one of the words above, `b` a bool, `h` a number of
-# eight bytes, `x` eight bytes, `o` opaque data, `t` a string (both with their maximum), `fh` a
-# handle, `opt` a bool and a part, `list` parts each after the word 1, `count` a number of parts,
+# eight bytes, `x` eight bytes, `o` opaque data, `t` a string (both with their maximum), `opt` a
+# bool and a part, `list` parts each after the word 1, `count` a number of parts,
 # `case` a word and the part that goes with it, `sized` a number of bytes and a part that takes as
 # many; any other word is a part. `NAME@` before an item says whose it is, or which of several, for
 # those who name items so.
@@ -65,7 +65,7 @@ PARTS = {
     'ctime': 'w:ctime_sec w:ctime_nsec',
     'fattr3': 'e:type w:mode w:nlink w:uid w:gid h:size h:used w:rdev1 w:rdev2 h:fsid h:fileid '
               'atime mtime ctime',
-    'poa': 'opt:attr=fattr3', 'wcc_attr': 'h:size mtime ctime',
+    'fh': 'o64:fh', 'poa': 'opt:attr=fattr3', 'wcc_attr': 'h:size mtime ctime',
     'wcc': 'opt:before=before@wcc_attr after@poa', 'pofh': 'opt:handle=fh',
     'sattr3': 'opt:set_mode=set@w:mode opt:set_uid=set@w:uid opt:set_gid=set@w:gid '
               'opt:set_size=set@h:size case:set_atime=2:set@atime case:set_mtime=2:set@mtime',
@@ -242,20 +242,12 @@ class Walk:
                     self.other(item.name)
 
     def of_kind(self, kind: str, name: str, most: int, inner: str) -> None:
-        if kind == 'w':
-            self.word(name)
-        elif kind == 'e':
-            self.word(name, VALUES[name])
-        elif kind == 'b':
-            self.word(name, BOOL)
-        elif kind == 'h':
-            self.fixed(name, 'any number of eight bytes', number)
-        elif kind == 'x':
-            self.fixed(name, 'any eight bytes', bytes.hex)
-        elif kind == 't':
-            self.variable(name, most, repr)
-        elif kind == 'o':
-            self.variable(name, most, bytes.hex)
+        if kind in ('w', 'e', 'b'):
+            self.word(name, VALUES[name] if kind == 'e' else BOOL if kind == 'b' else None)
+        elif kind in ('h', 'x'):
+            self.fixed(name, *EIGHT_BYTES[kind])
+        elif kind in ('t', 'o'):
+            self.variable(name, most, SPELLED[kind])
         else:
             self.branch(kind, name, most, inner)
 
@@ -281,9 +273,7 @@ class Walk:
         self.part(inner)
 
     def other(self, item: str) -> None:
-        if item == 'fh':
-            self.variable('fh', 64, bytes.hex)
-        elif item == 'rest':
+        if item == 'rest':
             self.remaining('rest')
         elif item == 'arguments':
             self.part(self.procedure.arguments if self.procedure else '')
@@ -397,3 +387,9 @@ class BodyReader(Walk):
 
 def number(piece: bytes) -> str:
     return str(int.from_bytes(piece, 'big')) if piece else ''
+
+
+# What may be in eight bytes, by the kind of an item, and how they are spelled.
+EIGHT_BYTES: Mapping[str, tuple[str, Spell]] = {
+    'h': ('any number of eight bytes', number), 'x': ('any eight bytes', bytes.hex)}
+SPELLED: Mapping[str, Spell] = {'t': repr, 'o': bytes.hex}

@@ -38,7 +38,7 @@ FOLLOWING_ITEMS = {'fileid': 'ids', 'fsid': 'fsids', 'cookie': 'cookies',
 NOT_KNOWN, NOT_ALLOWED = (
     'not known: no recorded change and no other answer of the {} run says what it was',
     'the recorded changes and the other answers of the {} run do not allow it')
-RUN_WORDS = ('first', 'second')
+RUNS = ('first', 'second')
 FEW, SHARE = 10, 10  # so many calls of a procedure, or one of so many
 EntryKey = object  # the name of an entry, or the object of one whose name is masked
 Question = tuple[str, int, tuple[str, ...]]  # the procedure, the object, and the name
@@ -154,7 +154,7 @@ class OrderRule:
         is_allowed = self.allows(reply.run, reply.at, claim)
         if not is_allowed:
             why = NOT_KNOWN if is_allowed is None else NOT_ALLOWED
-            raise Unexplained(f'{label}: {why.format(RUN_WORDS[reply.run])}')
+            raise Unexplained(f'{label}: {why.format(RUNS[reply.run])}')
 
     def allows(self, run: int, at: int, claim: Claim) -> bool | None:
         """Returns whether a run allows what an answer says. Before all changes of a name it leads
@@ -220,7 +220,7 @@ class OrderRule:
         for reply in both:
             wrong = self.wrong_names(reply)
             if wrong:
-                raise Unexplained(f'{wrong} in the {RUN_WORDS[reply.run]} run')
+                raise Unexplained(f'{wrong} in the {RUNS[reply.run]} run')
         common = [[key for key in own if key in others and self.has_a_place(first, key)]
                   for own, others in zip(entries, reversed(entries))]
         if common[0] != common[1]:
@@ -295,7 +295,7 @@ class OrderRule:
                          if self.allows(run, at, Claim(key, one.value)) is False]
                 if wrong:
                     label = 'name' if key[1][0] == '/' else key[1]
-                    yield pair, f'{label}: {NOT_ALLOWED.format(RUN_WORDS[wrong[0]])}'
+                    yield pair, f'{label}: {NOT_ALLOWED.format(RUNS[wrong[0]])}'
 
     def wrong_answer(self, run: int, at: int) -> str:
         """Returns why an answer is not all allowed by its run, or nothing."""

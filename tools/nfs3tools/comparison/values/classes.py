@@ -47,20 +47,20 @@ class ValueClass:
         return self.form is None or self.form.fullmatch(value) is not None
 
 
-def names(text: str) -> frozenset[str]:
-    return frozenset(text.split())
+def names(*some: str) -> frozenset[str]:
+    return frozenset(some)
 
 
 CLASSES = (
-    ValueClass('times', names('atime_sec atime_nsec mtime_sec mtime_nsec ctime_sec ctime_nsec'),
-               Way.ZERO, True,
+    ValueClass('times', names('atime_sec', 'atime_nsec', 'mtime_sec', 'mtime_nsec', 'ctime_sec',
+                              'ctime_nsec'), Way.ZERO, True,
                'times of files, in attributes, guards and settings'),
     ValueClass('stamps', names('stamp'), Way.ZERO, True, 'stamps of AUTH_SYS credentials'),
-    ValueClass('machines', names('machinename hostname'), Way.ZERO, True,
+    ValueClass('machines', names('machinename', 'hostname'), Way.ZERO, True,
                'names of machines in AUTH_SYS credentials, and of hosts in replies to DUMP',
                has_names=True),
-    ValueClass('space', names('tbytes fbytes abytes tfiles ffiles afiles invarsec used'), Way.ZERO,
-               True,
+    ValueClass('space', names('tbytes', 'fbytes', 'abytes', 'tfiles', 'ffiles', 'afiles',
+                              'invarsec', 'used'), Way.ZERO, True,
                'counts of free space, and the space that a file uses'),
     ValueClass('ids', names('fileid'), Way.NUMBER, True, 'file ids'),
     ValueClass('fsids', names('fsid'), Way.NUMBER, True, 'file system ids'),
@@ -70,10 +70,10 @@ CLASSES = (
                keeps_zero=True),
     ValueClass('createverfs', names('createverf'), Way.NUMBER, True,
                'verifiers of exclusive creates'),
-    ValueClass('owners', names('uid gid group'), Way.NUMBER, False,
+    ValueClass('owners', names('uid', 'gid', 'group'), Way.NUMBER, False,
                'users and groups, in credentials and attributes',
                only_in_calls=names('group')),
-    ValueClass('wcc', names('size nlink'), Way.ZERO, False,
+    ValueClass('wcc', names('size', 'nlink'), Way.ZERO, False,
                'sizes and counts of links, in replies, that others may change meanwhile',
                is_of_changes=True),
     ValueClass('sillynames', names('name'), Way.ZERO, True,
@@ -156,6 +156,6 @@ def following(text: str | None) -> frozenset[str]:
     return frozenset() if named is None else FOLLOWING_CLASSES - named
 
 
-def mask_text(mask: Mask) -> str:
+def mask_text(mask: Mask, comma: str = ',') -> str:
     """Returns the mask as `--mask` takes it."""
-    return ','.join(f'{name}={way.value}' for name, way in mask.items()) or 'none'
+    return comma.join(f'{name}={way.value}' for name, way in mask.items()) or 'none'

@@ -15,6 +15,7 @@ from ...recordings.coverage import Allowed, Counts
 from ...recordings.selection import count
 from ...recordings.taken import Taken
 from ...shared.programs import Answer, Died, checked_counts
+from ..exchanges.explained import RUNS
 
 
 class Size(NamedTuple):
@@ -28,8 +29,9 @@ class Size(NamedTuple):
 
 @dataclass(frozen=True)
 class Cover:
-    """How much of a run is compared: what is not refused of it, and what is said of its
-    connections and of what it shows besides."""
+    """How much of a run of this name is compared: what is not refused of it, and what is said of
+    its connections and of what it shows besides."""
+    name: str
     taken: Taken
     size: Size
     verdicts: Sequence[Verdict]
@@ -67,20 +69,20 @@ class Cover:
             if one.connection is not None:
                 yield f'connection {one.connection} {one.state}: {cause_of(one)}'
 
-    def lacking(self, name: str) -> Iterator[str]:
+    def lacking(self, run: str) -> Iterator[str]:
         """What of the run is not compared, in words."""
         if self.missing:
-            yield f'{count(self.missing, "byte")} missing from the {name} run'
+            yield f'{count(self.missing, "byte")} missing from the {run} run'
         # (missing bytes are counted for all)
         number = Counter(one.state for one in self.verdicts if is_of_connection(one)
                          and one.covered.shows_calls
                          and not (one.covered.word == 'in part' and one.covered.missing))
         if number['left out']:
-            yield f'{count(number["left out"], "connection")} left out of the {name} run'
+            yield f'{count(number["left out"], "connection")} left out of the {run} run'
         words: tuple[State, ...] = 'in part', 'not checked', 'refused'
-        yield from (f'{count(number[word], "connection")} of the {name} run {word}'
+        yield from (f'{count(number[word], "connection")} of the {run} run {word}'
                     for word in words if number[word])
-        yield from (f'{cause_of(one)} ({name} run)' for one in self.verdicts
+        yield from (f'{cause_of(one)} ({run} run)' for one in self.verdicts
                     if not is_of_connection(one))
 
 
@@ -103,7 +105,7 @@ def cover_of(program: str, taken: Taken, name: str, answer: Answer) -> Cover:
     others += [error_verdict(name, taken.damage)] if taken.damage else []
     if counts:
         verdicts = [of_covered(name, taken.covered_connection(one)) for one in taken.connections]
-        return Cover(taken, Size(counts.calls, counts.connections), [*verdicts, *others])
+        return Cover(name, taken, Size(counts.calls, counts.connections), [*verdicts, *others])
     verdicts = [judged_alone(program, name, taken, one) for one in taken.connections]
     for one in verdicts:
         if one.state == 'error':
@@ -111,18 +113,12 @@ def cover_of(program: str, taken: Taken, name: str, answer: Answer) -> Cover:
     valid = [verdict.state != 'refused' for verdict in verdicts]
     kept.connections = [*compress(taken.connections, valid)]
     calls = sum(one.calls or 0 for one in compress(verdicts, valid))
-    return Cover(kept, Size(calls, len(kept.connections)), [*verdicts, *others])
+    return Cover(name, kept, Size(calls, len(kept.connections)), [*verdicts, *others])
 
 
-def lines_of_counts(covers: Sequence[Cover], names: Sequence[str]) -> Iterator[str]:
+def lines_of_counts(covers: Sequence[Cover]) -> list[str]:
     """The four counts of both runs, in one line if they are equal."""
     sums = [cover.counts().words() for cover in covers]
     if sums[0] == sums[1]:
-        yield f'both runs: {sums[0]}'
-    else:
-        yield from (f'{name} run: {words}' for name, words in zip(names, sums))
-
-
-def losses_of(covers: Sequence[Cover], names: Sequence[str]) -> str:
-    """What of both runs is not compared, or nothing."""
-    return ', '.join(words for name, cover in zip(names, covers) for words in cover.lacking(name))
+        return [f'both runs: {sums[0]}']
+    return [f'{run} run: {words}' for run, words in zip(RUNS, sums)]
