@@ -26,8 +26,8 @@ from ..comparison.values.long_values import bytes_of
 from ..exchanges.kept import WIDTH, Kept, KeptExchange, call_text, host_of
 from ..judgement.tallies import milliseconds
 from ..judgement.verdict import (
-    VERDICTS_VERSION, Verdict, count_unanswered, is_row, kept_in, status_of, subject_of, sums_of,
-    tell_notes, verdict_members)
+    VERDICTS_VERSION, Verdict, count_unanswered, kept_in, not_ok, status_of, sums_of, tell_notes,
+    verdict_members)
 from ..judgement.window import ALL, DAY, add_window, window_of
 from ..recordings.coverage import PROCEDURES, call_named
 from ..recordings.selection import count, plural
@@ -155,11 +155,8 @@ class AlignedLines:
         self.widths[RIGHT] = min(self.widths[RIGHT], WIDEST)
         right = (f'{{:>{width}}}' for width in self.widths[:RIGHT])
         line = '  '.join([*right, f'{{:<{self.widths[RIGHT]}}}', '{}'])
-        if self.screen == Screen():
-            sys.stdout.writelines(line.format(*row) + '\n' for row in self.rows)
-        else:
-            sys.stdout.writelines(self.styled(number, row, line.format(*row)) + '\n'
-                                  for number, row in enumerate(self.rows))
+        sys.stdout.writelines(self.styled(number, row, line.format(*row)) + '\n'
+                              for number, row in enumerate(self.rows))
         self.rows, self.errors = [], set()
 
     def styled(self, number: int, row: tuple[str, ...], line: str) -> str:
@@ -170,9 +167,8 @@ class AlignedLines:
 def tell_verdicts(verdicts: list[Verdict]) -> None:
     """Prints on standard error which connections are not judged whole, with all notes."""
     tell_notes(verdicts)
-    for verdict in verdicts:
-        if is_row(verdict) and verdict.state != 'ok':
-            print(printable(f'{subject_of(verdict)}: {verdict.message}'), file=sys.stderr)
+    for line in not_ok(verdicts):
+        print(line, file=sys.stderr)
 
 
 def tell_of_times(found: ListedRecording, chosen: argparse.Namespace) -> None:

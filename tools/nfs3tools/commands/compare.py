@@ -35,14 +35,12 @@ from ..comparison.verdict.findings import Compared
 from ..comparison.verdict.trial import Trial
 from ..pages import compared as pages
 from ..pages.compared import ComparedContent
-from ..recordings.coverage import Allowed
 from ..recordings.parts import files_in
 from ..recordings.selection import Options
 from ..recordings.taken import NotTaken, Taken, take
 from ..reporting import telling
 from ..reporting.messages import (
-    REFUSED, add_judging, advice_on, allowed_of, ended, options_of, parser_of,
-    recording_lines, run)
+    REFUSED, add_judging, advice_on, allowed_of, ended, options_of, parser_of, recording_lines, run)
 from ..shared.outputs import check_output, held, printed_beside, try_outputs, write_file
 from ..shared.printed import escaped
 from ..shared.programs import CHECKED, program_path, run_side_by_side
@@ -95,9 +93,6 @@ class Whole(NamedTuple):
     inputs: list[str]  # their files, and others
     covers: list[Cover]
     trial: Trial
-
-    def is_good(self, allowed: Allowed) -> bool:
-        return all(cover.is_good(allowed) for cover in self.covers)
 
 
 def outputs_of(words: argparse.Namespace) -> list[str | None]:
@@ -173,7 +168,7 @@ def compared_whole(words: argparse.Namespace, whole: Whole, choices: Choices) ->
     """Compares the runs. Returns whether they are the same."""
     with whole.trial.progress.line():
         report = judged_runs(whole.trial, choices, whole.covers)
-    is_good = report.is_same and whole.is_good(allowed_of(words))
+    is_good = report.is_same and all(cover.is_good(allowed_of(words)) for cover in whole.covers)
     colour = Colour.GREEN if is_good else Colour.RED if report.is_different else Colour.YELLOW
     print(screen_of(words.color).painted('\n'.join(report.lines()), colour),
           *lines_of_counts(whole.covers), sep='\n', flush=True)
@@ -196,8 +191,8 @@ def explain(words: argparse.Namespace, whole: Whole, report: Report, is_good: bo
         content = ComparedContent(report, compared, words.ignore, left_out)
         write_file(words.html, pages.compared_page(content), whole.inputs)
     if words.json:
-        write_file(words.json, telling.json_of_comparison(report, compared, left_out),
-                   whole.inputs)
+        pieces = telling.json_of_comparison(report, compared, left_out)
+        write_file(words.json, pieces, whole.inputs)
     print_comparison(words, report, compared, left_out)
     accepted = report.found.accepted
     for text in (*telling.each_accepted(accepted if words.all else None),
@@ -229,8 +224,7 @@ def write_error(words: argparse.Namespace, message: str) -> None:
     """Writes for those who read JUnit XML that the runs could not be compared."""
     if words.junit:
         names = [words.first, words.second]
-        write_file(words.junit, [telling.junit_of_error(names, message)],
-                   files_in(names))
+        write_file(words.junit, [telling.junit_of_error(names, message)], files_in(names))
 
 
 def main(words: list[str]) -> int:

@@ -29,7 +29,6 @@ from typing import NamedTuple
 from ..comparison.verdict.accepted import refusal
 from ..exchanges.in_words import short
 from ..exchanges.kept import Kept, call_text
-from ..exchanges.stored import LongValues
 from ..exchanges.whose import ANY
 from ..judgement.verdict import (
     Verdict, count_unanswered, counts_after, kept_in, status_of, sums_of, verdict_members)
@@ -116,7 +115,7 @@ class RecordingFindings:
 
     def take(self, program: str, taken: Taken, verdicts: list[Verdict]) -> None:
         """Takes the exchanges of the connections that were judged, and puts the rules to them."""
-        self.kept, self.begun = kept_in(program, taken, verdicts, LongValues()), taken.begun
+        self.kept, self.begun = kept_in(program, taken, verdicts, has_values=True), taken.begun
         self.parts += taken.parts
         is_whole = {verdict.state for verdict in verdicts} <= {'ok', 'note'}
         for finding in findings_in(Recorded(self.kept), self.looked, is_whole):

@@ -25,7 +25,7 @@ from functools import partial
 from ..judgement.tallies import (
     Tallies, Tally, milliseconds, procedures_in_order, sum_of, tallies_of)
 from ..judgement.verdict import (
-    VERDICTS_VERSION, Verdict, colour_of, count_unanswered, counts_after, is_row, kept_in,
+    VERDICTS_VERSION, Verdict, colour_of, count_unanswered, counts_after, is_row, kept_in, not_ok,
     status_of, subject_of, sums_of, tell_notes, verdict_members)
 from ..judgement.window import add_window, window_of
 from ..pages.judged import (
@@ -38,8 +38,7 @@ from ..reporting.messages import add_recordings, allowed_of, parser_of, run
 from ..shared.outputs import writing
 from ..shared.places import Place
 from ..shared.printed import escaped, printable
-from ..shared.screens import (
-    Colour, Screen, Styled, add_width, screen_of, table_lines)
+from ..shared.screens import Colour, Screen, Styled, add_width, screen_of, table_lines
 from .verdicts import Judge, judge_of
 
 QUANTILES = (0.5, 0.99, 1)  # of the latencies: the median, the 99th percentile, and the longest
@@ -209,11 +208,8 @@ def print_beside(first: CountedRecording, second: CountedRecording, column: str,
                  screen: Screen) -> None:
     for name, one in zip('AB', (first, second)):
         seen, told = one.seen, told_of_clock(total_of(one.in_all.tallies))
-        for verdict in seen.verdicts:
-            if is_row(verdict) and verdict.state != 'ok':
-                print(printable(f'{subject_of(verdict)}: {verdict.message}'))
         title = printable(f'{name}: {escaped(seen.recording)}: {sums_of(seen.verdicts)}{told}')
-        print(title)
+        print(*not_ok(seen.verdicts), title, sep='\n')
     rows = rows_beside(first, second, column, screen)
     print(*table_lines(rows, screen, PROCEDURE_NUMBERS, is_cut=True), sep='\n')
 

@@ -155,8 +155,7 @@ def judged_all(chosen: argparse.Namespace) -> int:
                  (chosen.json, lambda: [json_of_verdicts(verdicts)]),
                  (chosen.html, lambda: judged_page(seen, allowed, [table_of(seen)]))):
         options = options_of(chosen)._replace(is_growing=chosen.growing)
-        judge = Judge(program_path(chosen.program), options, at_once,
-                      len(chosen.recordings) == 1)
+        judge = Judge(program_path(chosen.program), options, at_once, len(chosen.recordings) == 1)
         try:
             seen = list(judged_recordings(partial(judge.seen, bool(chosen.html)),
                                           chosen.recordings, recordings_at_once))

@@ -12,7 +12,7 @@ import re
 from collections.abc import Callable, Mapping
 from typing import NamedTuple
 
-from ..shared.layouts import BY_NAME, FILE_TYPES, RAW, VALUES, meaning_of
+from ..shared.layouts import BY_NAME, TYPES_OF_FILES, RAW, VALUES, meaning_of
 from .answering import error_in
 from .procedures import (
     ACCESS, COMMIT, CREATE, GETATTR, LISTINGS, MKDIR, MKNOD, READ, READDIR, READDIRPLUS,
@@ -92,11 +92,11 @@ ARGUMENTS: Wording = {
                          + number_named('stable', call['stable'])),
     CREATE: lambda call: number_named('how', call['how']) + settings(call), MKDIR: settings,
     SYMLINK: lambda call: f'-> {beginning_of(call["path"])}{settings(call)}',
-    MKNOD: lambda call: FILE_TYPES[call['type']] + settings(call),
+    MKNOD: lambda call: TYPES_OF_FILES[call['type']] + settings(call),
     READDIR: 'cookie {cookie} count {count}'.format_map,
     READDIRPLUS: 'cookie {cookie} count {dircount}/{maxcount}'.format_map}
 RESULTS: Wording = {
-    GETATTR: lambda reply: (f'{FILE_TYPES[reply["obj.type"]]} '
+    GETATTR: lambda reply: (f'{TYPES_OF_FILES[reply["obj.type"]]} '
                             f'{number_named("mode", reply["obj.mode"])} size {reply["obj.size"]}'),
     ACCESS: lambda reply: number_named('access', reply['access']),
     READLINK: lambda reply: beginning_of(reply['path']),

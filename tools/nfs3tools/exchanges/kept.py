@@ -175,11 +175,12 @@ class Kept:
     again, errors: retransmissions and errors of replies, by exchanges
     """
 
-    def __init__(self, values: LongValues | None = None, has_texts: bool = True) -> None:
-        """`values` keeps long values, which are lost without it. Without texts it is only kept when
-        an exchange was, its procedure and its errors."""
-        self.spool, self.values, self.has_texts = Spool(), values, has_texts
-        self.cut = values.cut if values else without_long
+    def __init__(self, has_values: bool = False, has_texts: bool = True) -> None:
+        """Long values may be lost. Without texts it is only kept when an exchange was, its
+        procedure and its errors."""
+        self.spool, self.has_texts = Spool(), has_texts
+        self.values = LongValues(self.spool)
+        self.cut = self.values.cut if has_values else without_long
         self.parts, self.starts = list[KeptConnection](), list[int]()
         # What each call says, and each reply.
         self.asking, self.answering = Texts(self.spool), Texts(self.spool)
@@ -205,8 +206,6 @@ class Kept:
 
     def close(self) -> None:
         self.spool.close()
-        if self.values and self.values.file:
-            self.values.file.close()
 
     def take(self, program: str, connection: TakenConnection, is_refused: bool) -> None:
         """Takes the exchanges of a connection, up to its fault. Raises what `listed_of` does."""

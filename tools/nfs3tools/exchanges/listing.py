@@ -55,8 +55,8 @@ def place_of(line: str) -> LinePlace:
 
 
 class Message(Line):
-    """A call or a reply, where it is in its capture, and what it says, perhaps with marks. `framing`
-    finds its frames, if they are known."""
+    """A call or a reply, where it is in its capture, and what it says, perhaps with marks.
+    `framing` finds its frames, if they are known."""
     values: LongValues | None = None
     framing: Framing | None = None
 

@@ -53,6 +53,10 @@ class OwnedItem(NamedTuple):
 OWNED_ITEMS = dict[str, OwnedItem]()  # by their names among values, as `dir.after.size`
 
 
+def owned(label: str) -> OwnedItem:
+    return OWNED_ITEMS.get(label) or OwnedItem((), label)
+
+
 class Layout:
     """How the items of a layout are read: a pattern, the names of its groups, and what makes values
     of them. Data of a file may follow, or entries of a directory, in a layout of their own."""

@@ -9,7 +9,6 @@ from collections import Counter
 from collections.abc import Iterable, Mapping, Sequence
 
 from ..exchanges.kept import Kept
-from ..exchanges.stored import LongValues
 from ..recordings.coverage import Allowed, Counts, Covered, counts_of
 from ..recordings.selection import BEGUN_BEFORE, count
 from ..recordings.taken import FrameRef, Taken, TakenConnection
@@ -99,19 +98,12 @@ def judged_alone(program: str, recording: str, taken: Taken,
     """What the program says of a connection's capture. Raises `Died`."""
     begin = time.monotonic()
     answer = run_program(program, ['check', '/dev/stdin'], CHECKED, connection.capture())
-    verdict = verdict_of(of_covered(recording, taken.covered_connection(connection)), taken,
-                         connection, answer)
-    return verdict._replace(
+    verdict = of_covered(recording, taken.covered_connection(connection))._replace(
         tcp_stream=connection.stream_number, client=connection.client_end,
         server=connection.server_end, notes=connection.notes, seconds=time.monotonic() - begin)
-
-
-def verdict_of(verdict: Verdict, taken: Taken, connection: TakenConnection,
-               answer: Answer) -> Verdict:
-    """The verdict on a connection with the program's answer."""
     counts, fault = checked_counts(answer), parse_fault(answer.error)
     if answer.status == 0 and counts:
-        return verdict._replace(calls=counts.calls, replies=counts.replies)
+        return verdict._replace(calls=counts[1], replies=counts[2])
     verdict = verdict._replace(calls=connection.client.count_records(),
                                replies=connection.server.count_records())
     if answer.status != 2 or fault is None or isinstance(fault.place, FilePlace):
@@ -170,9 +162,9 @@ def verdict_members(verdicts: Sequence[Verdict]) -> dict[str, object]:
 
 
 def kept_in(program: str, taken: Taken, verdicts: Iterable[Verdict],
-            values: LongValues | None = None, has_texts: bool = True) -> Kept:
+            has_values: bool = False, has_texts: bool = True) -> Kept:
     """Returns the exchanges of the connections that were judged. Raises `Died` and `OSError`."""
-    kept = Kept(values, has_texts)
+    kept = Kept(has_values, has_texts)
     states = {verdict.connection: verdict.state for verdict in verdicts}
     for connection in taken.connections:
         state = states.get(connection.number, 'error')
@@ -190,6 +182,12 @@ def count_unanswered(kept: Kept, verdicts: list[Verdict]) -> None:
                          if not first and kept.is_unanswered(at))
     verdicts[:] = [verdict._replace(unanswered=unanswered[verdict.connection or 0])
                    for verdict in verdicts]
+
+
+def not_ok(verdicts: Iterable[Verdict]) -> list[str]:
+    """A line for each row that is not ok."""
+    return [printable(f'{subject_of(verdict)}: {verdict.message}') for verdict in verdicts
+            if is_row(verdict, is_quiet=True)]
 
 
 def tell_notes(verdicts: Sequence[Verdict]) -> None:

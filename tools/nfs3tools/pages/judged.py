@@ -21,7 +21,6 @@ from ..recordings.selection import count, plural
 from ..recordings.taken import Taken
 from ..shared.places import NoPlace, Place
 from ..shared.printed import escaped, printable
-from ..shared.screens import Styled
 from . import markup
 from .markup import class_of
 from .time_line import FORMS, TimeLine, of_time_line, time_line_of

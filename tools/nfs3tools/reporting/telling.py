@@ -12,7 +12,7 @@ from ..comparison.values import long_values
 from ..comparison.values.classes import Mask
 from ..comparison.verdict.accepted import Split, entry_text
 from ..comparison.verdict.cover import Cover, cause_of
-from ..comparison.verdict.decision import Report
+from ..comparison.verdict.decision import WHY_LEFT_OUT, Report
 from ..comparison.verdict.differences import Difference
 from ..comparison.verdict.findings import Compared, Finding
 from ..exchanges.in_words import short
@@ -23,8 +23,6 @@ from .junit import Suite
 from .rows import json_members
 
 OF_CONNECTIONS = ('order', 'connection')  # kinds of findings
-# Why calls of both runs are left out.
-WHY_LEFT_OUT = {'explained': 'explained by order', 'sent again': 'sent again'}
 LONGEST_VALUE, LONGEST_NAME = 128, 1024  # characters, as the listing spells them
 LONGEST_LIST = 4  # frames
 FIELDS_AT_MOST = 12
@@ -300,8 +298,7 @@ def json_of_comparison(report: Report, compared: Compared,
     """The comparison, in pieces: an object, each of whose findings is a line."""
     found, runs = report.found, zip(report.covers, compared.lonely, compared.left_out)
     head = {
-        'version': REPORT_VERSION, 'verdict': report.word(),
-        'position': report.place or None,
+        'version': REPORT_VERSION, 'verdict': report.word(), 'position': report.place or None,
         'mask': ways_by_class(report.choices.masks[0]),
         'same_under': found.same_under and ways_by_class(found.same_under),
         'runs': [{**cover_members(cover), 'only': only, 'left_out': dict(left)}
@@ -431,8 +428,7 @@ def junit_of_comparison(report: Report, compared: Compared, is_good: bool) -> by
         untold = [f'{more:,} more findings have no case'] * (more > 0)
         cases.add('the runs are the same', 'failure', line, [*untold, *silent], type=report.word())
     for group in groups[:CASES_AT_MOST]:
-        cases.add(case_name(group), 'failure', brief_of(group), of_group(group),
-                  type=group[0].kind)
+        cases.add(case_name(group), 'failure', brief_of(group), of_group(group), type=group[0].kind)
     return cases.written()
 
 

@@ -22,7 +22,7 @@ ERRORS_OF_MOUNT = (1, 2, 5, 13, 20, 22, 63, 10004, 10006)
 NFSSTAT = {0: 'NFS3_OK'} | {number: f'NFS3ERR_{name}' for number, name in ERRORS.items()}
 MOUNTSTAT = {0: 'MNT3_OK'} | {number: f'MNT3ERR_{ERRORS[number]}' for number in ERRORS_OF_MOUNT}
 BOOL = {0: 'FALSE', 1: 'TRUE'}
-FILE_TYPES = dict(enumerate(('REG', 'DIR', 'BLK', 'CHR', 'LNK', 'SOCK', 'FIFO'), 1))
+TYPES_OF_FILES = dict(enumerate(('REG', 'DIR', 'BLK', 'CHR', 'LNK', 'SOCK', 'FIFO'), 1))
 
 # The values that a word may have, by the name of the item.
 VALUES = {
@@ -38,7 +38,7 @@ VALUES = {
         'AUTH_FAILED', 'AUTH_KERB_GENERIC', 'AUTH_TIMEEXPIRE', 'AUTH_TKT_FILE', 'AUTH_DECODE',
         'AUTH_NET_ADDR',
         'RPCSEC_GSS_CREDPROBLEM', 'RPCSEC_GSS_CTXPROBLEM'))),
-    'type': {number: f'NF3{name}' for number, name in FILE_TYPES.items()},
+    'type': {number: f'NF3{name}' for number, name in TYPES_OF_FILES.items()},
     'stable': {0: 'UNSTABLE', 1: 'DATA_SYNC', 2: 'FILE_SYNC'},
     'how': {0: 'UNCHECKED', 1: 'GUARDED', 2: 'EXCLUSIVE'},
     'set_atime': {0: 'DONT_CHANGE', 1: 'SET_TO_SERVER_TIME', 2: 'SET_TO_CLIENT_TIME'},

@@ -41,16 +41,10 @@ class Answer(typing.NamedTuple):
     error: str
 
 
-class CheckedCounts(typing.NamedTuple):
-    """What `check` counts in a capture that is valid."""
-    connections: int
-    calls: int
-    replies: int
-
-
-def checked_counts(answer: Answer) -> CheckedCounts | None:
+def checked_counts(answer: Answer) -> tuple[int, ...]:
+    """Returns how many connections, calls and replies `check` counts, or nothing after a fault."""
     found = CHECKED_COUNTS.fullmatch(answer.out)
-    return CheckedCounts(*map(int, found.groups())) if found else None
+    return tuple(map(int, found.groups())) if found else ()
 
 
 def program_path(named: str | None = None) -> str:
@@ -98,8 +92,7 @@ def run_program(program: str, words: list[str], expected: typing.Mapping[int, st
     return expected_of([program, *words], answer, expected)
 
 
-def expected_of(command: list[str], answer: Answer,
-                expected: typing.Mapping[int, str]) -> Answer:
+def expected_of(command: list[str], answer: Answer, expected: typing.Mapping[int, str]) -> Answer:
     """Returns an answer. Raises `Died` if it is none that is expected."""
     if answer.status not in expected or not answer.out.startswith(expected[answer.status]):
         raise died(command, answer.status, answer.error)

@@ -22,7 +22,7 @@ from ...exchanges.procedures import (
     ACCESS, BEFORE, DONE, LISTINGS, LOOKUP, NO_ENTRY, STEADY, is_of_files, owners_in,
     statements_of_entry)
 from ...exchanges.timelines import SaidValues
-from ...exchanges.values import OWNED_ITEMS, OwnedItem, Values
+from ...exchanges.values import Values, owned
 from ...recordings.taken import Taken
 from ..values.classes import CLASSES, Mask, Way
 from .facts import Change, ChangesOfKey, Facts, Turns, is_quiet
@@ -43,10 +43,6 @@ FEW, SHARE = 10, 10  # so many calls of a procedure, or one of so many
 EntryKey = object  # the name of an entry, or the object of one whose name is masked
 Question = tuple[str, int, tuple[str, ...]]  # the procedure, the object, and the name
 ReasonsOfCalls = tuple[dict[int, str], dict[int, str]]  # calls of both runs, each with a reason
-
-
-def owned(label: str) -> OwnedItem:
-    return OWNED_ITEMS.get(label) or OwnedItem((), label)
 
 
 class Unexplained(Exception):
@@ -120,7 +116,7 @@ class OrderRule:
                                  for own, at in runs):
             raise Unexplained
         first, second = (Reply(own, run, at) for run, (own, at) in enumerate(runs))
-        if first.head.partition(' status=')[0] != second.head.partition(' status=')[0]:
+        if first.head != second.head:
             raise Unexplained
         # (both ask from the beginning of a folder, or neither does)
         if len({reply.one.call.get('cookie') == 0 for reply in (first, second)}) > 1:

@@ -88,21 +88,22 @@ RENAMED = {'fh': HANDLES, 'verf': VERIFIERS}  # by the names of items
 CLASSES_BY_NAME = {one.name: one for one in CLASSES}
 
 Mask = dict[str, Way]
+# A word of `--mask`: its sign, its name, and its way, or nothing in their places.
+MASK_WORD = re.compile(r'(?=[^,])([+-]?)[+-]*([^,=]*)=?([^,]*)')
 
 
 def default_mask() -> Mask:
     return {one.name: one.way for one in CLASSES if one.is_default}
 
 
-def changed_mask(mask: Mask, word: str) -> Mask:
+def changed_mask(mask: Mask, sign: str, name: str, way: str) -> Mask:
     """Returns a mask with a class added (`+NAME`), removed (`-NAME`) or masked so (`NAME=zero`)."""
-    name, _, way = word.lstrip('+-').partition('=')
     if name not in CLASSES_BY_NAME:
         raise argparse.ArgumentTypeError(
             f'no class of values: {name} (there are {", ".join(CLASSES_BY_NAME)})')
     if way and way not in ('zero', 'number'):
         raise argparse.ArgumentTypeError(f'{name} is masked as zero or number, not as {way}')
-    if word.startswith('-'):
+    if sign == '-':
         return {kept: how for kept, how in mask.items() if kept != name}
     one = CLASSES_BY_NAME[name]
     if way == 'number' and one.is_raw:
@@ -112,10 +113,10 @@ def changed_mask(mask: Mask, word: str) -> Mask:
 
 def mask_of(text: str) -> Mask:
     """Reads the word of `--mask`. Words with `+` or `-` change the default mask."""
-    words = [word for word in text.split(',') if word and word != 'none']
-    mask = default_mask() if words and all(word[0] in '+-' for word in words) else {}
+    words = [word for word in MASK_WORD.findall(text) if word != ('', 'none', '')]
+    mask = default_mask() if words and all(sign for sign, *_ in words) else {}
     for word in words:
-        mask = changed_mask(mask, word)
+        mask = changed_mask(mask, *word)
     return mask
 
 
@@ -144,10 +145,8 @@ def in_any_order(text: str | None, has_raw: bool = False) -> list[Mask]:
 
 def named_in(text: str | None) -> frozenset[str] | None:
     """Returns the classes that `--mask` changes, or None if it is the whole mask."""
-    words = [] if text is None else [word for word in text.split(',') if word]
-    if not all(word[0] in '+-' for word in words):
-        return None
-    return frozenset(word.lstrip('+-').partition('=')[0] for word in words)
+    words = MASK_WORD.findall(text or '')
+    return frozenset(name for _, name, _ in words) if all(sign for sign, *_ in words) else None
 
 
 def following(text: str | None) -> frozenset[str]:

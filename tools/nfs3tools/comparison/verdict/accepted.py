@@ -200,13 +200,11 @@ MEMBERS: dict[str, Callable[[Any], bool]] = {
 
 def file_of(findings: Iterable[Finding], mask: Mask) -> bytes:
     """Returns a file that accepts findings. Equal entries are one, which says how often."""
-    own, often = dict[str, AcceptedEntry](), Counter[str]()
-    for entry in (entry for finding in findings for entry in entries_of(finding, mask)):
-        line = json.dumps(entry)
-        own[line] = entry
-        often[line] += 1
-    entries = ','.join('\n  ' + (line if number == 1 else json.dumps({**own[line], 'times': number}))
-                       for line, number in often.items())
+    every = [entry for finding in findings for entry in entries_of(finding, mask)]
+    often, own = Counter(map(json.dumps, every)), {json.dumps(entry): entry for entry in every}
+    entries = ','.join(
+        '\n  ' + (line if number == 1 else json.dumps({**own[line], 'times': number}))
+        for line, number in often.items())
     return f'{{"version": {ACCEPTED_VERSION}, "accepted": [{entries}\n]}}\n'.encode()
 
 

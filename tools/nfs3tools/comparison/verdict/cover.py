@@ -105,7 +105,7 @@ def cover_of(program: str, taken: Taken, name: str, answer: Answer) -> Cover:
     others += [error_verdict(name, taken.damage)] if taken.damage else []
     if counts:
         verdicts = [of_covered(name, taken.covered_connection(one)) for one in taken.connections]
-        return Cover(name, taken, Size(counts.calls, counts.connections), [*verdicts, *others])
+        return Cover(name, taken, Size(counts[1], counts[0]), [*verdicts, *others])
     verdicts = [judged_alone(program, name, taken, one) for one in taken.connections]
     for one in verdicts:
         if one.state == 'error':

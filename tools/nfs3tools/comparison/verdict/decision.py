@@ -26,6 +26,8 @@ from .findings import Compared, Explaining, Finding, Run, replies
 from .trial import Trial
 
 FIELDS_IN_SUMMARY = 4
+# Why calls of both runs are left out.
+WHY_LEFT_OUT = {'explained': 'explained by order', 'sent again': 'sent again'}
 IN_ANOTHER_ORDER, BUT_IDS, BUT_LEFT_OUT = (
     'same in another order', 'same but for ids', 'same but for calls left out')
 Order = Optional[Literal['strict', 'any']]
@@ -391,8 +393,7 @@ def of_both(compared: Compared) -> Iterator[str]:
             paths[call.kind, call.message.procedure].append(call.path or '?')
     for (kind, procedure), some in sorted(paths.items()):
         where = some[0] if len(set(some)) == 1 else f'{len(set(some)):,} paths'
-        how = 'sent again' if kind == 'sent again' else 'explained by order'
-        yield f'{len(some):,} {short(procedure)} of {where}, {how}'
+        yield f'{len(some):,} {short(procedure)} of {where}, {WHY_LEFT_OUT[kind]}'
 
 
 def word_of(found: Outcome) -> str:
