@@ -26,12 +26,10 @@ from ..comparison.values.long_values import bytes_of
 from ..exchanges.kept import WIDTH, Kept, KeptExchange, call_text, host_of
 from ..judgement.tallies import milliseconds
 from ..judgement.verdict import (
-    VERDICTS_VERSION, Verdict, count_unanswered, kept_in, not_ok, status_of, sums_of, tell_notes,
-    verdict_members)
+    VERDICTS_VERSION, Verdict, kept_in, not_ok, status_of, sums_of, tell_notes, verdict_members)
 from ..judgement.window import ALL, DAY, add_window, window_of
 from ..recordings.coverage import PROCEDURES, call_named
 from ..recordings.selection import count, plural
-from ..recordings.taken import Taken
 from ..reporting.messages import add_recordings, allowed_of, parser_of, run
 from ..reporting.rows import add_forms, form_of
 from ..shared.layouts import BY_NUMBER
@@ -90,22 +88,18 @@ def wanted_by(chosen: argparse.Namespace) -> list[Condition]:
 def listed(judge: Judge, recording: str, chosen: argparse.Namespace,
            verdicts: list[Verdict]) -> ListedRecording:
     """Judges a recording, adds its verdicts, and returns the exchanges of what was judged."""
-    begun, found = list[int](), list[Kept]()
-
-    def look(taken: Taken, judged: list[Verdict]) -> None:
-        begun.append(taken.begun)
-        found.append(kept_in(judge.program, taken, judged))
-        count_unanswered(found[0], judged)
-    verdicts += judge.verdicts(recording, look)
+    found = list[Kept]()
+    verdicts += judge.verdicts(recording, lambda taken, judged: found.append(
+        kept_in(judge.program, taken, judged)))
     kept = (found or [Kept()])[0]
     order, conditions = kept.in_order(chosen.sort == 'latency'), wanted_by(chosen)
-    window = window_of(chosen, sum(begun))
+    window = window_of(chosen, kept.begun)
     if window != ALL:
         order = [at for at in order if window.has(kept.times[at])]
     if conditions:
         order = [at for at, one in zip(order, map(kept.exchange, order))
                  if all(holds(one) for holds in conditions)]
-    return ListedRecording(recording, None if chosen.utc else sum(begun), kept, order)
+    return ListedRecording(recording, None if chosen.utc else kept.begun, kept, order)
 
 
 def call_time(time: int, begun: int | None) -> str:

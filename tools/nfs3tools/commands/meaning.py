@@ -31,7 +31,7 @@ from ..exchanges.in_words import short
 from ..exchanges.kept import Kept, call_text
 from ..exchanges.whose import ANY
 from ..judgement.verdict import (
-    Verdict, count_unanswered, counts_after, kept_in, status_of, sums_of, verdict_members)
+    Verdict, counts_after, kept_in, status_of, sums_of, verdict_members)
 from ..meaning.across import findings_in
 from ..meaning.recorded import Recorded
 from ..meaning.rules import CLIENT, NOTE, RULES, SECTIONS, Looked, RuleFinding
@@ -106,7 +106,7 @@ class RecordingFindings:
 
     def __init__(self, recording: str, chosen: argparse.Namespace, looked: Looked) -> None:
         self.recording, self.chosen, self.looked = escaped(recording), chosen, looked
-        self.kept, self.begun, self.parts = Kept(), 0, list[Part]()
+        self.kept, self.parts = Kept(), list[Part]()
         self.rows = dict[tuple[str, str, str], FindingRow]()
         self.all = list[tuple[RuleFinding, FindingRow]]()
 
@@ -115,7 +115,7 @@ class RecordingFindings:
 
     def take(self, program: str, taken: Taken, verdicts: list[Verdict]) -> None:
         """Takes the exchanges of the connections that were judged, and puts the rules to them."""
-        self.kept, self.begun = kept_in(program, taken, verdicts, has_values=True), taken.begun
+        self.kept = kept_in(program, taken, verdicts, has_values=True)
         self.parts += taken.parts
         is_whole = {verdict.state for verdict in verdicts} <= {'ok', 'note'}
         for finding in findings_in(Recorded(self.kept), self.looked, is_whole):
@@ -124,7 +124,6 @@ class RecordingFindings:
                 row.found += 1
                 self.all.append((finding, row))
         self.all.sort(key=lambda one: self.kept.times[one[0].number])
-        count_unanswered(self.kept, verdicts)
 
     def row_of(self, finding: RuleFinding) -> FindingRow:
         rule, one = RULES[finding.rule], self.kept.exchange(finding.number)
@@ -169,7 +168,7 @@ class RecordingFindings:
             print(*table_lines([Styled(FINDING_HEADS), *cells], screen), sep='\n')
         for one, row in self.all if self.chosen.all else ():
             if row in rows:
-                time = call_time(self.kept.times[one.number], self.begun)
+                time = call_time(self.kept.times[one.number], self.kept.begun)
                 print(f'{time}  {one.rule}  {self.words(one)}')
 
     def articles(self) -> Iterator[str]:

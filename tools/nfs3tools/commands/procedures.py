@@ -25,8 +25,8 @@ from functools import partial
 from ..judgement.tallies import (
     Tallies, Tally, milliseconds, procedures_in_order, sum_of, tallies_of)
 from ..judgement.verdict import (
-    VERDICTS_VERSION, Verdict, colour_of, count_unanswered, counts_after, is_row, kept_in, not_ok,
-    status_of, subject_of, sums_of, tell_notes, verdict_members)
+    VERDICTS_VERSION, Verdict, colour_of, counts_after, is_row, kept_in, not_ok, status_of,
+    subject_of, sums_of, tell_notes, verdict_members)
 from ..judgement.window import add_window, window_of
 from ..pages.judged import (
     Seen, ShownTable, headline_of, judged_page, row_of_cells, said_of, verdicts_in)
@@ -42,18 +42,22 @@ from ..shared.screens import Colour, Screen, Styled, add_width, screen_of, table
 from .verdicts import Judge, judge_of
 
 QUANTILES = (0.5, 0.99, 1)  # of the latencies: the median, the 99th percentile, and the longest
-TALLY_COUNTS = ('calls', 'again', 'replies', 'unanswered', 'call_bytes', 'reply_bytes')
-RANKS = ('median_ns', 'p99_ns', 'most_ns', 'mean_ns', 'sum_ns')
-PROCEDURE_HEADS = ('procedure', 'calls', 'again', 'replies', 'no reply', 'call bytes',
-                   'reply bytes', 'median ms', '99 % ms', 'most ms', 'mean ms', 'sum ms', 'errors')
+# The numbers of a row: their names in JSON and CSV, their heads, and the words that sort by them
+NUMBER_NAMES, NUMBER_HEADS, NUMBER_WORDS = zip(
+    ('calls', 'calls', 'calls'), ('again', 'again', 'again'), ('replies', 'replies', 'replies'),
+    ('unanswered', 'no reply', 'no-reply'), ('call_bytes', 'call bytes', 'call-bytes'),
+    ('reply_bytes', 'reply bytes', 'reply-bytes'), ('median_ns', 'median ms', 'median'),
+    ('p99_ns', '99 % ms', 'p99'), ('most_ns', 'most ms', 'most'), ('mean_ns', 'mean ms', 'mean'),
+    ('sum_ns', 'sum ms', 'sum'))
+COUNT_COLUMNS, RANK_COLUMNS = slice(6), slice(6, None)  # of these: counts, and latencies
+PROCEDURE_HEADS = ('procedure', *NUMBER_HEADS, 'errors')
 PROCEDURE_NUMBERS = range(1, len(PROCEDURE_HEADS) - 1)  # the columns that are set to the right
 LONGEST_COLUMN = 'longest'  # is before the errors in tables of one recording
 IN_ALL = 'in all'
 ON_PAGE = Screen(sys.maxsize)  # on which numbers are as on a terminal
 # The columns by which rows are sorted: in the order of the RFC, or with the largest number first
 BY_PROCEDURE = 'procedure'
-SORT_COLUMNS = ('calls', 'again', 'replies', 'no-reply', 'call-bytes', 'reply-bytes', 'median',
-                'p99', 'most', 'mean', 'sum', 'errors')
+SORT_COLUMNS = (*NUMBER_WORDS, 'errors')
 SIZES_FROM = 4  # the first column whose change is printed in per cent
 
 
@@ -101,8 +105,8 @@ def total_of(tallies: Tallies) -> Tally:
 
 def numbers_of(tally: Tally) -> list[int | None]:
     """Returns the numbers of a row: the counts, and the latencies."""
-    return [*(getattr(tally, count) for count in TALLY_COUNTS), *tally.ranked(QUANTILES),
-            tally.mean, tally.total]
+    return [*(getattr(tally, name) for name in NUMBER_NAMES[COUNT_COLUMNS]),
+            *tally.ranked(QUANTILES), tally.mean, tally.total]
 
 
 def counted(judge: Judge, recording: str, chosen: argparse.Namespace) -> CountedRecording:
@@ -114,13 +118,12 @@ def counted(judge: Judge, recording: str, chosen: argparse.Namespace) -> Counted
         judged = {verdict.connection: verdict for verdict in verdicts}
         with contextlib.closing(kept_in(judge.program, taken, verdicts,
                                         has_texts=bool(chosen.html))) as kept:
-            count_unanswered(kept, verdicts)
-            window = window_of(chosen, taken.begun)
+            window = window_of(chosen, kept.begun)
             tables.extend(TallyTable(recording, judged[part.number],
                                      tallies_of(kept, recording, number, window))
                           for number, part in enumerate(kept.parts))
             if chosen.html:
-                lines.append(time_line_of(kept, taken.begun, window))
+                lines.append(time_line_of(kept, window))
     verdicts = judge.verdicts(recording, look)
     in_all = TallyTable(recording, None, sum_of(table.tallies for table in tables))
     return CountedRecording(Seen(recording, verdicts, line=lines[0] if lines else None), tables,
@@ -137,9 +140,8 @@ def tally_row(name: str, tally: Tally, is_named: bool, screen: Screen) -> Styled
 
 def number_texts(numbers: Sequence[int | None], screen: Screen) -> list[str]:
     """The numbers of a row as they are printed."""
-    counts, latencies = numbers[:len(TALLY_COUNTS)], numbers[len(TALLY_COUNTS):]
-    return [*(screen.number(number or 0) for number in counts),
-            *(milliseconds(rank, screen) for rank in latencies)]
+    return [*(screen.number(number or 0) for number in numbers[COUNT_COLUMNS]),
+            *(milliseconds(rank, screen) for rank in numbers[RANK_COLUMNS])]
 
 
 def longest_of(tally: Tally, is_named: bool) -> str:
@@ -284,9 +286,9 @@ def shown_of(title: str, styled: Sequence[Styled]) -> ShownTable:
 def tally_object(name: str, tally: Tally) -> dict[str, typing.Any]:
     numbers, longest = numbers_of(tally), tally.longest
     position = longest and str(Place(longest.connection, 'client', longest.record))
-    return {'procedure': name, **dict(zip(TALLY_COUNTS, numbers)),
-            'errors': dict(most_first(tally.errors)), 'latencies': len(tally.latencies),
-            **dict(zip(RANKS, numbers[len(TALLY_COUNTS):])), 'most_position': position,
+    counts, ranks = ([*zip(NUMBER_NAMES, numbers)][part] for part in (COUNT_COLUMNS, RANK_COLUMNS))
+    return {'procedure': name, **dict(counts), 'errors': dict(most_first(tally.errors)),
+            'latencies': len(tally.latencies), **dict(ranks), 'most_position': position,
             'most_frame': longest and longest.frame, 'negative': tally.backward}
 
 

@@ -192,9 +192,9 @@ class Kept:
         self.frames, self.times = array('Q'), array('q')
         self.again, self.errors = dict[int, list[SentRecord]](), dict[int, list[str]]()
         self.said = list[Sequence[int]]()  # hashes of what the calls of each connection say
-        # Calls that were sent again on a later connection, both ways, and when all ended.
+        # Calls that were sent again on a later connection, both ways, and when all began and ended.
         self.later, self.earlier = dict[int, int](), dict[int, int]()
-        self.ended = 0
+        self.begun = self.ended = 0
         # The first reply of each, from 1 in the order of all replies, 0 for none; and more.
         self.firsts, self.further = array('I'), dict[int, list[int]]()
         # Of each reply.

@@ -161,27 +161,23 @@ def verdict_members(verdicts: Sequence[Verdict]) -> dict[str, object]:
             'verdicts': [*map(verdict_object, verdicts)]}
 
 
-def kept_in(program: str, taken: Taken, verdicts: Iterable[Verdict],
-            has_values: bool = False, has_texts: bool = True) -> Kept:
-    """Returns the exchanges of the connections that were judged. Raises `Died` and `OSError`."""
+def kept_in(program: str, taken: Taken, verdicts: list[Verdict], has_values: bool = False,
+            has_texts: bool = True) -> Kept:
+    """Returns the exchanges of the connections that were judged, and gives the verdicts the numbers
+    of their calls without a reply. Raises `Died` and `OSError`."""
     kept = Kept(has_values, has_texts)
     states = {verdict.connection: verdict.state for verdict in verdicts}
     for connection in taken.connections:
         state = states.get(connection.number, 'error')
         if state != 'error':
             kept.take(program, connection, state == 'refused')
-    kept.ended = taken.ended
+    kept.begun, kept.ended = taken.begun, taken.ended
     kept.link()
-    return kept
-
-
-def count_unanswered(kept: Kept, verdicts: list[Verdict]) -> None:
-    """Gives the verdicts on connections the numbers of their calls without a reply."""
-    unanswered = Counter(kept.parts[kept.part_of[at]].number
-                         for at, first in enumerate(kept.firsts)
+    unanswered = Counter(kept.parts[kept.part_of[at]].number for at, first in enumerate(kept.firsts)
                          if not first and kept.is_unanswered(at))
     verdicts[:] = [verdict._replace(unanswered=unanswered[verdict.connection or 0])
                    for verdict in verdicts]
+    return kept
 
 
 def not_ok(verdicts: Iterable[Verdict]) -> list[str]:

@@ -59,7 +59,7 @@ def seen_in(kept: Kept, taken: Taken, recording: str, verdicts: list[Verdict]) -
     """Returns what is shown of a recording, by the exchanges of its connections."""
     refused = [verdict for verdict in verdicts if verdict.state == 'refused']
     faults = [explained_fault(taken, verdict) for verdict in refused[:FAULTS_OF_EACH]]
-    return Seen(recording, verdicts, faults, time_line_of(kept, taken.begun), tuple(taken.parts))
+    return Seen(recording, verdicts, faults, time_line_of(kept), tuple(taken.parts))
 
 
 class ShownTable(NamedTuple):
