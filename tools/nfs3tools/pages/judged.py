@@ -14,7 +14,8 @@ from ..captures.explained import tell_record
 from ..captures.located import Within
 from ..exchanges.kept import Kept
 from ..judgement.verdict import (
-    VERDICT_HEADS, Verdict, counts_after, is_row, status_of, subject_of, verdict_notes, verdict_row)
+    COVERED, VERDICT_HEADS, Verdict, counts_after, is_row, status_of, subject_of, verdict_notes,
+    verdict_row)
 from ..recordings.coverage import Allowed, Counts, named_calls
 from ..recordings.parts import Part
 from ..recordings.selection import count, plural
@@ -27,10 +28,8 @@ from .time_line import FORMS, TimeLine, of_time_line, time_line_of
 
 # How words of verdicts look: good, judged in part, at fault.
 GOOD, PARTIAL, BAD = 'plus', 'part', 'minus'
-LOOKS = {'ok': GOOD, 'in part': PARTIAL, 'left out': PARTIAL, 'not checked': PARTIAL,
-         'refused': BAD, 'error': BAD}
-LOOKS_OF_COUNTS = (('in part', PARTIAL), ('left out', PARTIAL), ('not checked', PARTIAL),
-                   ('errors', BAD))
+LOOKS = {'ok': GOOD, **dict.fromkeys(COVERED, PARTIAL), 'refused': BAD, 'error': BAD}
+LOOKS_OF_COUNTS = (*((word, PARTIAL) for word in COVERED), ('errors', BAD))
 FAULTS_IN_RECORDING, FAULTS_OF_EACH = 500, 200  # on a page, and of a recording
 LINES_AT_MOST = 200  # of a message
 

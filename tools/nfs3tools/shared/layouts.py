@@ -190,6 +190,7 @@ def layout_items(layout: str) -> tuple[LayoutItem, ...]:
                  for owner, kind, most, name, inner in ITEM_OF_LAYOUT.findall(layout) if name)
 
 
+NO_OWNER = contextlib.nullcontext()
 # Writes the bytes of an item as a text.
 Spell = Callable[[bytes], str]
 
@@ -225,7 +226,7 @@ class Walk:
 
     def whose(self, name: str, number: int = 0) -> contextlib.AbstractContextManager[None]:
         """Says whose the items inside are: a name, or of a list, with a number from 1 on."""
-        return contextlib.nullcontext()
+        return NO_OWNER
 
     def message(self, is_call: bool) -> None:
         """The items after the xid, of a reply only if its procedure is known."""
@@ -235,7 +236,7 @@ class Walk:
 
     def part(self, layout: str) -> None:
         for item in layout_items(PARTS.get(layout, layout)):
-            with self.whose(item.owner) if item.owner else contextlib.nullcontext():
+            with self.whose(item.owner) if item.owner else NO_OWNER:
                 if item.kind:
                     self.of_kind(item.kind, item.name, item.most, item.inner)
                 else:
@@ -266,7 +267,7 @@ class Walk:
 
     def numbered(self, name: str, turns: Iterable[object], inner: str) -> None:
         for number, _ in enumerate(turns, 1):
-            with self.whose(name, number) if name else contextlib.nullcontext():
+            with self.whose(name, number) if name else NO_OWNER:
                 self.part(inner)
 
     def sized(self, size: int, inner: str) -> None:
