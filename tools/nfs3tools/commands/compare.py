@@ -213,7 +213,8 @@ def print_comparison(words: argparse.Namespace, report: Report, compared: Compar
     if is_told(words, report):
         for line in telling.of_compared(compared, None if words.all else FINDINGS_AT_MOST, left_out,
                                         words.brief):
-            print(screen.painted(str(line), SIGN_COLOURS.get(line.sign)))
+            colour = None if isinstance(line, str) else SIGN_COLOURS.get(line.sign)
+            print(screen.painted(str(line), colour))
     most = None if words.all else SILENT_AT_MOST
     for text in (*telling.of_silent(compared, most), *telling.of_notes(compared, most)):
         print(text)

@@ -23,7 +23,7 @@ from functools import partial
 from xml.etree.ElementTree import SubElement
 
 from ..exchanges.kept import host_of
-from ..judgement.unanswered import Unanswered, open_calls
+from ..judgement.unanswered import Unanswered
 from ..judgement.verdict import (
     COVERED, VERDICTS_VERSION, VERDICT_HEADS, Verdict, colour_of, counts_after, error_verdict,
     is_row, judged_alone, kept_in, of_covered, said_last, status_of, sums_of, tell_notes,
@@ -120,14 +120,10 @@ def judge_of(chosen: argparse.Namespace) -> Judge:
 
 def with_unanswered(verdicts: list[Verdict], taken: Taken) -> list[Verdict]:
     """Returns the verdicts on connections with the numbers of their calls without a reply."""
-    unanswered, counted = Unanswered(), list[Verdict]()
-    for verdict, connection in zip(verdicts, taken.connections):
-        if verdict.state not in ('refused', 'error'):
-            found = open_calls(connection.client, connection.server)
-            verdict = verdict._replace(unanswered=unanswered.number(
-                connection.client_end, connection.server_end, found))
-        counted.append(verdict)
-    return counted
+    unanswered = Unanswered()
+    return [verdict if verdict.state in ('refused', 'error')
+            else verdict._replace(unanswered=unanswered.number(connection))
+            for verdict, connection in zip(verdicts, taken.connections)]
 
 
 def main(words: list[str]) -> int:

@@ -9,7 +9,7 @@ from collections.abc import Iterator
 from ..exchanges.answering import Answering
 from ..exchanges.kept import host_of
 from ..recordings.records import Window, body_of, xids
-from ..recordings.taken import TakenStream
+from ..recordings.taken import TakenConnection, TakenStream
 
 UNANSWERED_AT_MOST = 1 << 16  # calls without a reply; then those so far are forgotten
 CallDigest = tuple[int, int]  # the xid of a call, and a hash of what it says
@@ -22,13 +22,14 @@ class Unanswered:
     def __init__(self) -> None:
         self.known = defaultdict[tuple[str, str], set[CallDigest]](set)  # by both ends
 
-    def number(self, client: str, server: str, found: set[CallDigest]) -> int:
+    def number(self, connection: TakenConnection) -> int:
         """Returns how many calls of a connection without a reply are new. A capture has no ends."""
-        if not client or not found:
+        found = open_calls(connection.client, connection.server)
+        if not connection.client_end or not found:
             return len(found)
         if sum(map(len, self.known.values())) > UNANSWERED_AT_MOST:
             self.known.clear()
-        known = self.known[host_of(client), server]
+        known = self.known[host_of(connection.client_end), connection.server_end]
         new = len(found - known)
         known |= found
         return new

@@ -37,12 +37,11 @@ class Rule(NamedTuple):
         return SECTIONS.get(word, word)
 
 
+LISTERS, MAKERS = ('READDIR', 'READDIRPLUS'), ('CREATE', 'MKDIR', 'SYMLINK', 'MKNOD')
 OF_READING, OF_MAKING, IN_FOLDERS = 'listings', 'making', 'in folders'
-GROUPS_OF_PROCEDURES = {OF_READING: ('READDIR', 'READDIRPLUS'),
-                        OF_MAKING: ('CREATE', 'MKDIR', 'SYMLINK', 'MKNOD')}
-GROUPS_OF_PROCEDURES[IN_FOLDERS] = (
-    'LOOKUP', *GROUPS_OF_PROCEDURES[OF_MAKING], 'REMOVE', 'RMDIR', 'RENAME', 'LINK',
-    *GROUPS_OF_PROCEDURES[OF_READING])
+GROUPS_OF_PROCEDURES: dict[str, tuple[str, ...]] = {
+    OF_READING: LISTERS, OF_MAKING: MAKERS,
+    IN_FOLDERS: ('LOOKUP', *MAKERS, 'REMOVE', 'RMDIR', 'RENAME', 'LINK', *LISTERS)}
 CACHE = 'A cache of the server is older than the change, or a change came by another way than NFS.'
 OTHER_COUNTS = 'One of the two counts is that of another message, or was not made anew.'
 OLD = 'The reply has attributes of another time or of another object.'

@@ -5,7 +5,7 @@ import json
 from collections import Counter, defaultdict
 from collections.abc import Callable, Iterable, Iterator, Sequence
 from itertools import chain
-from typing import Any, NamedTuple
+from typing import Any, NamedTuple, Union
 
 from ..comparison.exchanges.explained import RUNS
 from ..comparison.values import long_values
@@ -55,10 +55,9 @@ def frames_text(message: Message) -> str:
 
 
 class SignedLine(NamedTuple):
-    """A value after its label, its sign, as `diff` has it, `=` for both runs, and a remark. A line
-    of other words has no sign."""
+    """A value after its label, its sign, as `diff` has it, `=` for both runs, and a remark."""
     text: str
-    sign: str = ''
+    sign: str
     remark: str = ''
 
     @property
@@ -66,7 +65,10 @@ class SignedLine(NamedTuple):
         return self.text + (f'    # {self.remark}' if self.remark else '')
 
     def __str__(self) -> str:
-        return f'  {self.sign} {self.words}' if self.sign else self.text
+        return f'  {self.sign} {self.words}'
+
+
+PrintedLine = Union[str, SignedLine]
 
 
 def signed_rows(difference: Difference) -> list[SignedLine]:
@@ -172,13 +174,13 @@ def group_heading(findings: Sequence[Finding]) -> str:
     return f'{only_in(finding)}{what}: {places_text(finding)}'
 
 
-def of_group(findings: Sequence[Finding]) -> Iterator[SignedLine]:
+def of_group(findings: Sequence[Finding]) -> Iterator[PrintedLine]:
     if is_summed(findings):
-        yield SignedLine(brief_of(findings))
+        yield brief_of(findings)
         return
-    yield SignedLine(group_heading(findings))
+    yield group_heading(findings)
     if findings[0].remark:
-        yield SignedLine(f'  {findings[0].remark}')
+        yield f'  {findings[0].remark}'
     yield from chain.from_iterable(map(signed_rows, findings[0].differences))
     yield from of_arguments(findings[0])
 
@@ -246,27 +248,27 @@ def places_text(one: Finding) -> str:
 
 
 def of_compared(compared: Compared, most: int | None,
-                left_out: Counter[tuple[str, str]], is_brief: bool = False) -> Iterator[SignedLine]:
+                left_out: Counter[tuple[str, str]],
+                is_brief: bool = False) -> Iterator[PrintedLine]:
     """The findings, those together that say the same, up to `most` of such groups, or each by
     itself, and each in a line if that is asked for. Then which fields differ how often, and which
     were left out."""
     groups = [[finding]
               for finding in compared.findings] if most is None else groups_alike(compared.findings)
     for group in groups[:most]:
-        yield from [SignedLine(brief_of(group))] if is_brief else of_group(group)
+        yield from [brief_of(group)] if is_brief else of_group(group)
     if most is not None and len(groups) > most:
-        yield SignedLine(f'.. and {len(groups) - most:,} more (--all prints them)')
+        yield f'.. and {len(groups) - most:,} more (--all prints them)'
     fields = compared.fields()
     if fields:
         more = ', ..' if len(fields) > FIELDS_AT_MOST else ''
-        yield SignedLine('fields that differ, and how often: '
-                         f'{fields_text(fields.most_common(FIELDS_AT_MOST))}{more}')
+        yield ('fields that differ, and how often: '
+               f'{fields_text(fields.most_common(FIELDS_AT_MOST))}{more}')
     if left_out:
-        yield SignedLine(
-            f'left out by --ignore, and how often: {fields_text(left_out.most_common())}')
+        yield f'left out by --ignore, and how often: {fields_text(left_out.most_common())}'
     elif not compared.findings:
-        yield SignedLine('no field of matched messages differs; '
-                         'only which messages share a value, or empty connections, can')
+        yield ('no field of matched messages differs; '
+               'only which messages share a value, or empty connections, can')
 
 
 def each_accepted(accepted: Split | None) -> list[str]:
@@ -416,7 +418,7 @@ def junit_of_comparison(report: Report, compared: Compared, is_good: bool) -> by
     """The verdict as a case, which passed if it is good, and else each finding as one that failed.
     Findings that say the same are one. The counts are properties, and each run of which a part is
     refused has a case with an error."""
-    groups, line = [] if is_good else groups_alike(compared.findings), '\n'.join(report.lines())
+    groups, line = [] if is_good else groups_alike(compared.findings), '; '.join(report.lines())
     accepted = report.found.accepted
     cases = Cases([cover.name for cover in report.covers], report.covers, accepted)
     more = len(groups) - CASES_AT_MOST

@@ -47,42 +47,37 @@ class ValueClass:
         return self.form is None or self.form.fullmatch(value) is not None
 
 
-def names(*some: str) -> frozenset[str]:
-    return frozenset(some)
-
-
 CLASSES = (
-    ValueClass('times', names('atime_sec', 'atime_nsec', 'mtime_sec', 'mtime_nsec', 'ctime_sec',
-                              'ctime_nsec'), Way.ZERO, True,
+    ValueClass('times', frozenset(f'{time}_{part}' for time in ('atime', 'mtime', 'ctime')
+                                  for part in ('sec', 'nsec')), Way.ZERO, True,
                'times of files, in attributes, guards and settings'),
-    ValueClass('stamps', names('stamp'), Way.ZERO, True, 'stamps of AUTH_SYS credentials'),
-    ValueClass('machines', names('machinename', 'hostname'), Way.ZERO, True,
+    ValueClass('stamps', frozenset(('stamp',)), Way.ZERO, True, 'stamps of AUTH_SYS credentials'),
+    ValueClass('machines', frozenset(('machinename', 'hostname')), Way.ZERO, True,
                'names of machines in AUTH_SYS credentials, and of hosts in replies to DUMP',
                has_names=True),
-    ValueClass('space', names('tbytes', 'fbytes', 'abytes', 'tfiles', 'ffiles', 'afiles',
-                              'invarsec', 'used'), Way.ZERO, True,
+    ValueClass('space', frozenset(('tbytes', 'fbytes', 'abytes', 'tfiles', 'ffiles', 'afiles',
+                                   'invarsec', 'used')), Way.ZERO, True,
                'counts of free space, and the space that a file uses'),
-    ValueClass('ids', names('fileid'), Way.NUMBER, True, 'file ids'),
-    ValueClass('fsids', names('fsid'), Way.NUMBER, True, 'file system ids'),
-    ValueClass('cookies', names('cookie'), Way.NUMBER, True, 'cookies of directories',
+    ValueClass('ids', frozenset(('fileid',)), Way.NUMBER, True, 'file ids'),
+    ValueClass('fsids', frozenset(('fsid',)), Way.NUMBER, True, 'file system ids'),
+    ValueClass('cookies', frozenset(('cookie',)), Way.NUMBER, True, 'cookies of directories',
                keeps_zero=True),
-    ValueClass('cookieverfs', names('cookieverf'), Way.NUMBER, True, 'cookie verifiers',
+    ValueClass('cookieverfs', frozenset(('cookieverf',)), Way.NUMBER, True, 'cookie verifiers',
                keeps_zero=True),
-    ValueClass('createverfs', names('createverf'), Way.NUMBER, True,
+    ValueClass('createverfs', frozenset(('createverf',)), Way.NUMBER, True,
                'verifiers of exclusive creates'),
-    ValueClass('owners', names('uid', 'gid', 'group'), Way.NUMBER, False,
+    ValueClass('owners', frozenset(('uid', 'gid', 'group')), Way.NUMBER, False,
                'users and groups, in credentials and attributes',
-               only_in_calls=names('group')),
-    ValueClass('wcc', names('size', 'nlink'), Way.ZERO, False,
+               only_in_calls=frozenset(('group',))),
+    ValueClass('wcc', frozenset(('size', 'nlink')), Way.ZERO, False,
                'sizes and counts of links, in replies, that others may change meanwhile',
                is_of_changes=True),
-    ValueClass('sillynames', names('name'), Way.ZERO, True,
+    ValueClass('sillynames', frozenset(('name',)), Way.ZERO, True,
                'names that Linux clients give to removed files that are open: .nfs and 24 digits',
                form=re.compile(r'"\.nfs[0-9a-f]{24}"'), has_names=True),
-    ValueClass('raw', names('rest'), Way.ZERO, False,
+    ValueClass('raw', frozenset(('rest',)), Way.ZERO, False,
                'bodies of messages of other programs and versions, whose lengths stay',
-               is_raw=True),
-)
+               is_raw=True))
 HANDLES, VERIFIERS = 'handles', 'write verifiers'
 RENAMED = {'fh': HANDLES, 'verf': VERIFIERS}  # by the names of items
 CLASSES_BY_NAME = {one.name: one for one in CLASSES}

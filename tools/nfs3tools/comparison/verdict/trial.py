@@ -103,11 +103,11 @@ class Trial:
     def placed(self, place: AnyPlace | None) -> str:
         """Returns where both captures differ, if they do, with the number that the connection has
         in the first run, or else in the second."""
-        for taken in self.runs if isinstance(place, Place) else ():
-            if isinstance(place, Place) and place.connection <= len(taken.connections):
-                number = taken.connections[place.connection - 1].number
-                return str(place._replace(connection=number))
-        return str(place or '')
+        if not isinstance(place, Place):
+            return str(place or '')
+        numbers = [taken.connections[place.connection - 1].number for taken in self.runs
+                   if place.connection <= len(taken.connections)]
+        return str(place._replace(connection=numbers[0]) if numbers else place)
 
     def canonical(self, captures: Sequence[str],
                   mask: Mask | None = None) -> tuple[Listing, Listing]:
