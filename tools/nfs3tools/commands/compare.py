@@ -23,7 +23,6 @@ from contextlib import ExitStack
 from dataclasses import replace
 from functools import partial
 from pathlib import Path
-from typing import NamedTuple
 
 from ..comparison.exchanges.pairing import ASKING
 from ..comparison.values.classes import CLASSES, following, in_any_order, mask_text, mask_word
@@ -88,13 +87,6 @@ def command_line_of_compare(words: list[str]) -> argparse.Namespace:
     return parser.parse_args(words)
 
 
-class Whole(NamedTuple):
-    """Both runs as they were taken, checked and written as captures."""
-    inputs: list[str]  # their files, and others
-    covers: list[Cover]
-    trial: Trial
-
-
 def outputs_of(words: argparse.Namespace) -> list[str | None]:
     return [words.html, words.json, words.junit, words.accept_new]
 
@@ -130,20 +122,22 @@ def compared_runs(words: argparse.Namespace, stack: ExitStack) -> int:
     for name, line in ((name, line) for name, taken in zip(names, runs)
                        for line in recording_lines(taken, has_taken=False)):
         print(f'{escaped(name)}: {line}', file=sys.stderr)
-    whole = whole_of(program, folder, names, [*inputs, *accepted_by(words)], runs)
-    masks = in_any_order(words.mask, any(cover.has_raw for cover in whole.covers))
+    covers, trial = checked_runs(program, folder, names, runs)
+    masks = in_any_order(words.mask, any(cover.has_raw for cover in covers))
     print(f'masked: {mask_text(masks[0])}', flush=True)
     choices = Choices(words.order, masks, following(words.mask),
                       frozenset() if words.extra == 'none' else ASKING,
                       bool(words.html), words.accept)
-    is_same = compared_whole(words, whole, choices)
-    if any(cover.faults() for cover in whole.covers):
+    with trial.progress.line():
+        report = judged_runs(trial, choices, covers)
+    is_same = told_of(words, [*inputs, *accepted_by(words)], report)
+    if any(cover.faults() for cover in covers):
         return REFUSED
     return SAME if is_same else DIFFERENT
 
 
-def whole_of(program: str, folder: Path, names: list[str], inputs: list[str],
-             runs: Sequence[Taken]) -> Whole:
+def checked_runs(program: str, folder: Path, names: list[str],
+                 runs: Sequence[Taken]) -> tuple[list[Cover], Trial]:
     """Checks both runs, and prints what is refused. Raises `NothingToCompare`."""
     progress = Progress()
     progress.begin('checking both runs')
@@ -161,38 +155,35 @@ def whole_of(program: str, folder: Path, names: list[str], inputs: list[str],
             print(f'{escaped(cover.name)}: {line}', file=sys.stderr)
     if any(cover.of_states('refused') for cover in covers):
         trial = Trial(program, folder, [cover.taken for cover in covers], progress)
-    return Whole(inputs, covers, trial)
+    return covers, trial
 
 
-def compared_whole(words: argparse.Namespace, whole: Whole, choices: Choices) -> bool:
-    """Compares the runs. Returns whether they are the same."""
-    with whole.trial.progress.line():
-        report = judged_runs(whole.trial, choices, whole.covers)
-    is_good = report.is_same and all(cover.is_good(allowed_of(words)) for cover in whole.covers)
+def told_of(words: argparse.Namespace, inputs: Sequence[str], report: Report) -> bool:
+    """Prints and writes what is said of both runs. Returns whether they are the same."""
+    is_good = report.is_same and all(cover.is_good(allowed_of(words)) for cover in report.covers)
     colour = Colour.GREEN if is_good else Colour.RED if report.is_different else Colour.YELLOW
     print(screen_of(words.color).painted('\n'.join(report.lines()), colour),
-          *lines_of_counts(whole.covers), sep='\n', flush=True)
+          *lines_of_counts(report.covers), sep='\n', flush=True)
     if words.accept_new:
         compared = report.found.whole or Compared()
         recordings = files_in([words.first, words.second])
         write_file(words.accept_new, [file_of(compared.findings, compared.mask)], recordings)
-    explain(words, whole, report, is_good)
+    explain(words, inputs, report, is_good)
     return is_good
 
 
-def explain(words: argparse.Namespace, whole: Whole, report: Report, is_good: bool) -> None:
+def explain(words: argparse.Namespace, inputs: Sequence[str], report: Report,
+            is_good: bool) -> None:
     """Writes and prints what differs between two runs."""
     compared, left_out = without_ignored(report.found.compared, words.ignore)
     if words.junit:
-        told_of = compared if is_told(words, report) else replace(compared, findings=[])
-        suite = telling.junit_of_comparison(report, told_of, is_good)
-        write_file(words.junit, [suite], whole.inputs)
+        told = compared if is_told(words, report) else replace(compared, findings=[])
+        write_file(words.junit, [telling.junit_of_comparison(report, told, is_good)], inputs)
     if words.html:
         content = ComparedContent(report, compared, words.ignore, left_out)
-        write_file(words.html, pages.compared_page(content), whole.inputs)
+        write_file(words.html, pages.compared_page(content), inputs)
     if words.json:
-        pieces = telling.json_of_comparison(report, compared, left_out)
-        write_file(words.json, pieces, whole.inputs)
+        write_file(words.json, telling.json_of_comparison(report, compared, left_out), inputs)
     print_comparison(words, report, compared, left_out)
     accepted = report.found.accepted
     for text in (*telling.each_accepted(accepted if words.all else None),
