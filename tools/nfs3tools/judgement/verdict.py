@@ -60,7 +60,7 @@ class Verdict(typing.NamedTuple):
 
     @property
     def position(self) -> str | None:
-        """That of its fault, in a connection that is taken without the number of that."""
+        """That of its fault, without the number of a connection that is taken."""
         place = self.fault.place if self.fault else None
         if isinstance(place, Place) and self.calls is not None:
             return place.in_connection
