@@ -20,7 +20,6 @@ import re
 import sys
 import typing
 from collections.abc import Callable, Iterator, Sequence
-from functools import partial
 
 from ..comparison.values.long_values import bytes_of
 from ..exchanges.kept import WIDTH, Kept, KeptExchange, call_text, host_of
@@ -30,7 +29,7 @@ from ..judgement.verdict import (
 from ..judgement.window import ALL, DAY, add_window, window_of
 from ..recordings.coverage import PROCEDURES, call_named
 from ..recordings.selection import count, plural
-from ..reporting.messages import add_recordings, allowed_of, parser_of, run
+from ..reporting.messages import add_recordings, allowed_of, command_of, parser_of
 from ..reporting.rows import add_forms, form_of
 from ..shared.layouts import BY_NUMBER
 from ..shared.printed import escaped, printable
@@ -292,4 +291,4 @@ def main(words: list[str]) -> int:
     return status_of(verdicts, allowed_of(chosen))
 
 
-command = partial(run, 'calls', main)
+command = command_of(__name__, 'calls', main)

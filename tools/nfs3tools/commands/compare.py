@@ -39,7 +39,8 @@ from ..recordings.selection import Options
 from ..recordings.taken import NotTaken, Taken, take
 from ..reporting import telling
 from ..reporting.messages import (
-    REFUSED, add_judging, advice_on, allowed_of, ended, options_of, parser_of, recording_lines, run)
+    REFUSED, add_judging, advice_on, allowed_of, command_of, ended, options_of, parser_of,
+    recording_lines)
 from ..shared.outputs import check_output, held, printed_beside, try_outputs, write_file
 from ..shared.printed import escaped
 from ..shared.programs import CHECKED, program_path, run_side_by_side
@@ -234,4 +235,4 @@ def main(words: list[str]) -> int:
         stack.close()
 
 
-command = partial(run, 'compare', main)
+command = command_of(__name__, 'compare', main)

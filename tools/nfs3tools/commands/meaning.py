@@ -42,7 +42,7 @@ from ..recordings.parts import Part, files_in
 from ..recordings.selection import count
 from ..recordings.taken import Taken
 from ..reporting.junit import Suite
-from ..reporting.messages import add_recordings, allowed_of, parser_of, run
+from ..reporting.messages import add_recordings, allowed_of, command_of, parser_of
 from ..reporting.rows import add_forms, form_of
 from ..shared.names import as_called
 from ..shared.outputs import Refused, is_read_from, writing
@@ -374,4 +374,4 @@ def main(words: list[str]) -> int:
     return told.status
 
 
-command = partial(run, 'meaning', main)
+command = command_of(__name__, 'meaning', main)

@@ -20,7 +20,6 @@ import sys
 import typing
 from collections import Counter
 from collections.abc import Iterator, Sequence
-from functools import partial
 
 from ..judgement.tallies import (
     Tallies, Tally, milliseconds, procedures_in_order, sum_of, tallies_of)
@@ -34,7 +33,7 @@ from ..pages.time_line import TimeLine, time_line_of
 from ..recordings.parts import files_in
 from ..recordings.selection import count, plural
 from ..recordings.taken import Taken
-from ..reporting.messages import add_recordings, allowed_of, parser_of, run
+from ..reporting.messages import add_recordings, allowed_of, command_of, parser_of
 from ..shared.outputs import writing
 from ..shared.places import Place
 from ..shared.printed import escaped, printable
@@ -360,4 +359,4 @@ def main(words: list[str]) -> int:
     return status_of(verdicts, allowed_of(chosen))
 
 
-command = partial(run, 'procedures', main)
+command = command_of(__name__, 'procedures', main)

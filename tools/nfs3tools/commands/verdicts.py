@@ -35,7 +35,7 @@ from ..recordings.selection import Options
 from ..recordings.taken import NotTaken, Taken, take
 from ..reporting.junit import Suite
 from ..reporting.messages import (
-    add_recordings, allowed_of, failure_text, options_of, parser_of, run)
+    add_recordings, allowed_of, command_of, failure_text, options_of, parser_of)
 from ..shared.outputs import writing
 from ..shared.places import Place, parse_fault
 from ..shared.printed import escaped, printable
@@ -237,4 +237,4 @@ def json_of_verdicts(verdicts: list[Verdict]) -> bytes:
     return json.dumps(whole, indent=1).encode() + b'\n'
 
 
-command = partial(run, 'verdicts', main)
+command = command_of(__name__, 'verdicts', main)
