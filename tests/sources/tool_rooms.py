@@ -17,9 +17,8 @@ HEADING = re.compile(r'^### `([\w.]+)`$(.*?)(?=^#)', re.M | re.S)  # of a room
 ROW = re.compile(r'^\| `(\w+)` \|', re.M)
 COLUMNS = re.compile(r'^line-length = (\d+)$', re.M)
 # From the lowest to the highest.
-ROOMS = ('shared', 'recordings', 'captures', 'exchanges', 'comparison.values',
-         'comparison.exchanges', 'comparison.verdict', 'reporting', 'judgement', 'pages', 'meaning',
-         'commands')
+ROOMS = ('shared', 'recordings', 'captures', 'exchanges', 'judgement', 'comparison.values',
+         'comparison.exchanges', 'comparison.verdict', 'reporting', 'pages', 'meaning', 'commands')
 # Each module of `commands` defines these: they are how it is run.
 ENTRY_POINTS = frozenset(('main', 'command'))
 

@@ -345,9 +345,11 @@ def same_in_part(place: Comparisons) -> None:
     place.write('a', whole)
     place.write('b', lossy)
     for options in ('--mask=none', '--allow-losses'):
-        status, out, _ = place.compare(options, '--order', 'strict', 'a', 'b')
-        place.want('they differ', (status, out[1:3]), (
-            1, ['differ at connection 1 client record 1034', f'compared in part: {less[1]}']))
+        status, out, _ = place.compare(options, '--order', 'strict', '--junit', 'x', 'a', 'b')
+        wanted = ['differ at connection 1 client record 1034', f'compared in part: {less[1]}']
+        place.want('they differ', (status, out[1:3]), (1, wanted))
+        place.want('JUnit', [one.get('message') for one in place.xml('x').iter('failure')][:1],
+                   ['; '.join(wanted)])
 
 
 # --- --accept and --accept-new ---

@@ -544,6 +544,14 @@ def what_is_not_compared(place: Covers) -> None:
                [('refused', 1), ('not checked', 3), ('left out', None), ('left out', None)])
 
 
+def reasons_with_a_semicolon(place: Covers) -> None:
+    """A page says once, and whole, what is not compared."""
+    place.write('a', pcap([*whole(), ethernet(outer(bytes(99), 50))]))
+    place.write('b', pcap(whole()))
+    _, out, _, page = place.compared()
+    place.want('words', (page.texts('p')[0], page.texts('p', 'part')), (out[1], []))
+
+
 def positions_beside_refused_connections(place: Covers) -> None:
     """What differs beside a refused connection has its position."""
     for name, mode in (('a', 0o644), ('b', 0o600)):

@@ -17,7 +17,7 @@ from ..nfs3tools.comparison.values.long_values import parting_between
 from ..nfs3tools.comparison.verdict.differences import Comparison
 from ..nfs3tools.exchanges.listing import Message, line_of
 from ..nfs3tools.exchanges.whose import fields_of
-from ..nfs3tools.reporting.telling import difference_lines
+from ..nfs3tools.reporting.telling import signed_rows
 from .comparisons import Comparisons, Conversation, conversation_of
 from .scripts import EXAMPLES
 
@@ -160,7 +160,7 @@ def long_handles(place: Findings) -> None:
         both.append([line_of(line).message() for line in place.run('show', 'a')[1].splitlines()])
     comparison = Comparison({})
     lines = [line for pair in zip(*both) for difference in comparison.of_messages(*pair)
-             for line in difference_lines(difference)]
+             for line in map(str, signed_rows(difference))]
     place.want('the same bytes for another file', lines, [
         '  - rest=00000004 62626262',
         '  + rest=00000004 61616161    # 4 of 8 bytes differ, the first at byte 4; '

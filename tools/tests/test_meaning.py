@@ -17,8 +17,7 @@ from examples.messages import (
     made, nfstime, ok, opaque, optional, post_op_attr, sattr, set_to_client_time, success, word)
 from examples.packets import Talk
 from tools.nfs3tools.exchanges.kept import Kept
-from tools.nfs3tools.exchanges.stored import LongValues
-from tools.nfs3tools.judgement.verdict import Verdict, kept_in
+from tools.nfs3tools.judgement.verdict import kept_in, of_covered
 from tools.nfs3tools.meaning.across import findings_in
 from tools.nfs3tools.meaning.recorded import Recorded, RecordedExchange
 from tools.nfs3tools.meaning.rules import RULES, Looked
@@ -592,12 +591,9 @@ class Hiding(Recorded):
 @contextlib.contextmanager
 def recorded_in(path: Path) -> Iterator[Recorded]:
     with take(str(path), Options(), shows_progress=False) as taken:
-        verdicts = [Verdict(str(path), one.number) for one in taken.connections]
-        with contextlib.closing(kept_in(PROGRAM, taken, verdicts, LongValues())) as kept:
-            recorded = Recorded(kept)
-            yield recorded
-            if recorded.values.file:
-                recorded.values.file.close()
+        verdicts = [of_covered(str(path), one) for one in taken.covered()]
+        with contextlib.closing(kept_in(PROGRAM, taken, verdicts, has_values=True)) as kept:
+            yield Recorded(kept)
 
 
 def found_in(recorded: Recorded, is_whole: bool = True) -> set[tuple[str, int]]:

@@ -253,9 +253,9 @@ def many_calls(tools: Written) -> None:
 
 def names_and_outputs(tools: Written) -> None:
     """Names are text, nothing else is asked for, and each recording has its line."""
-    name = 'a<script>document.title=3<.pcap'
+    name, odd = 'a<script>document.title=3<.pcap', HOSTILE + '  two  spaces'
     calls = [call(1, MOUNT, 3, 1, opaque(b'/m')),
-             call(2, NFS, 3, LOOKUP, dirop(b'top', HOSTILE.encode()))]
+             call(2, NFS, 3, LOOKUP, dirop(b'top', odd.encode()))]
     replies = [success(1, ok(fh(b'top'), array([]))),
                success(2, ok(fh(b'x'), post_op_attr(), post_op_attr()))]
     tools.write(name, pcap(connection_of(calls, replies)))
@@ -264,6 +264,7 @@ def names_and_outputs(tools: Written) -> None:
         _, _, page = tools.page(tool, name)
         tools.want(tool, (asked_of_others(page), page.texts('title')[0], HOSTILE.replace(
             '"', '\\x22') in dots_of(page)[-1][3][0]), ([], f'{title}: {name}', True))
+        tools.want('spaces', b'  two  spaces' in (tools.read('page.html') or b''), True)
     tools.write('text.pcap', b'text')
     tools.write('a.pcap', pcap(whole()))
     status, _, page = tools.page('verdicts', '-j', '2', 'a.pcap', FIRST, 'text.pcap')

@@ -13,6 +13,7 @@ from .located import UP_TO_PROCEDURE, Call, FoundRecord, call_with_xid, numbers_
 
 LINES_AROUND = 8  # of 16 bytes, before and after the byte of a long record
 ITEM_BYTES_AT_MOST = 100  # bytes of an item
+NANOSECOND_ITEMS = frozenset(('atime_nsec', 'mtime_nsec', 'ctime_nsec', 'delta_nsec'))
 Tell = Callable[[str], object]
 
 # What reasons of the program mean.
@@ -142,7 +143,7 @@ def remark_on_item(item: PlacedItem) -> str:
     a mode beyond its twelve, and a second in nanoseconds."""
     if item.is_whole and item.name == 'mode' and int(item.value) & ~0o7777:
         return 'has bits of the type'
-    if item.is_whole and item.name.endswith('_nsec') and int(item.value) >= 10**9:
+    if item.is_whole and item.name in NANOSECOND_ITEMS and int(item.value) >= 10**9:
         return 'a second or more'
     return ''
 

@@ -20,21 +20,18 @@ import re
 import sys
 import typing
 from collections.abc import Callable, Iterator, Sequence
-from functools import partial
 
 from ..comparison.values.long_values import bytes_of
-from ..exchanges.kept import Kept, KeptExchange, call_text, host_of
+from ..exchanges.kept import WIDTH, Kept, KeptExchange, call_text, host_of
 from ..judgement.tallies import milliseconds
 from ..judgement.verdict import (
-    VERDICTS_VERSION, Verdict, count_unanswered, is_row, kept_in, status_of, subject_of, sums_of,
-    tell_notes, verdict_members)
+    VERDICTS_VERSION, Verdict, kept_in, not_ok, status_of, sums_of, tell_notes, verdict_members)
 from ..judgement.window import ALL, DAY, add_window, window_of
-from ..recordings.coverage import PROCEDURES
+from ..recordings.coverage import PROCEDURES, call_named
 from ..recordings.selection import count, plural
-from ..recordings.taken import Taken
-from ..reporting.messages import add_recordings, allowed_of, parser_of, run
+from ..reporting.messages import add_recordings, allowed_of, command_of, parser_of
 from ..reporting.rows import add_forms, form_of
-from ..shared.layouts import BY_NAME, RAW
+from ..shared.layouts import BY_NUMBER
 from ..shared.printed import escaped, printable
 from ..shared.screens import Colour, Screen, screen_of
 from .verdicts import Judge, judge_of
@@ -48,6 +45,10 @@ CALL_COLUMNS = ('recording', 'connection', 'record', 'client', 'server', 'frame'
                 'latency_ns', 'user', 'procedure', 'path', 'second_path', 'other_names',
                 'arguments', 'sent_again', 'earlier', 'later', 'answer', 'waited_ns', 'is_error',
                 'replies')
+# The last names of procedures, also of those of other programs.
+LAST_NAMES = {**{one.name: one.last for one in BY_NUMBER.values()}, **{
+    call_named(program, version, number): name for (program, version), some in PROCEDURES.items()
+    for number, name in enumerate(some)}}
 Condition = Callable[[KeptExchange], bool]
 
 
@@ -73,7 +74,8 @@ def wanted_by(chosen: argparse.Namespace) -> list[Condition]:
         (chosen.no_reply, lambda one: one.is_unanswered),
         (chosen.slow is not None,
          lambda one: bool((one.latency or one.waited or 0) >= chosen.slow)),
-        (bool(chosen.procedure), lambda one: last_name(one.procedure) in chosen.procedure),
+        (bool(chosen.procedure),
+         lambda one: LAST_NAMES.get(one.procedure, '') in chosen.procedure),
         (chosen.user is not None, lambda one: bool(one.asked.user == chosen.user)),
         (bool(chosen.client), lambda one: bool(host_of(one.part.client) == chosen.client)),
         (chosen.path is not None, lambda one: any(
@@ -82,29 +84,21 @@ def wanted_by(chosen: argparse.Namespace) -> list[Condition]:
     return [holds for is_given, holds in conditions if is_given]
 
 
-def last_name(procedure: str) -> str:
-    return re.split('[ _]', procedure)[-1] if procedure in BY_NAME else procedure.rpartition(' ')[2]
-
-
 def listed(judge: Judge, recording: str, chosen: argparse.Namespace,
            verdicts: list[Verdict]) -> ListedRecording:
     """Judges a recording, adds its verdicts, and returns the exchanges of what was judged."""
-    begun, found = list[int](), list[Kept]()
-
-    def look(taken: Taken, judged: list[Verdict]) -> None:
-        begun.append(taken.begun)
-        found.append(kept_in(judge.program, taken, judged))
-        count_unanswered(found[0], judged)
-    verdicts += judge.verdicts(recording, look)
+    found = list[Kept]()
+    verdicts += judge.verdicts(recording, lambda taken, judged: found.append(
+        kept_in(judge.program, taken, judged)))
     kept = (found or [Kept()])[0]
     order, conditions = kept.in_order(chosen.sort == 'latency'), wanted_by(chosen)
-    window = window_of(chosen, sum(begun))
+    window = window_of(chosen, kept.begun)
     if window != ALL:
         order = [at for at in order if window.has(kept.times[at])]
     if conditions:
         order = [at for at, one in zip(order, map(kept.exchange, order))
                  if all(holds(one) for holds in conditions)]
-    return ListedRecording(recording, None if chosen.utc else sum(begun), kept, order)
+    return ListedRecording(recording, None if chosen.utc else kept.begun, kept, order)
 
 
 def call_time(time: int, begun: int | None) -> str:
@@ -120,7 +114,7 @@ def call_time(time: int, begun: int | None) -> str:
 def cells_of(one: KeptExchange, begun: int | None) -> tuple[str, ...]:
     answer = one.answer if one.kept.firsts[one.at] else answer_of(one)
     return (call_time(one.time, begun), milliseconds(one.latency), str(one.frame or '-'),
-            f'{one.part.number}:{one.record}', call_text(one), answer)
+            f'{one.part.number}:{one.record}', call_text(one, WIDTH), answer)
 
 
 def answer_of(one: KeptExchange) -> str:
@@ -154,11 +148,8 @@ class AlignedLines:
         self.widths[RIGHT] = min(self.widths[RIGHT], WIDEST)
         right = (f'{{:>{width}}}' for width in self.widths[:RIGHT])
         line = '  '.join([*right, f'{{:<{self.widths[RIGHT]}}}', '{}'])
-        if self.screen == Screen():
-            sys.stdout.writelines(line.format(*row) + '\n' for row in self.rows)
-        else:
-            sys.stdout.writelines(self.styled(number, row, line.format(*row)) + '\n'
-                                  for number, row in enumerate(self.rows))
+        sys.stdout.writelines(self.styled(number, row, line.format(*row)) + '\n'
+                              for number, row in enumerate(self.rows))
         self.rows, self.errors = [], set()
 
     def styled(self, number: int, row: tuple[str, ...], line: str) -> str:
@@ -169,9 +160,8 @@ class AlignedLines:
 def tell_verdicts(verdicts: list[Verdict]) -> None:
     """Prints on standard error which connections are not judged whole, with all notes."""
     tell_notes(verdicts)
-    for verdict in verdicts:
-        if is_row(verdict) and verdict.state != 'ok':
-            print(printable(f'{subject_of(verdict)}: {verdict.message}'), file=sys.stderr)
+    for line in not_ok(verdicts):
+        print(line, file=sys.stderr)
 
 
 def tell_of_times(found: ListedRecording, chosen: argparse.Namespace) -> None:
@@ -231,9 +221,9 @@ def duration(word: str) -> int:
 
 
 def procedure_names(word: str) -> frozenset[str]:
-    known = {last_name(name) for name in BY_NAME if name != RAW.name}.union(*PROCEDURES.values())
-    names = frozenset(last_name(name.strip()) for name in word.upper().split(','))
-    for name in names - known:
+    words = (name.strip() for name in word.upper().split(','))
+    names = frozenset(LAST_NAMES.get(name) or name.rpartition(' ')[2] for name in words)
+    for name in names - {*LAST_NAMES.values()}:
         raise argparse.ArgumentTypeError(f'no procedure: {name}')
     return names
 
@@ -241,7 +231,8 @@ def procedure_names(word: str) -> frozenset[str]:
 def address(word: str) -> str:
     """An address of IPv4 or IPv6, as the ends of connections have it."""
     try:
-        return str(ipaddress.ip_address(word.strip('[]')))
+        found = ipaddress.ip_address(word.strip('[]'))
+        return f'[{found}]' if found.version == 6 else str(found)
     except ValueError:
         raise argparse.ArgumentTypeError(f'no address: {word}') from None
 
@@ -300,7 +291,4 @@ def main(words: list[str]) -> int:
     return status_of(verdicts, allowed_of(chosen))
 
 
-command = partial(run, 'calls', main)
-
-if __name__ == '__main__':
-    sys.exit(command())
+command = command_of(__name__, 'calls', main)

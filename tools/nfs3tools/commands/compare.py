@@ -15,7 +15,6 @@ compare, 3 if a file, a program or memory failed.
 from __future__ import annotations
 
 import argparse
-import re
 import sys
 import tempfile
 from collections import Counter
@@ -24,35 +23,33 @@ from contextlib import ExitStack
 from dataclasses import replace
 from functools import partial
 from pathlib import Path
-from typing import NamedTuple
 
 from ..comparison.exchanges.pairing import ASKING
 from ..comparison.values.classes import CLASSES, following, in_any_order, mask_text, mask_word
 from ..comparison.verdict.accepted import accepted_of, file_of, ignored_of, without_ignored
-from ..comparison.verdict.cover import Cover, cover_of, lines_of_counts, losses_of
+from ..comparison.verdict.cover import Cover, cover_of, lines_of_counts
 from ..comparison.verdict.decision import (
-    Choices, NothingToCompare, Report, compared_in_words, judged_runs, run_of)
-from ..comparison.verdict.findings import RUNS, Compared, Framing, Run
+    Choices, NothingToCompare, Report, compared_in_words, judged_runs)
+from ..comparison.verdict.findings import Compared
 from ..comparison.verdict.trial import Trial
 from ..pages import compared as pages
 from ..pages.compared import ComparedContent
-from ..recordings.coverage import Allowed
 from ..recordings.parts import files_in
 from ..recordings.selection import Options
 from ..recordings.taken import NotTaken, Taken, take
 from ..reporting import telling
 from ..reporting.messages import (
-    REFUSED, add_judging, advice_on, allowed_of, ended, options_of, parser_of,
-    recording_lines, run)
+    REFUSED, add_judging, advice_on, allowed_of, command_of, ended, options_of, parser_of,
+    recording_lines)
 from ..shared.outputs import check_output, held, printed_beside, try_outputs, write_file
 from ..shared.printed import escaped
 from ..shared.programs import CHECKED, program_path, run_side_by_side
 from ..shared.progress import Progress
-from ..shared.screens import Colour, Screen, add_colour, screen_of
+from ..shared.screens import Colour, add_colour, screen_of
 
 SAME, DIFFERENT = range(2)
 FINDINGS_AT_MOST, SILENT_AT_MOST = 20, 12
-SIGN, SIGN_COLOURS = re.compile(r'  ([-+]) '), {'-': Colour.RED, '+': Colour.GREEN}  # of values
+SIGN_COLOURS = {'-': Colour.RED, '+': Colour.GREEN}  # of values
 
 
 def command_line_of_compare(words: list[str]) -> argparse.Namespace:
@@ -91,21 +88,6 @@ def command_line_of_compare(words: list[str]) -> argparse.Namespace:
     return parser.parse_args(words)
 
 
-class Whole(NamedTuple):
-    """Both runs as they were taken, checked and written as captures."""
-    names: list[str]
-    inputs: list[str]  # their files
-    covers: list[Cover]
-    trial: Trial
-    runs: list[Run]
-
-    def framings(self) -> list[Framing]:
-        return [run.frames for run in self.runs]
-
-    def is_good(self, allowed: Allowed) -> bool:
-        return all(cover.is_good(allowed) for cover in self.covers)
-
-
 def outputs_of(words: argparse.Namespace) -> list[str | None]:
     return [words.html, words.json, words.junit, words.accept_new]
 
@@ -141,73 +123,72 @@ def compared_runs(words: argparse.Namespace, stack: ExitStack) -> int:
     for name, line in ((name, line) for name, taken in zip(names, runs)
                        for line in recording_lines(taken, has_taken=False)):
         print(f'{escaped(name)}: {line}', file=sys.stderr)
-    whole = whole_of(program, folder, names, [*inputs, *accepted_by(words)], runs)
-    masks = in_any_order(words.mask, any(cover.has_raw for cover in whole.covers))
+    covers, trial = checked_runs(program, folder, names, runs)
+    masks = in_any_order(words.mask, any(cover.has_raw for cover in covers))
     print(f'masked: {mask_text(masks[0])}', flush=True)
     choices = Choices(words.order, masks, following(words.mask),
                       frozenset() if words.extra == 'none' else ASKING,
                       bool(words.html), words.accept)
-    is_same = compared_whole(words, whole, choices)
-    if any(cover.faults() for cover in whole.covers):
+    with trial.progress.line():
+        report = judged_runs(trial, choices, covers)
+    is_same = told_of(words, [*inputs, *accepted_by(words)], report)
+    if any(cover.faults() for cover in covers):
         return REFUSED
     return SAME if is_same else DIFFERENT
 
 
-def whole_of(program: str, folder: Path, names: list[str], inputs: list[str],
-             runs: Sequence[Taken]) -> Whole:
+def checked_runs(program: str, folder: Path, names: list[str],
+                 runs: Sequence[Taken]) -> tuple[list[Cover], Trial]:
     """Checks both runs, and prints what is refused. Raises `NothingToCompare`."""
     progress = Progress()
     progress.begin('checking both runs')
     trial = Trial(program, folder, runs, progress)
     checks = [[program, 'check', capture] for capture in trial.captures]
-    covers = list(map(partial(cover_of, program), runs, run_side_by_side(checks, CHECKED)))
+    covers = list(map(partial(cover_of, program), runs, names, run_side_by_side(checks, CHECKED)))
     progress.end()
-    for cover, name in zip(covers, names):
+    for cover in covers:
         if not cover.size.calls:
-            faults = '; '.join(f'{escaped(name)}: {fault}' for fault in cover.faults())
-            raise NothingToCompare(faults
-                                   or f'nothing to compare: no call of {escaped(name)} is taken')
-    for cover, name in zip(covers, names):
+            name = escaped(cover.name)
+            faults = '; '.join(f'{name}: {fault}' for fault in cover.faults())
+            raise NothingToCompare(faults or f'nothing to compare: no call of {name} is taken')
+    for cover in covers:
         for line in cover.notes():
-            print(f'{escaped(name)}: {line}', file=sys.stderr)
-    if any(cover.refused for cover in covers):
+            print(f'{escaped(cover.name)}: {line}', file=sys.stderr)
+    if any(cover.of_states('refused') for cover in covers):
         trial = Trial(program, folder, [cover.taken for cover in covers], progress)
-    return Whole(names, inputs, covers, trial,
-                 [run_of(trial, *one) for one in zip(trial.runs, trial.captures, names)])
+    return covers, trial
 
 
-def compared_whole(words: argparse.Namespace, whole: Whole, choices: Choices) -> bool:
-    """Compares the runs. Returns whether they are the same."""
-    with whole.trial.progress.line():
-        report = judged_runs(whole.trial, whole.runs, whole.names, choices, whole.covers)
-    line = report.line(losses_of(whole.covers, RUNS))
-    is_good = report.is_same and whole.is_good(allowed_of(words))
-    print(screen_of(words.color).painted(line, colour_of_word(report.word(), is_good)),
-          *lines_of_counts(whole.covers, RUNS), sep='\n', flush=True)
+def told_of(words: argparse.Namespace, inputs: Sequence[str], report: Report) -> bool:
+    """Prints and writes what is said of both runs. Returns whether they are the same."""
+    is_good = report.is_same and all(cover.is_good(allowed_of(words)) for cover in report.covers)
+    colour = Colour.GREEN if is_good else Colour.RED if report.is_different else Colour.YELLOW
+    print(screen_of(words.color).painted('\n'.join(report.lines()), colour),
+          *lines_of_counts(report.covers), sep='\n', flush=True)
     if words.accept_new:
         compared = report.found.whole or Compared()
-        recordings = files_in(whole.names)
+        recordings = files_in([words.first, words.second])
         write_file(words.accept_new, [file_of(compared.findings, compared.mask)], recordings)
-    explain(words, whole, line, report, is_good)
+    explain(words, inputs, report, is_good)
     return is_good
 
 
-def explain(words: argparse.Namespace, whole: Whole, line: str, report: Report,
+def explain(words: argparse.Namespace, inputs: Sequence[str], report: Report,
             is_good: bool) -> None:
     """Writes and prints what differs between two runs."""
     compared, left_out = without_ignored(report.found.compared, words.ignore)
     if words.junit:
-        told_of = compared if is_told(words, report) else replace(compared, findings=[])
-        suite = telling.junit_of_comparison(line, report, told_of, whole.framings(), is_good)
-        write_file(words.junit, [suite], whole.inputs)
+        told = compared if is_told(words, report) else replace(compared, findings=[])
+        write_file(words.junit, [telling.junit_of_comparison(report, told, is_good)], inputs)
     if words.html:
-        content = ComparedContent(line, report, compared, words.ignore, left_out, whole.runs)
-        write_file(words.html, pages.compared_page(content), whole.inputs)
+        content = ComparedContent(report, compared, words.ignore, left_out)
+        write_file(words.html, pages.compared_page(content), inputs)
     if words.json:
-        write_file(words.json, telling.json_of_comparison(report, compared, left_out,
-                                                          whole.framings()), whole.inputs)
-    print_comparison(words, whole, report, compared, left_out)
-    for text in telling.of_accepted(report.found.accepted, whole.framings(), words.all):
+        write_file(words.json, telling.json_of_comparison(report, compared, left_out), inputs)
+    print_comparison(words, report, compared, left_out)
+    accepted = report.found.accepted
+    for text in (*telling.each_accepted(accepted if words.all else None),
+                 *telling.of_accepted(accepted)):
         print(text)
 
 
@@ -216,40 +197,27 @@ def is_told(words: argparse.Namespace, report: Report) -> bool:
     return report.found.same_under is None or bool(words.all)
 
 
-def print_comparison(words: argparse.Namespace, whole: Whole, report: Report, compared: Compared,
+def print_comparison(words: argparse.Namespace, report: Report, compared: Compared,
                      left_out: Counter[tuple[str, str]]) -> None:
     if not report.place:
         return
     screen = screen_of(words.color)
     if is_told(words, report):
-        for text in telling.of_compared(compared, whole.framings(),
-                                        None if words.all else FINDINGS_AT_MOST, left_out,
+        for line in telling.of_compared(compared, None if words.all else FINDINGS_AT_MOST, left_out,
                                         words.brief):
-            print(coloured(text, screen))
+            colour = None if isinstance(line, str) else SIGN_COLOURS.get(line.sign)
+            print(screen.painted(str(line), colour))
     most = None if words.all else SILENT_AT_MOST
-    for text in (*telling.of_silent(compared, whole.framings(), most),
-                 *telling.of_notes(compared, whole.framings(), most)):
+    for text in (*telling.of_silent(compared, most), *telling.of_notes(compared, most)):
         print(text)
     print(compared_in_words(compared))
-
-
-def colour_of_word(word: str, is_good: bool) -> Colour:
-    if is_good:
-        return Colour.GREEN
-    return Colour.YELLOW if word.startswith('same') else Colour.RED
-
-
-def coloured(line: str, screen: Screen) -> str:
-    sign = SIGN.match(line)
-    return screen.painted(line, SIGN_COLOURS[sign[1]]) if sign else line
 
 
 def write_error(words: argparse.Namespace, message: str) -> None:
     """Writes for those who read JUnit XML that the runs could not be compared."""
     if words.junit:
         names = [words.first, words.second]
-        write_file(words.junit, [telling.junit_of_error(names, message)],
-                   files_in(names))
+        write_file(words.junit, [telling.junit_of_error(names, message)], files_in(names))
 
 
 def main(words: list[str]) -> int:
@@ -267,7 +235,4 @@ def main(words: list[str]) -> int:
         stack.close()
 
 
-command = partial(run, 'compare', main)
-
-if __name__ == '__main__':
-    sys.exit(command())
+command = command_of(__name__, 'compare', main)

@@ -15,11 +15,9 @@ import argparse
 import contextlib
 import io
 import os
-import sys
 import tempfile
 from collections import defaultdict
 from collections.abc import Iterable, Iterator, Mapping
-from functools import partial
 from typing import NamedTuple
 
 from ..comparison.exchanges.outlines import Outlines
@@ -35,7 +33,8 @@ from ..recordings.selection import Options, plural
 from ..recordings.trimmed import trimmed
 from ..recordings.taken import (
     NotTaken, Taken, TakenConnection, TakenStream, copied, take, take_from)
-from ..reporting.messages import ABSENT, add_options, add_program, ended, options_of, parser_of, run
+from ..reporting.messages import (
+    ABSENT, add_options, add_program, command_of, ended, options_of, parser_of)
 from ..shared.outputs import CAPTURE, Refused, held, printed_beside, try_outputs, write_file
 from ..shared.places import SIDES, FilePlace, FramePlace, NoPlace, Place, Side, parse_place
 from ..shared.printed import escaped, printable
@@ -256,7 +255,4 @@ def record_line(taken: Taken, place: Place | None, old: Place) -> str:
     return f'{place or "it cannot be read there"}: {old}{told}'
 
 
-command = partial(run, 'cut', main)
-
-if __name__ == '__main__':
-    sys.exit(command())
+command = command_of(__name__, 'cut', main)

@@ -11,8 +11,6 @@ FILE is refused, 3 if a file or memory failed.
 """
 from __future__ import annotations
 
-import sys
-from functools import partial
 
 from ..captures.explained import reason_in_words, tell_record
 from ..captures.located import Within, located
@@ -20,7 +18,7 @@ from ..recordings.carried import places_at
 from ..recordings.taken import NotTaken
 from ..reporting.frames import place_lines
 from ..reporting.messages import (
-    ABSENT, add_options, ended, options_of, parser_of, position_text, run)
+    ABSENT, add_options, command_of, ended, options_of, parser_of, position_text)
 from ..shared.names import as_called
 from ..shared.places import FilePlace, FramePlace, NoPlace, Place, parse_fault, parse_place
 from ..shared.printed import escaped
@@ -66,7 +64,4 @@ def main(command_line: list[str]) -> int:
     return 0
 
 
-command = partial(run, 'explain', main)
-
-if __name__ == '__main__':
-    sys.exit(command())
+command = command_of(__name__, 'explain', main)

@@ -10,11 +10,11 @@ The status is 0 if OUT was written, 1 if no connection is taken, 2 if RECORDING 
 from __future__ import annotations
 
 import sys
-from functools import partial
 
 from ..recordings.parts import files_of
 from ..recordings.taken import NotTaken, take
-from ..reporting.messages import add_options, ended, options_of, parser_of, recording_lines, run
+from ..reporting.messages import (
+    add_options, command_of, ended, options_of, parser_of, recording_lines)
 from ..shared.outputs import CAPTURE, try_outputs
 from ..shared.printed import escaped
 
@@ -39,7 +39,4 @@ def main(words: list[str]) -> int:
     return 0
 
 
-command = partial(run, 'from_pcap', main)
-
-if __name__ == '__main__':
-    sys.exit(command())
+command = command_of(__name__, 'from_pcap', main)

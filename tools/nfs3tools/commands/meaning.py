@@ -29,13 +29,12 @@ from typing import NamedTuple
 from ..comparison.verdict.accepted import refusal
 from ..exchanges.in_words import short
 from ..exchanges.kept import Kept, call_text
-from ..exchanges.stored import LongValues
 from ..exchanges.whose import ANY
 from ..judgement.verdict import (
-    Verdict, count_unanswered, counts_after, kept_in, status_of, sums_of, verdict_members)
+    Verdict, counts_after, kept_in, status_of, sums_of, verdict_members)
 from ..meaning.across import findings_in
 from ..meaning.recorded import Recorded
-from ..meaning.rules import CLIENT, NOTE, RULES, Looked, RuleFinding
+from ..meaning.rules import CLIENT, NOTE, RULES, SECTIONS, Looked, RuleFinding
 from ..pages import markup
 from ..pages.judged import (
     BAD, PARTIAL, Seen, ShownTable, headline_of, judged_page, of_table, row_of_cells, table_of)
@@ -43,7 +42,7 @@ from ..recordings.parts import Part, files_in
 from ..recordings.selection import count
 from ..recordings.taken import Taken
 from ..reporting.junit import Suite
-from ..reporting.messages import add_recordings, allowed_of, parser_of, run
+from ..reporting.messages import add_recordings, allowed_of, command_of, parser_of
 from ..reporting.rows import add_forms, form_of
 from ..shared.names import as_called
 from ..shared.outputs import Refused, is_read_from, writing
@@ -107,7 +106,7 @@ class RecordingFindings:
 
     def __init__(self, recording: str, chosen: argparse.Namespace, looked: Looked) -> None:
         self.recording, self.chosen, self.looked = escaped(recording), chosen, looked
-        self.kept, self.begun, self.parts = Kept(), 0, list[Part]()
+        self.kept, self.parts = Kept(), list[Part]()
         self.rows = dict[tuple[str, str, str], FindingRow]()
         self.all = list[tuple[RuleFinding, FindingRow]]()
 
@@ -116,7 +115,7 @@ class RecordingFindings:
 
     def take(self, program: str, taken: Taken, verdicts: list[Verdict]) -> None:
         """Takes the exchanges of the connections that were judged, and puts the rules to them."""
-        self.kept, self.begun = kept_in(program, taken, verdicts, LongValues()), taken.begun
+        self.kept = kept_in(program, taken, verdicts, has_values=True)
         self.parts += taken.parts
         is_whole = {verdict.state for verdict in verdicts} <= {'ok', 'note'}
         for finding in findings_in(Recorded(self.kept), self.looked, is_whole):
@@ -125,7 +124,6 @@ class RecordingFindings:
                 row.found += 1
                 self.all.append((finding, row))
         self.all.sort(key=lambda one: self.kept.times[one[0].number])
-        count_unanswered(self.kept, verdicts)
 
     def row_of(self, finding: RuleFinding) -> FindingRow:
         rule, one = RULES[finding.rule], self.kept.exchange(finding.number)
@@ -144,7 +142,7 @@ class RecordingFindings:
     def words(self, finding: RuleFinding) -> str:
         one = self.kept.exchange(finding.number)
         frame = f'frame {self.frame(finding)}' if one.frame else f'{one.part.number}:{one.record}'
-        return printable(f'{frame}: {" ".join(call_text(one).split())}: {finding.text}')
+        return printable(f'{frame}: {call_text(one)}: {finding.text}')
 
     def values(self) -> Iterator[Sequence[object]]:
         """Iterates over the values of FINDING_COLUMNS of all findings, by time."""
@@ -170,7 +168,7 @@ class RecordingFindings:
             print(*table_lines([Styled(FINDING_HEADS), *cells], screen), sep='\n')
         for one, row in self.all if self.chosen.all else ():
             if row in rows:
-                time = call_time(self.kept.times[one.number], self.begun)
+                time = call_time(self.kept.times[one.number], self.kept.begun)
                 print(f'{time}  {one.rule}  {self.words(one)}')
 
     def articles(self) -> Iterator[str]:
@@ -333,7 +331,7 @@ def explained(name: str) -> list[str]:
     """Returns what is to know of a rule, and what to do next."""
     rule = RULES[name]
     by = 'This is permitted, and worth knowing.' if rule.by == NOTE else f'Broken by the {rule.by}.'
-    about = rule.sections if rule.sections == rule.about else f'section {rule.sections}'
+    about = f'section {rule.sections}' if rule.subjects[0] in SECTIONS else rule.sections
     return [f'{name}: {rule.sentence} (RFC 1813, {about}).', f'{by} {rule.cause}',
             as_called(f'All of them: tools/meaning --all --rule {name} RECORDING'),
             as_called("The fields of one: tools/explain RECORDING 'frame N'"),
@@ -376,7 +374,4 @@ def main(words: list[str]) -> int:
     return told.status
 
 
-command = partial(run, 'meaning', main)
-
-if __name__ == '__main__':
-    sys.exit(command())
+command = command_of(__name__, 'meaning', main)

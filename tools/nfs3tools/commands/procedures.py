@@ -20,41 +20,43 @@ import sys
 import typing
 from collections import Counter
 from collections.abc import Iterator, Sequence
-from functools import partial
 
 from ..judgement.tallies import (
     Tallies, Tally, milliseconds, procedures_in_order, sum_of, tallies_of)
 from ..judgement.verdict import (
-    VERDICTS_VERSION, Verdict, colour_of, count_unanswered, counts_after, is_row, kept_in,
-    status_of, subject_of, sums_of, tell_notes, verdict_members)
+    VERDICTS_VERSION, Verdict, colour_of, counts_after, is_row, kept_in, not_ok, status_of,
+    subject_of, sums_of, tell_notes, verdict_members)
 from ..judgement.window import add_window, window_of
 from ..pages.judged import (
-    Seen, ShownTable, as_printed, headline_of, judged_page, said_of, verdicts_in)
+    Seen, ShownTable, headline_of, judged_page, row_of_cells, said_of, verdicts_in)
 from ..pages.time_line import TimeLine, time_line_of
 from ..recordings.parts import files_in
 from ..recordings.selection import count, plural
 from ..recordings.taken import Taken
-from ..reporting.messages import add_recordings, allowed_of, parser_of, run
+from ..reporting.messages import add_recordings, allowed_of, command_of, parser_of
 from ..shared.outputs import writing
 from ..shared.places import Place
 from ..shared.printed import escaped, printable
-from ..shared.screens import (
-    Colour, Screen, Styled, add_width, screen_of, table_lines)
+from ..shared.screens import Colour, Screen, Styled, add_width, screen_of, table_lines
 from .verdicts import Judge, judge_of
 
 QUANTILES = (0.5, 0.99, 1)  # of the latencies: the median, the 99th percentile, and the longest
-TALLY_COUNTS = ('calls', 'again', 'replies', 'unanswered', 'call_bytes', 'reply_bytes')
-RANKS = ('median_ns', 'p99_ns', 'most_ns', 'mean_ns', 'sum_ns')
-PROCEDURE_HEADS = ('procedure', 'calls', 'again', 'replies', 'no reply', 'call bytes',
-                   'reply bytes', 'median ms', '99 % ms', 'most ms', 'mean ms', 'sum ms', 'errors')
+# The numbers of a row: their names in JSON and CSV, their heads, and the words that sort by them
+NUMBER_NAMES, NUMBER_HEADS, NUMBER_WORDS = zip(
+    ('calls', 'calls', 'calls'), ('again', 'again', 'again'), ('replies', 'replies', 'replies'),
+    ('unanswered', 'no reply', 'no-reply'), ('call_bytes', 'call bytes', 'call-bytes'),
+    ('reply_bytes', 'reply bytes', 'reply-bytes'), ('median_ns', 'median ms', 'median'),
+    ('p99_ns', '99 % ms', 'p99'), ('most_ns', 'most ms', 'most'), ('mean_ns', 'mean ms', 'mean'),
+    ('sum_ns', 'sum ms', 'sum'))
+COUNT_COLUMNS, RANK_COLUMNS = slice(6), slice(6, None)  # of these: counts, and latencies
+PROCEDURE_HEADS = ('procedure', *NUMBER_HEADS, 'errors')
 PROCEDURE_NUMBERS = range(1, len(PROCEDURE_HEADS) - 1)  # the columns that are set to the right
 LONGEST_COLUMN = 'longest'  # is before the errors in tables of one recording
 IN_ALL = 'in all'
 ON_PAGE = Screen(sys.maxsize)  # on which numbers are as on a terminal
 # The columns by which rows are sorted: in the order of the RFC, or with the largest number first
 BY_PROCEDURE = 'procedure'
-SORT_COLUMNS = ('calls', 'again', 'replies', 'no-reply', 'call-bytes', 'reply-bytes', 'median',
-                'p99', 'most', 'mean', 'sum', 'errors')
+SORT_COLUMNS = (*NUMBER_WORDS, 'errors')
 SIZES_FROM = 4  # the first column whose change is printed in per cent
 
 
@@ -102,8 +104,8 @@ def total_of(tallies: Tallies) -> Tally:
 
 def numbers_of(tally: Tally) -> list[int | None]:
     """Returns the numbers of a row: the counts, and the latencies."""
-    return [*(getattr(tally, count) for count in TALLY_COUNTS), *tally.ranked(QUANTILES),
-            tally.mean, tally.total]
+    return [*(getattr(tally, name) for name in NUMBER_NAMES[COUNT_COLUMNS]),
+            *tally.ranked(QUANTILES), tally.mean, tally.total]
 
 
 def counted(judge: Judge, recording: str, chosen: argparse.Namespace) -> CountedRecording:
@@ -115,13 +117,12 @@ def counted(judge: Judge, recording: str, chosen: argparse.Namespace) -> Counted
         judged = {verdict.connection: verdict for verdict in verdicts}
         with contextlib.closing(kept_in(judge.program, taken, verdicts,
                                         has_texts=bool(chosen.html))) as kept:
-            count_unanswered(kept, verdicts)
-            window = window_of(chosen, taken.begun)
+            window = window_of(chosen, kept.begun)
             tables.extend(TallyTable(recording, judged[part.number],
                                      tallies_of(kept, recording, number, window))
                           for number, part in enumerate(kept.parts))
             if chosen.html:
-                lines.append(time_line_of(kept, taken.begun, window))
+                lines.append(time_line_of(kept, window))
     verdicts = judge.verdicts(recording, look)
     in_all = TallyTable(recording, None, sum_of(table.tallies for table in tables))
     return CountedRecording(Seen(recording, verdicts, line=lines[0] if lines else None), tables,
@@ -138,9 +139,8 @@ def tally_row(name: str, tally: Tally, is_named: bool, screen: Screen) -> Styled
 
 def number_texts(numbers: Sequence[int | None], screen: Screen) -> list[str]:
     """The numbers of a row as they are printed."""
-    counts, latencies = numbers[:len(TALLY_COUNTS)], numbers[len(TALLY_COUNTS):]
-    return [*(screen.number(number or 0) for number in counts),
-            *(milliseconds(rank, screen) for rank in latencies)]
+    return [*(screen.number(number or 0) for number in numbers[COUNT_COLUMNS]),
+            *(milliseconds(rank, screen) for rank in numbers[RANK_COLUMNS])]
 
 
 def longest_of(tally: Tally, is_named: bool) -> str:
@@ -176,10 +176,10 @@ def told_of_clock(tally: Tally) -> str:
     return f'; the clock went back: {number:,} {are} negative' if number else ''
 
 
-def table_title(verdict: Verdict, screen: Screen) -> str:
+def table_title(verdict: Verdict, message: str, screen: Screen = Screen()) -> str:
     ends = f': client {verdict.client}, server {verdict.server}' if verdict.client else ''
     how_far = '; counted up to there' if verdict.state == 'refused' else ''
-    word = screen.painted(printable(verdict.message), colour_of(verdict))
+    word = screen.painted(printable(message), colour_of(verdict))
     return f'{printable(f"{subject_of(verdict)}{ends}")}: {word}{how_far}'
 
 
@@ -189,10 +189,11 @@ def print_tables(found: Sequence[CountedRecording], is_total: bool, column: str,
     for one in found:
         for table in [] if is_total else one.tables:
             assert table.verdict
-            print_table(table_title(table.verdict, screen), table, column, screen)
+            title = table_title(table.verdict, table.verdict.message, screen)
+            print_table(title, table, column, screen)
         for verdict in one.seen.verdicts:
             if is_row(verdict) and (verdict.state == 'error' or verdict.connection is None):
-                print('\n' + table_title(verdict, screen))
+                print('\n' + table_title(verdict, verdict.message, screen))
         title = printable(f'{escaped(one.seen.recording)} in all: {sums_of(one.seen.verdicts)}')
         print_table(title, one.in_all, column, screen)
     if len(found) > 1:
@@ -208,11 +209,8 @@ def print_beside(first: CountedRecording, second: CountedRecording, column: str,
                  screen: Screen) -> None:
     for name, one in zip('AB', (first, second)):
         seen, told = one.seen, told_of_clock(total_of(one.in_all.tallies))
-        for verdict in seen.verdicts:
-            if is_row(verdict) and verdict.state != 'ok':
-                print(printable(f'{subject_of(verdict)}: {verdict.message}'))
         title = printable(f'{name}: {escaped(seen.recording)}: {sums_of(seen.verdicts)}{told}')
-        print(title)
+        print(*not_ok(seen.verdicts), title, sep='\n')
     rows = rows_beside(first, second, column, screen)
     print(*table_lines(rows, screen, PROCEDURE_NUMBERS, is_cut=True), sep='\n')
 
@@ -262,9 +260,7 @@ def procedures_page(found: Sequence[CountedRecording],
         if len(found) > 1:
             whole = [shown_table('all recordings', in_all_of(found), column)]
         of_each = [[shown_table('in all', one.in_all, column),
-                    *(shown_table(table_title(
-                        table.verdict._replace(message=said_of(table.verdict)), Screen()),
-                                  table, column)
+                    *(shown_table(table_title(table.verdict, said_of(table.verdict)), table, column)
                       for table in one.tables if table.verdict and not chosen.total)]
                    for one in found]
     seen, allowed = [one.seen for one in found], allowed_of(chosen)
@@ -281,17 +277,17 @@ def shown_table(title: str, table: TallyTable, column: str) -> ShownTable:
 
 def shown_of(title: str, styled: Sequence[Styled]) -> ShownTable:
     """The same of rows. Errors come last, and are folded."""
-    heads = styled[0].cells
-    return as_printed(title, styled,
-                      [at for at, head in enumerate(heads) if head in PROCEDURE_HEADS[1:-1]])
+    heads, *rows = (row.cells for row in styled)
+    numbers = [at for at, head in enumerate(heads) if head in PROCEDURE_HEADS[1:-1]]
+    return ShownTable(title, heads, [row_of_cells(cells, numbers, look='folded') for cells in rows])
 
 
 def tally_object(name: str, tally: Tally) -> dict[str, typing.Any]:
     numbers, longest = numbers_of(tally), tally.longest
     position = longest and str(Place(longest.connection, 'client', longest.record))
-    return {'procedure': name, **dict(zip(TALLY_COUNTS, numbers)),
-            'errors': dict(most_first(tally.errors)), 'latencies': len(tally.latencies),
-            **dict(zip(RANKS, numbers[len(TALLY_COUNTS):])), 'most_position': position,
+    counts, ranks = ([*zip(NUMBER_NAMES, numbers)][part] for part in (COUNT_COLUMNS, RANK_COLUMNS))
+    return {'procedure': name, **dict(counts), 'errors': dict(most_first(tally.errors)),
+            'latencies': len(tally.latencies), **dict(ranks), 'most_position': position,
             'most_frame': longest and longest.frame, 'negative': tally.backward}
 
 
@@ -363,7 +359,4 @@ def main(words: list[str]) -> int:
     return status_of(verdicts, allowed_of(chosen))
 
 
-command = partial(run, 'procedures', main)
-
-if __name__ == '__main__':
-    sys.exit(command())
+command = command_of(__name__, 'procedures', main)

@@ -18,24 +18,24 @@ import json
 import os
 import signal
 import sys
-import time
 import typing
 from functools import partial
 from xml.etree.ElementTree import SubElement
 
-from ..judgement.unanswered import Unanswered, open_calls
+from ..exchanges.kept import host_of
+from ..judgement.unanswered import Unanswered
 from ..judgement.verdict import (
     COVERED, VERDICTS_VERSION, VERDICT_HEADS, Verdict, colour_of, counts_after, error_verdict,
-    is_row, kept_in, of_covered, said_last, status_of, sums_of, tell_notes, verdict_object,
-    verdict_of, verdict_row)
+    is_row, judged_alone, kept_in, of_covered, said_last, status_of, sums_of, tell_notes,
+    verdict_object, verdict_row)
 from ..pages.judged import Seen, judged_page, seen_in, table_of, verdicts_in
-from ..recordings.coverage import Allowed, named_calls
+from ..recordings.coverage import Allowed, Covered, named_calls
 from ..recordings.parts import files_in, files_of
 from ..recordings.selection import Options
-from ..recordings.taken import NotTaken, Taken, TakenConnection, take
+from ..recordings.taken import NotTaken, Taken, take
 from ..reporting.junit import Suite
 from ..reporting.messages import (
-    add_recordings, allowed_of, failure_text, options_of, parser_of, run)
+    add_recordings, allowed_of, command_of, failure_text, options_of, parser_of)
 from ..shared.outputs import writing
 from ..shared.places import Place, parse_fault
 from ..shared.printed import escaped, printable
@@ -87,7 +87,7 @@ class Judge(typing.NamedTuple):
 
     def of_taken(self, recording: str, taken: Taken) -> list[Verdict]:
         with concurrent.futures.ThreadPoolExecutor(self.at_once) as threads:
-            verdicts = list(threads.map(partial(self.of_connection, recording, taken),
+            verdicts = list(threads.map(partial(judged_alone, self.program, recording, taken),
                                         taken.connections))
         if self.counts_unanswered:
             verdicts = with_unanswered(verdicts, taken)
@@ -98,13 +98,7 @@ class Judge(typing.NamedTuple):
             verdicts.append(error_verdict(recording, taken.damage))
         elif not taken.connections and taken.is_recording:
             verdicts.append(error_verdict(recording, taken.nothing))
-        return [Verdict(recording, state='note', message=note) for note in taken.notes] + verdicts
-
-    def of_connection(self, recording: str, taken: Taken, connection: TakenConnection) -> Verdict:
-        begin = time.monotonic()
-        answer = run_program(self.program, ['check', '/dev/stdin'], CHECKED, connection.capture())
-        verdict = verdict_of(recording, taken, connection, answer)
-        return verdict._replace(notes=connection.notes, seconds=time.monotonic() - begin)
+        return [Verdict(recording, 'note', said=note) for note in taken.notes] + verdicts
 
     def of_container(self, recording: str, others: list[Verdict]) -> list[Verdict]:
         """The verdict on a capture that is not whole, unless one of its connections has it."""
@@ -115,8 +109,7 @@ class Judge(typing.NamedTuple):
         at = fault.place.connection if isinstance(fault.place, Place) else None
         if at is not None and any(other.connection == at for other in others):
             return []
-        return [Verdict(recording, at, state='refused', message=str(fault),
-                        position=str(fault.place), reason=fault.reason)]
+        return [Verdict(recording, 'refused', Covered('judged', number=at), fault=fault)]
 
 
 def judge_of(chosen: argparse.Namespace) -> Judge:
@@ -127,14 +120,10 @@ def judge_of(chosen: argparse.Namespace) -> Judge:
 
 def with_unanswered(verdicts: list[Verdict], taken: Taken) -> list[Verdict]:
     """Returns the verdicts on connections with the numbers of their calls without a reply."""
-    unanswered, counted = Unanswered(), list[Verdict]()
-    for verdict, connection in zip(verdicts, taken.connections):
-        if verdict.state not in ('refused', 'error'):
-            found = open_calls(connection.client, connection.server)
-            verdict = verdict._replace(unanswered=unanswered.number(
-                connection.client_end, connection.server_end, found))
-        counted.append(verdict)
-    return counted
+    unanswered = Unanswered()
+    return [verdict if verdict.state in ('refused', 'error')
+            else verdict._replace(unanswered=unanswered.number(connection))
+            for verdict, connection in zip(verdicts, taken.connections)]
 
 
 def main(words: list[str]) -> int:
@@ -162,8 +151,7 @@ def judged_all(chosen: argparse.Namespace) -> int:
                  (chosen.json, lambda: [json_of_verdicts(verdicts)]),
                  (chosen.html, lambda: judged_page(seen, allowed, [table_of(seen)]))):
         options = options_of(chosen)._replace(is_growing=chosen.growing)
-        judge = Judge(program_path(chosen.program), options, at_once,
-                      len(chosen.recordings) == 1)
+        judge = Judge(program_path(chosen.program), options, at_once, len(chosen.recordings) == 1)
         try:
             seen = list(judged_recordings(partial(judge.seen, bool(chosen.html)),
                                           chosen.recordings, recordings_at_once))
@@ -203,8 +191,8 @@ def leave_interrupts() -> None:
 def print_verdicts(verdicts: list[Verdict], is_quiet: bool, screen: Screen) -> None:
     """Prints a row for each verdict; notes, and connections that show no call, go elsewhere."""
     tell_notes(verdicts)
-    rows = [Styled(verdict_row(verdict, screen), colour_of(verdict)) for verdict in verdicts
-            if is_row(verdict, is_quiet)]
+    rows = [Styled(verdict_row(verdict, verdict.message, screen), colour_of(verdict))
+            for verdict in verdicts if is_row(verdict, is_quiet)]
     for line in table_lines([*([] if is_quiet else [Styled(VERDICT_HEADS)]), *rows], screen):
         print(line)
     print(sums_of(verdicts))
@@ -217,14 +205,14 @@ def junit_of_verdicts(verdicts: list[Verdict], allowed: Allowed) -> bytes:
     suite = Suite('nfs3canon', [*counts.numbers().items(), ('raw', named_calls(counts.raw))])
     for verdict in (verdict for verdict in verdicts if verdict.state != 'note'):
         is_word, tag = verdict.state in COVERED, 'skipped'
-        if verdict.shows_calls:
+        if verdict.covered.shows_calls:
             tag = ('' if verdict.is_good(allowed)
                    else 'error' if verdict.state == 'error' else 'failure')
         case = suite.add(escaped(verdict.recording), name_of_case(verdict), tag,
                          printable(verdict.message),
                          attributes={'type': verdict.state} if is_word and tag == 'failure' else {},
                          time=f'{verdict.seconds:.3f}')
-        told = [verdict.message] * is_word + verdict.notes
+        told = [*[verdict.message] * is_word, *verdict.notes]
         if told and tag != 'skipped':
             SubElement(case, 'system-out').text = '\n'.join(map(printable, told))
     notes = [printable(f'{escaped(verdict.recording)}: {verdict.message}') for verdict in verdicts
@@ -239,7 +227,7 @@ def name_of_case(verdict: Verdict) -> str:
         return (printable(verdict.message) if verdict.state in ('left out', 'in part')
                 else 'as a whole')
     # (a client has another port in each run)
-    ends = f' {verdict.client.rpartition(":")[0]} to {verdict.server}' if verdict.client else ''
+    ends = f' {host_of(verdict.client)} to {verdict.server}' if verdict.client else ''
     return f'connection {verdict.connection}{ends}'
 
 
@@ -249,7 +237,4 @@ def json_of_verdicts(verdicts: list[Verdict]) -> bytes:
     return json.dumps(whole, indent=1).encode() + b'\n'
 
 
-command = partial(run, 'verdicts', main)
-
-if __name__ == '__main__':
-    sys.exit(command())
+command = command_of(__name__, 'verdicts', main)

@@ -11,14 +11,12 @@ POSITION or RECORDING is refused, 3 if a file or memory failed.
 """
 from __future__ import annotations
 
-import sys
-from functools import partial
 
 from ..recordings.carried import places_at
 from ..recordings.taken import NotTaken, take
 from ..reporting.frames import place_lines
 from ..reporting.messages import (
-    ABSENT, add_options, ended, options_of, parser_of, position_text, run)
+    ABSENT, add_options, command_of, ended, options_of, parser_of, position_text)
 from ..shared.places import NoPlace, parse_place
 from ..shared.printed import escaped
 
@@ -42,7 +40,4 @@ def main(words: list[str]) -> int:
     return 0
 
 
-command = partial(run, 'where', main)
-
-if __name__ == '__main__':
-    sys.exit(command())
+command = command_of(__name__, 'where', main)

@@ -8,13 +8,10 @@ from __future__ import annotations
 import functools
 import re
 from array import array
-from collections import Counter, defaultdict, deque
-from collections.abc import Hashable, Iterable, Iterator
-from typing import NamedTuple
+from collections import defaultdict, deque
+from collections.abc import Hashable
 
-from ..recordings.records import Window, body_of, extent_of, xids
-from ..recordings.taken import TakenStream
-from ..shared.layouts import MOUNTSTAT, NFSSTAT, VALUES
+from ..shared.layouts import BY_NAME, VALUES
 
 REPLY_STATUS = re.compile(r' mtype=1 reply_stat=(?:'
                           r'0 verf_flavor=\d+ verf_body=\w* accept_stat=(\d+)(?: status=(\d+))?'
@@ -77,36 +74,6 @@ class Answering:
         return self.owners[first]
 
 
-class UnreadCall(NamedTuple):
-    """A call in a stream that is not read yet: where its record begins and ends, and its xid."""
-    stream: TakenStream
-    begin: int
-    end: int
-    xid: int
-
-    def said(self) -> int:
-        """Returns a hash of what it says after its xid."""
-        window = Window(self.stream)
-        return hash(body_of(window, extent_of(window, self.begin, self.end))[4:])
-
-
-def calls_in(stream: TakenStream) -> Iterator[UnreadCall]:
-    return (UnreadCall(stream, extent.begin, extent.end, xid)
-            for extent, xid, _ in xids(Window(stream), 0, stream.size))
-
-
-def unanswered(calls: Iterable[UnreadCall], server: TakenStream) -> Iterator[UnreadCall]:
-    """Iterates over the first calls of exchanges without a reply, by the xids of records. What
-    calls say is read only if several have one xid."""
-    sent, rule = list(calls), Answering()
-    numbers = Counter(call.xid for call in sent)
-    first = [call for call in sent
-             if rule.call(call.xid, call.said() if numbers[call.xid] > 1 else 0)[1]]
-    answered = {rule.reply(xid) for _, xid, _ in xids(Window(server), 0, server.size)
-                if xid in numbers}
-    return (call for at, call in enumerate(first) if at not in answered)
-
-
 def error_in(procedure: str, said: str) -> str:
     """Returns the name of the error in the items of a reply, or nothing for success."""
     if said.startswith(SUCCESS):
@@ -126,6 +93,5 @@ def error_name(procedure: str, accepted: str | None, status: str | None,
     if rejected is not None:
         return VALUES['reject_stat'][int(rejected)]
     if status is not None:
-        names = MOUNTSTAT if procedure.startswith('MOUNT') else NFSSTAT
-        return names[int(status)] if int(status) else ''
+        return (BY_NAME[procedure].statuses or {})[int(status)] if int(status) else ''
     return VALUES['accept_stat'][int(accepted or 0)] if accepted != '0' else ''

@@ -21,7 +21,7 @@ from .procedures import (
 from .timelines import (
     Adds, Clears, Effect, FileSize, FolderSize, Grows, LinkCount, Mode, SaidValues, Sets, Sighting,
     Spans, Timeline, ValueChange)
-from .values import Values
+from .values import Values, owned
 
 STILL = 1 << 62  # when a call ends that may still be carried out
 GONE, ANY_OBJECT = 'no object', 'any object'  # to what a name leads, if not to one that is known
@@ -337,7 +337,7 @@ def results_in(one: CarriedOut) -> tuple[Hashable, ...]:
     if one.procedure == ACCESS:
         return one.call['access'], one.reply['access']
     return tuple(value for name, value in one.reply.items()
-                 if '.' not in name and name not in FREE_ITEMS)
+                 if not owned(name).owners and name not in FREE_ITEMS)
 
 
 # --- Which names a listing has to have ---
@@ -348,8 +348,7 @@ def present(history: History, folder: Hashable, but: int) -> Spans[Sighting]:
         name, history.timeline(name_key(folder, name)), but))
 
 
-def lacking(history: History, folder: Hashable, listed: Listed,
-            times: Spans[Sighting]) -> Hashable:
+def lacking(history: History, folder: Hashable, listed: Listed, times: Spans[Sighting]) -> Hashable:
     """Returns a name that a listing of a folder lacks: one that is there meanwhile, and, if the
     listing is not at its end, that no other listing has behind its last name."""
     begin, end = history.frames[listed.source]

@@ -12,7 +12,7 @@ import re
 from collections.abc import Callable, Mapping
 from typing import NamedTuple
 
-from ..shared.layouts import RAW, VALUES, meaning_of
+from ..shared.layouts import BY_NAME, TYPES_OF_FILES, RAW, VALUES, meaning_of
 from .answering import error_in
 from .procedures import (
     ACCESS, COMMIT, CREATE, GETATTR, LISTINGS, MKDIR, MKNOD, READ, READDIR, READDIRPLUS,
@@ -58,7 +58,7 @@ def object_in(call: Values, item: str) -> tuple[str | None, str | None]:
 
 @functools.lru_cache(TEXTS_KEPT_AT_MOST)
 def number_named(name: str, value: int) -> str:
-    return meaning_of(name, str(value), VALUES.get(name)).removeprefix('NF3')
+    return meaning_of(name, str(value), VALUES.get(name))
 
 
 def beginning_of(text: str) -> str:
@@ -92,11 +92,11 @@ ARGUMENTS: Wording = {
                          + number_named('stable', call['stable'])),
     CREATE: lambda call: number_named('how', call['how']) + settings(call), MKDIR: settings,
     SYMLINK: lambda call: f'-> {beginning_of(call["path"])}{settings(call)}',
-    MKNOD: lambda call: number_named('type', call['type']) + settings(call),
+    MKNOD: lambda call: TYPES_OF_FILES[call['type']] + settings(call),
     READDIR: 'cookie {cookie} count {count}'.format_map,
     READDIRPLUS: 'cookie {cookie} count {dircount}/{maxcount}'.format_map}
 RESULTS: Wording = {
-    GETATTR: lambda reply: (f'{number_named("type", reply["obj.type"])} '
+    GETATTR: lambda reply: (f'{TYPES_OF_FILES[reply["obj.type"]]} '
                             f'{number_named("mode", reply["obj.mode"])} size {reply["obj.size"]}'),
     ACCESS: lambda reply: number_named('access', reply['access']),
     READLINK: lambda reply: beginning_of(reply['path']),
@@ -117,7 +117,6 @@ def answer_in(procedure: str, said: str) -> str:
     return f'OK {words(read_reply(procedure, said)[1])}' if words else 'OK'
 
 
-@functools.lru_cache(TEXTS_KEPT_AT_MOST)
 def short(procedure: str) -> str:
     """The name of a procedure without that of its version: `WRITE` of NFS, `MOUNT MNT` of MOUNT."""
-    return procedure.removeprefix('NFSPROC3_').replace('MOUNTPROC3_', 'MOUNT ')
+    return BY_NAME[procedure].short if procedure in BY_NAME else procedure

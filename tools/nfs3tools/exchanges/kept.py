@@ -151,9 +151,9 @@ class KeptExchange:
         return end - self.time if end and self.time else None
 
 
-def call_text(one: KeptExchange) -> str:
-    """A call with its paths and its other arguments."""
-    asked, words, path = one.asked, [short(one.procedure).ljust(WIDTH)], one.path
+def call_text(one: KeptExchange, width: int = 0) -> str:
+    """A call with its paths and its other arguments. Names of procedures are as wide as that."""
+    asked, words, path = one.asked, [short(one.procedure).ljust(width)], one.path
     if path is not None:
         words.append(path)
     if asked.other is not None:
@@ -175,11 +175,12 @@ class Kept:
     again, errors: retransmissions and errors of replies, by exchanges
     """
 
-    def __init__(self, values: LongValues | None = None, has_texts: bool = True) -> None:
-        """`values` keeps long values, which are lost without it. Without texts it is only kept when
-        an exchange was, its procedure and its errors."""
-        self.spool, self.values, self.has_texts = Spool(), values, has_texts
-        self.cut = values.cut if values else without_long
+    def __init__(self, has_values: bool = False, has_texts: bool = True) -> None:
+        """Long values may be lost. Without texts it is only kept when an exchange was, its
+        procedure and its errors."""
+        self.spool, self.has_texts = Spool(), has_texts
+        self.values = LongValues(self.spool)
+        self.cut = self.values.cut if has_values else without_long
         self.parts, self.starts = list[KeptConnection](), list[int]()
         # What each call says, and each reply.
         self.asking, self.answering = Texts(self.spool), Texts(self.spool)
@@ -191,9 +192,9 @@ class Kept:
         self.frames, self.times = array('Q'), array('q')
         self.again, self.errors = dict[int, list[SentRecord]](), dict[int, list[str]]()
         self.said = list[Sequence[int]]()  # hashes of what the calls of each connection say
-        # Calls that were sent again on a later connection, both ways, and when all ended.
+        # Calls that were sent again on a later connection, both ways, and when all began and ended.
         self.later, self.earlier = dict[int, int](), dict[int, int]()
-        self.ended = 0
+        self.begun = self.ended = 0
         # The first reply of each, from 1 in the order of all replies, 0 for none; and more.
         self.firsts, self.further = array('I'), dict[int, list[int]]()
         # Of each reply.
@@ -205,12 +206,10 @@ class Kept:
 
     def close(self) -> None:
         self.spool.close()
-        if self.values and self.values.file:
-            self.values.file.close()
 
     def take(self, program: str, connection: TakenConnection, is_refused: bool) -> None:
         """Takes the exchanges of a connection, up to its fault. Raises what `listed_of` does."""
-        paths = self.paths.setdefault(connection.server_end.rpartition(':')[0], Paths())
+        paths = self.paths.setdefault(host_of(connection.server_end), Paths())
         # (all replies are recorded if the end is, and no byte is missing but for the beginning)
         lacks = bool(connection.missing or {*connection.lacks} - {BEGUN_BEFORE})
         has_all = not is_refused and connection.is_closed and not lacks
@@ -354,4 +353,5 @@ class Kept:
 
 
 def host_of(end: str) -> str:
-    return end.rpartition(':')[0].strip('[]')
+    """Returns the address of an end, as a recording has it: of IPv6 in brackets."""
+    return end.rpartition(':')[0]

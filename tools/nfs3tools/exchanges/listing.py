@@ -3,7 +3,7 @@ from __future__ import annotations
 
 import re
 import tempfile
-from collections.abc import Iterator
+from collections.abc import Callable, Iterator, Sequence
 from dataclasses import dataclass, field
 from functools import cached_property
 from typing import NamedTuple
@@ -20,6 +20,7 @@ ITEM = re.compile(r' ([^=]+)=("[^"]*"|[^ ]*)')
 CALLED_NUMBERS = re.compile(r' ?mtype=0 rpcvers=2 prog=(\d+) vers=(\d+) proc=(\d+) ')
 STATUS_AFTER_FAULT = 2  # the status of `show` after a fault
 Items = tuple[Item, ...]
+Framing = Callable[[Place], Sequence[int]]
 LinePlace = tuple[int, bool, int]  # a connection, whether it is a call, and its record
 
 
@@ -54,8 +55,15 @@ def place_of(line: str) -> LinePlace:
 
 
 class Message(Line):
-    """A call or a reply, where it is in its capture, and what it says, perhaps with marks."""
+    """A call or a reply, where it is in its capture, and what it says, perhaps with marks.
+    `framing` finds its frames, if they are known."""
     values: LongValues | None = None
+    framing: Framing | None = None
+
+    @cached_property
+    def frames(self) -> Sequence[int]:
+        """The numbers of the frames that carry it."""
+        return self.framing(self.place) if self.framing else []
 
     @property
     def place(self) -> Place:

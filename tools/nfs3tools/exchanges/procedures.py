@@ -6,14 +6,12 @@ import functools
 from collections.abc import Iterator
 from typing import NamedTuple
 
+from ..shared.layouts import BY_NUMBER, NFS
 from .values import Values
 
-NULL, GETATTR, SETATTR, LOOKUP, ACCESS, READLINK, READ, WRITE = (f'NFSPROC3_{name}' for name in (
-    'NULL', 'GETATTR', 'SETATTR', 'LOOKUP', 'ACCESS', 'READLINK', 'READ', 'WRITE'))
-CREATE, MKDIR, SYMLINK, MKNOD, REMOVE, RMDIR, RENAME, LINK = (f'NFSPROC3_{name}' for name in (
-    'CREATE', 'MKDIR', 'SYMLINK', 'MKNOD', 'REMOVE', 'RMDIR', 'RENAME', 'LINK'))
-READDIR, READDIRPLUS, FSSTAT, FSINFO, PATHCONF, COMMIT = (f'NFSPROC3_{name}' for name in (
-    'READDIR', 'READDIRPLUS', 'FSSTAT', 'FSINFO', 'PATHCONF', 'COMMIT'))
+(NULL, GETATTR, SETATTR, LOOKUP, ACCESS, READLINK, READ, WRITE, CREATE, MKDIR, SYMLINK, MKNOD,
+ REMOVE, RMDIR, RENAME, LINK, READDIR, READDIRPLUS, FSSTAT, FSINFO, PATHCONF, COMMIT) = OF_FILES = [
+     one.name for (program, _), one in BY_NUMBER.items() if program == NFS]
 MAKING, REMOVING = frozenset((CREATE, MKDIR, SYMLINK, MKNOD)), frozenset((REMOVE, RMDIR))
 LISTINGS = frozenset((READDIR, READDIRPLUS))
 # Calls that change names, and all that change what others are answered.
@@ -36,25 +34,23 @@ OWNER_OF_REPLIES = (('fh', 'obj'),)  # of all others
 NAMES_OF_CALLS = {RENAME: (('from.fh', 'from.name'), ('to.fh', 'to.name')),
                   LINK: (('link.fh', 'link.name'),)}
 NAME_OF_CALLS = (('fh', 'name'),)
-BEFORE, OF_ENTRY = 'before.', 'listed.'  # what was before a change; an entry's own file id
+BEFORE, OF_ENTRY = 'before', 'listed.'  # what was before a change; an entry's own file id
 
 
 def is_of_files(procedure: str) -> bool:
     """Whether it is one of NFS, not of MOUNT or of another program."""
-    return procedure.startswith('NFSPROC3_')
+    return procedure in OF_FILES
 
 
 class Statement(NamedTuple):
     """What a reply says of an object, which is known by its handle, or, if the reply has none, as a
-    name in the folder of this handle. The names of its items begin with the owner."""
+    name in the folder of this handle. The names of its items begin with the owner. Whether it says
+    what was before a change."""
     handle: str
     name: str
     owner: str
     items: Values
-
-    @property
-    def is_before(self) -> bool:
-        return self.owner.endswith(BEFORE)
+    is_before: bool = False
 
     def value(self, item: str) -> int:
         return int(self.items[self.owner + item])
@@ -78,9 +74,10 @@ def owners_in(procedure: str, call: Values, reply: Values) -> Iterator[tuple[str
 def statements_in(procedure: str, call: Values, reply: Values) -> Iterator[Statement]:
     """Iterates over what a reply says of objects, in the order of its items."""
     for owner, handle in owners_in(procedure, call, reply):
-        for part in ('before.', 'after.', ''):
-            if f'{owner}.{part}size' in reply:
-                yield Statement(handle, '', f'{owner}.{part}', reply)
+        for part in (BEFORE, 'after', ''):
+            its = f'{owner}.{part}.' if part else f'{owner}.'
+            if its + 'size' in reply:
+                yield Statement(handle, '', its, reply, part == BEFORE)
     for entry in reply.get('entries', ()):
         yield from statements_of_entry(procedure, call, entry)
 

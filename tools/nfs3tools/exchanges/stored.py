@@ -7,11 +7,9 @@
 from __future__ import annotations
 
 import hashlib
-import os
-import tempfile
 from array import array
 from dataclasses import dataclass, field
-from typing import IO, Union
+from typing import Union
 
 from ..recordings.records import FETCHED_AT_ONCE
 from ..recordings.spool import Spool, Stored
@@ -26,7 +24,7 @@ class Long:
     digest: str
     size: int
     begin: int = field(compare=False)
-    file: IO[bytes] = field(compare=False, repr=False)
+    spool: Spool = field(compare=False, repr=False)
 
     def __str__(self) -> str:
         return f'SHA-256 {self.digest}, {self.size} bytes'
@@ -40,7 +38,7 @@ class Long:
 
     def read(self, begin: int, end: int) -> bytes:
         """Returns the bytes from one place up to another, or up to the end."""
-        return os.pread(self.file.fileno(), max(0, min(end, self.size) - begin), self.begin + begin)
+        return self.spool.read(self.begin + begin, max(0, min(end, self.size) - begin))
 
     def shown(self, number: int) -> str:
         """Returns the given number of its first digits."""
@@ -58,21 +56,16 @@ def spelled(value: Value) -> str:
 class LongValues:
     """Long values of a listing in a temporary file, but for strings in quotes."""
 
-    def __init__(self) -> None:
-        self.file: IO[bytes] | None = None
-        self.size = 0
+    def __init__(self, spool: Spool | None = None) -> None:
+        self.spool = spool or Spool()
 
     def cut(self, text: str) -> str:
         """Keeps a long value, and returns items with a mark in its place: where it is, and what."""
         begin = begin_of_long(text)
         if begin is None:
             return text
-        if self.file is None:
-            self.file = tempfile.TemporaryFile(prefix='nfs3canon', buffering=0)
-        content, at = bytes.fromhex(text[begin:]), self.size
-        while self.size < at + len(content):
-            self.size += os.pwrite(self.file.fileno(), content[self.size - at:], self.size)
-        digest = hashlib.sha256(content).hexdigest()
+        content = bytes.fromhex(text[begin:])
+        at, digest = self.spool.append(content), hashlib.sha256(content).hexdigest()
         return f'{text[:begin]}{LONG_MARK}{at}+{len(content)}:{digest}'
 
     def value(self, word: str) -> Value:
@@ -81,8 +74,7 @@ class LongValues:
             return word
         place, _, digest = word[1:].partition(':')
         begin, size = map(int, place.split('+'))
-        assert self.file
-        return Long(digest, size, begin, self.file)
+        return Long(digest, size, begin, self.spool)
 
 
 def begin_of_long(text: str) -> int | None:

@@ -12,18 +12,18 @@ from __future__ import annotations
 
 import functools
 import re
-from collections.abc import Callable, Mapping
+from collections.abc import Callable, Iterable, Mapping
 from operator import itemgetter
 from typing import Any, NamedTuple, Optional, Union
 
-from ..shared.layouts import BY_NAME, PARTS, RAW, cases_of
+from ..shared.layouts import BY_NAME, PARTS, RAW, LayoutItem, cases_of, layout_items
 from .answering import REPLY_STATUS
 from .stored import Long, LongValues
 
 Values = dict[str, Any]
 Data = Union[bytes, Long]  # of a READ or a WRITE
 Time = tuple[int, int]  # seconds and nanoseconds
-LIST, DATA_ITEM = 'list:', ' o:data'
+(DATA_ITEM,) = layout_items('o:data')
 CALL_HEAD = re.compile(r' mtype=0 rpcvers=2 prog=\d+ vers=\d+ proc=\d+ cred_flavor=\d+ '
                        r'(?:cred_body=\w*|cred_length=\d+ stamp=\d+ machinename="[^"]*" uid=(\d+) '
                        r'gid=\d+ gids=\d+(?: group=\d+)*) verf_flavor=0 verf_body=\w*')
@@ -40,8 +40,21 @@ def time_in(text: str) -> Time:
 # Of each kind of item the pattern behind its name, and what makes a value of it.
 NUMBER = r'=(\d+)', int
 ITEM_KINDS: Mapping[str, tuple[str, Callable[[str], object]]] = {
-    't': (r'="([^"]*)"', str), **dict.fromkeys(('o', 'x', 'fh'), (r'=(\w*)', str)),
+    't': (r'="([^"]*)"', str), **dict.fromkeys(('o', 'x'), (r'=(\w*)', str)),
     **dict.fromkeys(('atime', 'mtime', 'ctime'), (r'_sec=(\d+ \w+=\d+)', time_in))}
+
+
+class OwnedItem(NamedTuple):
+    """An item with its owners, as `dir` and `after`."""
+    owners: tuple[str, ...]
+    name: str
+
+
+OWNED_ITEMS = dict[str, OwnedItem]()  # by their names among values, as `dir.after.size`
+
+
+def owned(label: str) -> OwnedItem:
+    return OWNED_ITEMS.get(label) or OwnedItem((), label)
 
 
 class Layout:
@@ -49,31 +62,35 @@ class Layout:
     of them. Data of a file may follow, or entries of a directory, in a layout of their own."""
 
     def __init__(self, text: str) -> None:
-        first, _, rest = text.partition(LIST)
         self.names, self.makers = list[str](), list[Callable[[str], object]]()
-        self.has_data = first.endswith(DATA_ITEM)
-        self.pattern = re.compile(self.of_part(first.removesuffix(DATA_ITEM), ''))
-        self.entry = layout_of(rest.split()[0].partition('=')[2]) if rest else None
+        items = layout_items(PARTS.get(text, text))
+        lists = [at for at, item in enumerate(items) if item.kind == 'list']
+        self.entry = layout_of(items[lists[0]].inner) if lists else None
+        self.has_data = items[-1:] == (DATA_ITEM,)
+        self.pattern = re.compile(self.of_items(
+            items[:lists[0] if lists else len(items) - self.has_data]))
 
-    def of_part(self, part: str, owner: str) -> str:
-        """Returns the pattern of a part, and adds the names of its groups."""
-        return ''.join(self.of_item(item, owner) for item in PARTS.get(part, part).split())
+    def of_items(self, items: Iterable[LayoutItem], owners: tuple[str, ...] = ()) -> str:
+        """Returns the pattern of some items, and adds the names of its groups."""
+        return ''.join(self.of_item(item, (*owners, item.owner) if item.owner else owners)
+                       for item in items)
 
-    def of_item(self, item: str, owner: str) -> str:
-        item, _, inner = item.partition('=')
-        whose, at, item = item.rpartition('@')
-        owner += f'{whose}.' if at else ''
-        kind, is_item, name = item.partition(':')
-        if not is_item and item not in ITEM_KINDS:
-            return self.of_part(item, owner)
+    def of_part(self, part: str, owners: tuple[str, ...]) -> str:
+        return self.of_items(layout_items(PARTS.get(part, part)), owners)
+
+    def of_item(self, item: LayoutItem, owners: tuple[str, ...]) -> str:
+        kind, name, inner = item.kind, item.name, item.inner
+        if not kind and name not in ITEM_KINDS:
+            return self.of_part(name, owners)
         if kind == 'opt':
-            return f' {name}=(?:0|1{self.of_part(inner, owner)})'
-        pattern, maker = ITEM_KINDS.get(kind.rstrip('0123456789'), NUMBER)
-        self.names.append(owner + (name or item))
+            return f' {name}=(?:0|1{self.of_part(inner, owners)})'
+        pattern, maker = ITEM_KINDS.get(kind or name, NUMBER)
+        self.names.append('.'.join((*owners, name)))
+        OWNED_ITEMS[self.names[-1]] = OwnedItem(owners, name)
         self.makers.append(maker)
         parts = dict.fromkeys(cases_of(inner).values()) if kind == 'case' else ()
-        cases = '|'.join(self.of_part(part, owner) for part in parts)
-        return f' {name or item}{pattern}' + (f'(?:{cases}|)' if cases else '')
+        cases = '|'.join(self.of_part(part, owners) for part in parts)
+        return f' {name}{pattern}' + (f'(?:{cases}|)' if cases else '')
 
     def read(self, said: str, at: int, long_values: LongValues | None) -> Values:
         out, end = self.items(said, at)
@@ -139,8 +156,8 @@ def handle_found(procedure: str, said: str) -> str:
     found, layout = REPLY_STATUS.match(said), BY_NAME[procedure].done
     if found is None or found[2] != '0':
         return ''
-    first, _ = layout_of(PARTS.get(layout, layout).split()[0]).items(said, found.end())
-    return str(first.get('fh', ''))
+    first, *_ = layout_items(PARTS.get(layout, layout))
+    return str(layout_of(first.name).items(said, found.end())[0].get('fh', ''))
 
 
 class Attributes(NamedTuple):

@@ -12,7 +12,7 @@ import contextlib
 from collections.abc import Iterator, Mapping, Sequence
 from typing import NamedTuple, Optional
 
-from ..shared.layouts import BY_NAME, PARTS, Walk, cases_of, meaning_of
+from ..shared.layouts import BY_NAME, PARTS, Walk, cases_of, layout_items, meaning_of
 from .stored import Value
 
 DIRECTORY_TYPE = '2'  # NF3DIR
@@ -123,16 +123,11 @@ def items_of(procedure: str, is_call: bool, items: ItemNames) -> Iterator[Item]:
 def fields_in(layouts: Mapping[str, str], part: str,
               owners: Sequence[str] = ()) -> Iterator[tuple[str, str]]:
     """Iterates over all items that a part may have: the field and the name of each."""
-    for text in layouts.get(part, part).split():
-        item, _, inner = text.partition('=')
-        whose, at, item = item.rpartition('@')
-        kind, _, name = item.rpartition(':')
-        own = [*owners, whose] if at else owners
-        if item not in layouts:
+    for owner, kind, _, name, inner in layout_items(layouts.get(part, part)):
+        own, is_part = [*owners, owner] if owner else owners, not kind and name in layouts
+        if not is_part:
             yield labelled(own, name), name
-        parts = [item] if item in layouts else (
-            cases_of(inner).values() if kind == 'case' else [inner])
-        for one in parts:
+        for one in [name] if is_part else cases_of(inner).values() if kind == 'case' else [inner]:
             yield from fields_in(layouts, one, [*own, name] if kind == 'list' else own)
 
 

@@ -6,10 +6,10 @@ from bisect import bisect_left
 from collections import defaultdict
 from collections.abc import Iterator
 
-from ..exchanges.answering import calls_in, unanswered
+from ..exchanges.answering import Answering
 from ..exchanges.kept import host_of
-from ..recordings.records import Window, xids
-from ..recordings.taken import TakenStream
+from ..recordings.records import Window, body_of, xids
+from ..recordings.taken import TakenConnection, TakenStream
 
 UNANSWERED_AT_MOST = 1 << 16  # calls without a reply; then those so far are forgotten
 CallDigest = tuple[int, int]  # the xid of a call, and a hash of what it says
@@ -22,26 +22,32 @@ class Unanswered:
     def __init__(self) -> None:
         self.known = defaultdict[tuple[str, str], set[CallDigest]](set)  # by both ends
 
-    def number(self, client: str, server: str, found: set[CallDigest]) -> int:
+    def number(self, connection: TakenConnection) -> int:
         """Returns how many calls of a connection without a reply are new. A capture has no ends."""
-        if not client or not found:
+        found = open_calls(connection.client, connection.server)
+        if not connection.client_end or not found:
             return len(found)
         if sum(map(len, self.known.values())) > UNANSWERED_AT_MOST:
             self.known.clear()
-        known = self.known[host_of(client), server]
+        known = self.known[host_of(connection.client_end), connection.server_end]
         new = len(found - known)
         known |= found
         return new
 
 
 def open_calls(client: TakenStream, server: TakenStream) -> set[CallDigest]:
-    """Returns the calls of a client without a reply. Few of them are read."""
-    calls, replies = sorted_xids(client), sorted_xids(server)
-    if any(map(int.__eq__, calls, calls[1:])):
-        return {(call.xid, call.said()) for call in unanswered(calls_in(client), server)}
-    wanted = set(missing_from(replies, calls))
-    return {(call.xid, call.said()) for call in calls_in(client)
-            if call.xid in wanted} if wanted else set()
+    """Returns the calls of a client without a reply. Of few it is read what they say: of those with
+    an xid that no reply has, or several calls."""
+    calls, rule, first = sorted_xids(client), Answering(), list[CallDigest]()
+    wanted = {*missing_from(sorted_xids(server), calls),
+              *(one for one, other in zip(calls, calls[1:]) if one == other)}
+    for extent, xid, _ in xids(Window(client), 0, client.size) if wanted else ():
+        if xid in wanted:
+            said = hash(body_of(Window(client), extent)[4:])
+            first += [(xid, said)] * rule.call(xid, said)[1]
+    answered = {rule.reply(xid) for _, xid, _ in xids(Window(server), 0, server.size)
+                if xid in wanted} if wanted else set()
+    return {call for at, call in enumerate(first) if at not in answered}
 
 
 def sorted_xids(stream: TakenStream) -> array[int]:

@@ -2,21 +2,19 @@
 judged, and the row that is printed of one."""
 from __future__ import annotations
 
-import re
 import sys
+import time
 import typing
 from collections import Counter
 from collections.abc import Iterable, Mapping, Sequence
 
 from ..exchanges.kept import Kept
-from ..exchanges.stored import LongValues
-from ..recordings.coverage import (
-    Allowed, Counts, Covered, Word, counts_of)
+from ..recordings.coverage import Allowed, Counts, Covered, counts_of
 from ..recordings.selection import BEGUN_BEFORE, count
 from ..recordings.taken import FrameRef, Taken, TakenConnection
-from ..shared.places import FilePlace, parse_fault
+from ..shared.places import Fault, FilePlace, Place, parse_fault
 from ..shared.printed import escaped, printable
-from ..shared.programs import Answer
+from ..shared.programs import CHECKED, Answer, checked_counts, run_program
 from ..shared.screens import Colour, Screen
 
 NOT_ALL_OK = 1
@@ -24,89 +22,104 @@ VERDICTS_VERSION = 2  # of the forms of JSON with verdicts; the first was a list
 VERDICT_HEADS = ('recording', 'connection', 'client', 'server', 'calls', 'replies', 'verdict')
 COVERED = ('in part', 'left out', 'not checked')  # states of what is not judged whole
 State = typing.Literal['ok', 'refused', 'in part', 'left out', 'not checked', 'error', 'note']
-LEFT_OUT_ENDS = re.compile(r'left out: (\S+) and (\S+): ')
-CHECKED_CONNECTION = re.compile(r'ok connections=1 calls=(\d+) replies=(\d+) handles=\d+\n')
 
 
 class Verdict(typing.NamedTuple):
-    """What is said of a connection, or of a recording or capture as a whole (then the connection is
-    None). A note is no verdict.
+    """What is said of a connection, or of a recording or capture as a whole. A note is no verdict.
 
-    position, reason: where its first fault is, without the connection, and that of the program
-    message: all of it in words
-    missing, lacks, shows_calls: as `Covered` has them
-    raw: the calls of other programs, by name
+    state: the program's word, or how much was judged if that is not all
+    covered: the number of a connection, its ends, how much of it was judged, and why not all
+    calls, replies: those of a connection that is taken
+    fault, frames: where and why the program refuses it, and the frames of that place
+    said: what could not be read, or the note
     unanswered: its calls without a reply, if it is not refused
     """
     recording: str
-    connection: int | None = None
+    state: State = 'ok'
+    covered: Covered = Covered('judged')
     tcp_stream: int | None = None
     client: str = ''
     server: str = ''
     calls: int | None = None
     replies: int | None = None
-    state: State = 'ok'
-    message: str = 'ok'
-    position: str | None = None
-    reason: str | None = None
-    missing: int = 0
-    lacks: tuple[str, ...] = ()
-    raw: Mapping[str, int] = {}
+    fault: Fault | None = None
+    frames: Sequence[FrameRef] = ()
+    said: str = ''
     unanswered: int = 0
-    shows_calls: bool = True
-    frames: list[FrameRef] = []
-    notes: list[str] = []
+    notes: Sequence[str] = ()
     seconds: float = 0.0
+
+    @property
+    def connection(self) -> int | None:
+        return self.covered.number
+
+    @property
+    def raw(self) -> Mapping[str, int]:
+        """The calls of other programs, by name."""
+        return self.covered.called.raw
+
+    @property
+    def position(self) -> str | None:
+        """That of its fault, without the number of a connection that is taken."""
+        place = self.fault.place if self.fault else None
+        if isinstance(place, Place) and self.calls is not None:
+            return place.in_connection
+        return None if place is None else str(place)
+
+    @property
+    def told(self) -> str:
+        """All of it in words. What is judged in part is not called ok."""
+        if self.fault:
+            return f'{self.position}: {self.fault.reason}' + ''.join(
+                f', frame {frame.number}' for frame in self.frames)
+        if self.state not in COVERED:
+            return 'ok' if self.state == 'ok' else self.said
+        about = f'{self.covered.ends}: ' if self.covered.ends and self.calls is None else ''
+        if self.is_ok_in_part:
+            about = f'{count(self.calls or 0, "call")}, '
+        return f'{self.state}: {about}{self.covered.reason}'
+
+    @property
+    def is_ok_in_part(self) -> bool:
+        return self.state == 'in part' and self.calls is not None
+
+    @property
+    def message(self) -> str:
+        return 'ok ' * self.is_ok_in_part + self.told
 
     def is_good(self, allowed: Allowed) -> bool:
         """Whether the status may be 0 beside it."""
-        if self.state in COVERED:
-            return Covered(typing.cast(Word, self.state), missing=self.missing, lacks=self.lacks,
-                           shows_calls=self.shows_calls).is_good(allowed)
-        return self.state in ('ok', 'note')
+        return (self.covered.is_good(allowed) if self.state in COVERED
+                else self.state in ('ok', 'note'))
 
 
-def verdict_of(recording: str, taken: Taken, connection: TakenConnection,
-               answer: Answer) -> Verdict:
-    """What the program's answer on a connection's capture says."""
-    verdict = Verdict(recording, connection.number, connection.stream_number,
-                      connection.client_end, connection.server_end)
-    counts, fault = CHECKED_CONNECTION.fullmatch(answer.out), parse_fault(answer.error)
-    covered = taken.covered_connection(connection)
-    verdict = verdict._replace(missing=covered.missing, lacks=covered.lacks, raw=covered.called.raw)
+def judged_alone(program: str, recording: str, taken: Taken,
+                 connection: TakenConnection) -> Verdict:
+    """What the program says of a connection's capture. Raises `Died`."""
+    begin = time.monotonic()
+    answer = run_program(program, ['check', '/dev/stdin'], CHECKED, connection.capture())
+    verdict = of_covered(recording, taken.covered_connection(connection))._replace(
+        tcp_stream=connection.stream_number, client=connection.client_end,
+        server=connection.server_end, notes=connection.notes, seconds=time.monotonic() - begin)
+    counts, fault = checked_counts(answer), parse_fault(answer.error)
     if answer.status == 0 and counts:
-        return with_word(verdict._replace(calls=int(counts[1]), replies=int(counts[2])), covered)
+        return verdict._replace(calls=counts[1], replies=counts[2])
     verdict = verdict._replace(calls=connection.client.count_records(),
                                replies=connection.server.count_records())
     if answer.status != 2 or fault is None or isinstance(fault.place, FilePlace):
-        return verdict._replace(state='error', message=said_last(answer))
-    there = fault.place._replace(connection=connection.number)
-    frames, position = taken.frames(there), there.in_connection
-    message = f'{position}: {fault.reason}' + ''.join(f', frame {frame.number}' for frame in frames)
-    return verdict._replace(state='refused', message=message, position=position,
-                            reason=fault.reason, frames=frames)
-
-
-def with_word(verdict: Verdict, covered: Covered) -> Verdict:
-    """The verdict on a connection in which the program finds no fault."""
-    if covered.word == 'judged':
-        return verdict
-    message = f'not checked: {covered.reason}'
-    if covered.word == 'in part':
-        message = f'ok in part: {count(verdict.calls or 0, "call")}, {covered.reason}'
-    return verdict._replace(state=typing.cast(State, covered.word), message=message)
+        return verdict._replace(state='error', said=said_last(answer))
+    place = fault.place._replace(connection=connection.number)
+    return verdict._replace(state='refused', fault=fault._replace(place=place),
+                            frames=taken.frames(place))
 
 
 def of_covered(recording: str, covered: Covered) -> Verdict:
-    """What is said of a connection that is left out, or of what is of no connection."""
-    ends = f'{covered.ends}: ' if covered.ends else ''
-    return Verdict(recording, state=typing.cast(State, covered.word),
-                   message=f'{covered.word}: {ends}{covered.reason}', missing=covered.missing,
-                   shows_calls=covered.shows_calls)
+    """What is said of a connection if the program finds no fault in it, or of what is of none."""
+    return Verdict(recording, 'ok' if covered.word == 'judged' else covered.word, covered)
 
 
 def error_verdict(recording: str, message: str) -> Verdict:
-    return Verdict(recording, state='error', message=message)
+    return Verdict(recording, 'error', said=message)
 
 
 def said_last(answer: Answer) -> str:
@@ -120,16 +133,26 @@ def status_of(verdicts: Iterable[Verdict], allowed: Allowed) -> int:
 def counts_after(verdicts: Iterable[Verdict]) -> Counts:
     """How many of the verdicts are under each word."""
     several = list(verdicts)
-    counts = counts_of((verdict.state, verdict.shows_calls, verdict.raw) for verdict in several)
-    return counts._replace(unanswered=sum(verdict.unanswered for verdict in several))
+    return counted_words(several)._replace(unanswered=sum(one.unanswered for one in several))
+
+
+def counted_words(verdicts: Iterable[Verdict]) -> Counts:
+    """The same if nobody looks for calls without a reply."""
+    return counts_of((one.state, one.covered.shows_calls, one.raw) for one in verdicts)
 
 
 def verdict_object(verdict: Verdict) -> dict[str, object]:
-    row = verdict._asdict()
-    row.update(recording=escaped(verdict.recording), raw=dict(verdict.raw),
-               frames=[frame._asdict() for frame in verdict.frames],
-               seconds=round(verdict.seconds, 3))
-    return row
+    covered, fault = verdict.covered, verdict.fault
+    return {'recording': escaped(verdict.recording), 'connection': verdict.connection,
+            'tcp_stream': verdict.tcp_stream, 'client': verdict.client, 'server': verdict.server,
+            'calls': verdict.calls, 'replies': verdict.replies, 'state': verdict.state,
+            'message': verdict.message, 'position': verdict.position,
+            'reason': fault and fault.reason, 'missing': covered.missing,
+            'lacks': [] if verdict.state == 'left out' else covered.lacks,
+            'raw': dict(verdict.raw), 'unanswered': verdict.unanswered,
+            'shows_calls': covered.shows_calls,
+            'frames': [frame._asdict() for frame in verdict.frames], 'notes': verdict.notes,
+            'seconds': round(verdict.seconds, 3)}
 
 
 def verdict_members(verdicts: Sequence[Verdict]) -> dict[str, object]:
@@ -138,27 +161,29 @@ def verdict_members(verdicts: Sequence[Verdict]) -> dict[str, object]:
             'verdicts': [*map(verdict_object, verdicts)]}
 
 
-def kept_in(program: str, taken: Taken, verdicts: Iterable[Verdict],
-            values: LongValues | None = None, has_texts: bool = True) -> Kept:
-    """Returns the exchanges of the connections that were judged. Raises `Died` and `OSError`."""
-    kept = Kept(values, has_texts)
+def kept_in(program: str, taken: Taken, verdicts: list[Verdict], has_values: bool = False,
+            has_texts: bool = True) -> Kept:
+    """Returns the exchanges of the connections that were judged, and gives the verdicts the numbers
+    of their calls without a reply. Raises `Died` and `OSError`."""
+    kept = Kept(has_values, has_texts)
     states = {verdict.connection: verdict.state for verdict in verdicts}
     for connection in taken.connections:
         state = states.get(connection.number, 'error')
         if state != 'error':
             kept.take(program, connection, state == 'refused')
-    kept.ended = taken.ended
+    kept.begun, kept.ended = taken.begun, taken.ended
     kept.link()
-    return kept
-
-
-def count_unanswered(kept: Kept, verdicts: list[Verdict]) -> None:
-    """Gives the verdicts on connections the numbers of their calls without a reply."""
-    unanswered = Counter(kept.parts[kept.part_of[at]].number
-                         for at, first in enumerate(kept.firsts)
+    unanswered = Counter(kept.parts[kept.part_of[at]].number for at, first in enumerate(kept.firsts)
                          if not first and kept.is_unanswered(at))
     verdicts[:] = [verdict._replace(unanswered=unanswered[verdict.connection or 0])
                    for verdict in verdicts]
+    return kept
+
+
+def not_ok(verdicts: Iterable[Verdict]) -> list[str]:
+    """A line for each row that is not ok."""
+    return [printable(f'{subject_of(verdict)}: {verdict.message}') for verdict in verdicts
+            if is_row(verdict, is_quiet=True)]
 
 
 def tell_notes(verdicts: Sequence[Verdict]) -> None:
@@ -181,24 +206,17 @@ def verdict_notes(verdict: Verdict) -> list[str]:
 
 def continued_recordings(verdicts: Iterable[Verdict]) -> list[str]:
     """Returns two recordings of which one goes on with a connection of the other, if any."""
-    having = dict[frozenset[str], str]()
-    begun_before = list[tuple[frozenset[str], str]]()
+    having, begun_before = dict[str, str](), list[tuple[str, str]]()
     for verdict in verdicts:
-        ends = known_ends(verdict)
-        if not ends or BEGUN_BEFORE not in verdict.lacks and verdict.state != 'left out':
-            having.setdefault(ends, verdict.recording)
+        client, server, covered = verdict.client, verdict.server, verdict.covered
+        # (the ends of a connection that is left out are in the order in which they sent)
+        both = [f'{client} and {server}', f'{server} and {client}'] if client else []
+        if verdict.state == 'left out' and covered.shows_calls or BEGUN_BEFORE in covered.lacks:
+            begun_before.append((covered.ends, verdict.recording))
         else:
-            begun_before.append((ends, verdict.recording))
+            having.update((ends, verdict.recording) for ends in both if ends not in having)
     return next(([having[ends], name] for ends, name in begun_before
                  if having.get(ends, name) != name), [])
-
-
-def known_ends(verdict: Verdict) -> frozenset[str]:
-    """Returns both ends of a connection, none if they are not known."""
-    if verdict.client:
-        return frozenset((verdict.client, verdict.server))
-    found = LEFT_OUT_ENDS.match(verdict.message) if verdict.shows_calls else None
-    return frozenset(found.groups()) if found else frozenset()
 
 
 def subject_of(verdict: Verdict) -> str:
@@ -210,7 +228,7 @@ def is_row(verdict: Verdict, is_quiet: bool = False) -> bool:
     """Whether a verdict has a row: notes have none, nor have connections that show no call. If it
     is to be quiet, what is ok has none either."""
     is_printed = verdict.state != 'ok' or not is_quiet
-    return verdict.state != 'note' and verdict.shows_calls and is_printed
+    return verdict.state != 'note' and verdict.covered.shows_calls and is_printed
 
 
 def sums_of(verdicts: Iterable[Verdict]) -> str:
@@ -224,10 +242,9 @@ def colour_of(verdict: Verdict) -> Colour:
     return Colour.RED if verdict.state in ('refused', 'error') else Colour.YELLOW
 
 
-def verdict_row(verdict: Verdict, screen: Screen = Screen()) -> tuple[str, ...]:
+def verdict_row(verdict: Verdict, message: str, screen: Screen = Screen()) -> tuple[str, ...]:
     numbers = (verdict.connection, verdict.calls, verdict.replies)
     connection, calls, replies = ('-' if number is None else screen.number(number)
                                   for number in numbers)
     return (escaped(verdict.recording), connection, verdict.client or '-', verdict.server or '-',
-            calls, replies,
-            printable(verdict.message))
+            calls, replies, printable(message))

@@ -14,7 +14,6 @@ from ..exchanges.kept import Kept
 from ..exchanges.procedures import (
     CHANGING, COMMIT, CREATE, DONE, LOOKUP, NO_ENTRY, NULL, PATHCONF, REMOVING, RENAME, WRITE,
     is_of_files, names_in_call, owners_in)
-from ..exchanges.stored import LongValues
 from ..exchanges.values import Attributes, Values, attributes, read_call, read_reply
 from .rules import Evidence
 
@@ -148,7 +147,7 @@ class Recorded:
 
     def __init__(self, kept: Kept) -> None:
         self.kept, self.has_frames = kept, 0 not in kept.frames
-        self.values = kept.values or LongValues()
+        self.values = kept.values
         self.insensitive = set[str]()
         self.changes = defaultdict[ObjectKey, list[PossibleChange]](list)
         self.pending, self.senders = set[tuple[str, ...]](), dict[tuple[str, int], str]()

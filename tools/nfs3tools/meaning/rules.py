@@ -14,8 +14,9 @@ SECTIONS = {row[0]: f'3.3.{number}' for number, row in enumerate(NFS_PROCEDURES)
 
 
 class Rule(NamedTuple):
-    """A rule: its name, the procedures or the type of RFC 1813 that it is about, what it says, what
-    may be the cause, and by whom it is broken: `server`, `client`, or nobody (`note`)."""
+    """A rule: its name, the procedure, the group of procedures or the type of RFC 1813 that it is
+    about, what it says, what may be the cause, and by whom it is broken: `server`, `client`, or
+    nobody (`note`)."""
     name: str
     about: str
     sentence: str
@@ -25,16 +26,22 @@ class Rule(NamedTuple):
     @property
     def sections(self) -> str:
         """Its sections, or the name of its type."""
-        return ', '.join(SECTIONS.get(word, word) for word in self.about.split())
+        return ', '.join(SECTIONS.get(word, word) for word in self.subjects)
+
+    @property
+    def subjects(self) -> tuple[str, ...]:
+        return GROUPS_OF_PROCEDURES.get(self.about, (self.about,))
 
     def section(self, procedure: str) -> str:
-        first, *others = self.about.split()
-        word = procedure if procedure in others else first
+        word = procedure if procedure in self.subjects else self.subjects[0]
         return SECTIONS.get(word, word)
 
 
-OF_READING, OF_MAKING = 'READDIR READDIRPLUS', 'CREATE MKDIR SYMLINK MKNOD'
-IN_FOLDERS = f'LOOKUP {OF_MAKING} REMOVE RMDIR RENAME LINK {OF_READING}'
+LISTERS, MAKERS = ('READDIR', 'READDIRPLUS'), ('CREATE', 'MKDIR', 'SYMLINK', 'MKNOD')
+OF_READING, OF_MAKING, IN_FOLDERS = 'listings', 'making', 'in folders'
+GROUPS_OF_PROCEDURES: dict[str, tuple[str, ...]] = {
+    OF_READING: LISTERS, OF_MAKING: MAKERS,
+    IN_FOLDERS: ('LOOKUP', *MAKERS, 'REMOVE', 'RMDIR', 'RENAME', 'LINK', *LISTERS)}
 CACHE = 'A cache of the server is older than the change, or a change came by another way than NFS.'
 OTHER_COUNTS = 'One of the two counts is that of another message, or was not made anew.'
 OLD = 'The reply has attributes of another time or of another object.'

@@ -13,21 +13,24 @@ from html import escape
 from itertools import chain, starmap, zip_longest
 from typing import Optional
 
+from ..comparison.exchanges.explained import RUNS
 from ..comparison.values.classes import mask_text
 from ..comparison.verdict.accepted import Ignored
-from ..comparison.verdict.cover import NotJudged, losses_of
+from ..comparison.verdict.cover import cause_of
 from ..comparison.verdict.decision import Report, compared_in_words
 from ..comparison.verdict.excerpt import (
     SHOWN_AT_MOST, ExcerptConnection, ExcerptRow, HiddenCalls)
-from ..comparison.verdict.findings import RUNS, Compared, Finding, Run
+from ..comparison.verdict.findings import Compared, Finding
 from ..exchanges.in_words import short
 from ..exchanges.listing import Message
+from ..judgement.verdict import Verdict
 from ..recordings.coverage import named_calls
 from ..recordings.parts import files_of
 from ..recordings.selection import count, plural
 from ..reporting import telling
 from ..reporting.frames import frame_time
 from ..shared.places import Place
+from ..shared.printed import escaped
 from . import fields, markup
 from .fields import SIGNS, SIGN_CLASSES
 from .glance import phrases
@@ -57,8 +60,9 @@ def message_pairs(row: ExcerptRow) -> Iterator[tuple[Message | None, Message | N
 # --- The whole ---
 
 def compared_page(content: ComparedContent) -> Iterator[bytes]:
-    word, names = content.report.word(), ' and '.join(run.name for run in content.runs)
-    is_same = word.startswith('same')
+    word = content.report.word()
+    names = ' and '.join(escaped(cover.name) for cover in content.covers)
+    is_same = not content.report.is_different
     look = 'differ' if not is_same else 'part' if content.report.is_in_part else 'same'
     bar = [markup.bar('difference', 'call')] if content.groups else []
     about = markup.folded('about', 'About these runs', facts(content))
@@ -70,24 +74,24 @@ def compared_page(content: ComparedContent) -> Iterator[bytes]:
 
 def head(content: ComparedContent, is_same: bool) -> Iterator[str]:
     """The verdict in words, or what differs in a few phrases, and what is not compared."""
-    # (how the order differs is said below)
-    said = content.line.partition(';')[0] if is_same else ''
+    report = content.report
     found = [] if is_same else phrases(content.compared)
     more = len(found) - PHRASES_AT_MOST
     shown = [*found[:PHRASES_AT_MOST], *(
         [f'<a href=#findings>{count(more, "more difference")}</a>'] if more > 0 else [])]
     if is_same:
-        yield f'<p>{code(said)}</p>'
+        # (how the order differs is said below)
+        words = report.words_of_same()
+        yield f'<p>{code(words[0] if words[1:] else report.lines()[0])}</p>'
     if shown:
         yield f'<p class=glance>{" · ".join(shown)}</p>'
-    losses = losses_of(content.covers, RUNS)
-    if losses not in said:
-        yield f'<p class=part>Compared in part: {escape(losses)}.</p>'
+    if report.losses and not (is_same and not words[1:]):
+        yield f'<p class=part>Compared in part: {escape(report.losses)}.</p>'
 
 
 def facts(content: ComparedContent) -> Iterator[str]:
     """Both runs, how their calls are matched, what is masked, and what else does not count."""
-    yield ''.join(f'<p>{code(line)}</p>' for line in content.line.splitlines())
+    yield ''.join(f'<p>{code(line)}</p>' for line in content.report.lines())
     yield f'<p>{escape(compared_in_words(content.compared))}.</p>'
     # (what neither of them has is not there)
     rows = ((first[0], first[1], second[1])
@@ -103,9 +107,9 @@ def facts(content: ComparedContent) -> Iterator[str]:
 
 def facts_of(content: ComparedContent, at: int) -> Iterator[tuple[str, str, str]]:
     """Iterates over what a run is: a name, what it has, and what that is if it has nothing."""
-    compared, report, cover = content.compared, content.report, content.covers[at]
-    counts, files = cover.counts(), files_of(report.names[at])
-    yield 'name', content.runs[at].name, ''
+    compared, cover = content.compared, content.covers[at]
+    counts, files = cover.counts(), files_of(cover.name)
+    yield 'name', escaped(cover.name), ''
     yield 'file', (count(sum(map(os.path.getsize, files)), 'byte')
                    if all(map(os.path.isfile, files)) else 'size not known'), ''
     for what, frame in zip(('first frame', 'last frame'), cover.taken.ends() or (None, None)):
@@ -125,14 +129,14 @@ def facts_of(content: ComparedContent, at: int) -> Iterator[tuple[str, str, str]
     yield 'calls left out', ', '.join(left_out) or NO_VALUE, NO_VALUE
 
 
-def not_judged_text(row: NotJudged) -> str:
-    number = f'connection {row.connection}: ' if row.connection is not None else ''
-    return f'{number}{row.ends}{": " if row.ends else ""}{row.word}: {row.reason}'
+def not_judged_text(one: Verdict) -> str:
+    number = f'connection {one.connection}' if one.connection is not None else ''
+    return ': '.join(filter(None, [number, one.covered.ends, one.state, cause_of(one)]))
 
 
 def words_of_masks(content: ComparedContent) -> Iterator[tuple[str, str]]:
     """What does not count, as HTML."""
-    yield 'masked', (f'{code(mask_text(content.report.choices.masks[0]).replace(",", ", "))}. '
+    yield 'masked', (f'{code(mask_text(content.report.choices.masks[0], ", "))}. '
                      'Xids, file handles and write verifiers are renamed one to one.')
     if content.compared.silent:
         yield 'left out', ('Calls that only ask, which one run alone has, answers that an order '
@@ -160,20 +164,16 @@ def keys_of(finding: Finding) -> list[tuple[str, str]]:
 
 @dataclass
 class ComparedContent:
-    """What a page is made of: what is printed of the verdict, the report, the comparison, the
-    fields that are left out of it and how often each differs, and both runs. Findings that say the
-    same are one, and have a number from 1 on."""
-    line: str
+    """What a page is made of: the report, the comparison, and the fields that are left out of it
+    with how often each differs. Findings that say the same are one, and have a number from 1 on."""
     report: Report
     compared: Compared
     ignored: Sequence[Ignored]
     left_out: Counter[tuple[str, str]]
-    runs: Sequence[Run]
 
     def __post_init__(self) -> None:
         assert self.compared.beside
         self.covers, self.beside = self.report.covers, self.compared.beside
-        self.framings = [run.frames for run in self.runs]
         self.groups = telling.groups_alike(self.compared.findings)
         self.shown = self.groups[:SHOWN_AT_MOST]
         self.others_at_most = min(OTHERS_AT_MOST, OTHERS_OF_ALL // max(1, len(self.shown)))
@@ -255,9 +255,8 @@ class ComparedContent:
                f'<h3><a href=#f{number}>{number}</a> {self.title(group)}</h3>')
         for at, message in zip(BOTH, (finding.first, finding.second)):
             if message and finding.kind != 'order':
-                framing, parts = self.framings[at], self.covers[at].taken.parts
-                place = (f'{message.place}{telling.frames_text(message, framing)}'
-                         + markup.filters(parts, framing(message)))
+                place = (f'{message.place}{telling.frames_text(message)}'
+                         + markup.filters(self.covers[at].taken.parts, message.frames))
                 yield (f'<div class=place><span class="sign {SIGN_CLASSES[at]}">{SIGNS[at]}</span>'
                        f'<span>{place}</span></div>')
         if finding.remark:
@@ -289,7 +288,7 @@ class ComparedContent:
             ['<ol start=2>'], map(self.other, group[1:1 + self.others_at_most]), [f'</ol>{more}']))
 
     def other(self, finding: Finding) -> str:
-        places = telling.places_text(finding, self.framings)
+        places = telling.places_text(finding)
         path = f'{code(finding.path)}: ' if finding.path else ''
         return f'<li>{path}{self.to_calls(finding, "{}", places, places)}</li>'
 
@@ -300,18 +299,18 @@ class ComparedContent:
 
     def silent(self) -> Iterator[str]:
         """The calls that are left out, by procedures and paths."""
-        lines = list(telling.of_silent(self.compared, self.framings, OTHERS_AT_MOST))
+        lines = list(telling.of_silent(self.compared, OTHERS_AT_MOST))
         if lines:
             yield from markup.section('Left out', markup.paragraphs(lines))
-        notes = list(telling.of_notes(self.compared, self.framings, OTHERS_AT_MOST))
+        notes = list(telling.of_notes(self.compared, OTHERS_AT_MOST))
         if notes:
             yield from markup.section('Notes', markup.paragraphs(notes))
 
     def accepted_ones(self) -> Iterator[str]:
         """How many findings were accepted, and these folded."""
-        lines = list(telling.of_accepted(self.report.found.accepted, self.framings, True))
-        shown = [line for line in lines if line.startswith('accepted: ')]
-        yield from markup.paragraphs(lines[len(shown):], 'accepted')
+        accepted = self.report.found.accepted
+        shown = telling.each_accepted(accepted)
+        yield from markup.paragraphs(telling.of_accepted(accepted), 'accepted')
         if shown:
             yield from markup.folded('others', count(len(shown), 'accepted finding'),
                                      markup.paragraphs(shown[:OTHERS_AT_MOST]))
@@ -348,8 +347,7 @@ class ComparedContent:
         # (the place of a call is short if it is on the connection that is named above)
         places = ' | '.join(
             (f'record {call.record}' if call.connection == number else str(call.place))
-            + telling.frames_text(call, framing)
-            for call, number, framing in zip(calls, own, self.framings) if call)
+            + telling.frames_text(call) for call, number in zip(calls, own) if call)
         yield (f'<details class="row{" told" if mark != "=" else ""}" '
                f'id=r{self.anchors[both_places(*calls)]}>'
                f'<summary><b class=mark>{mark}</b> {next(filter(None, calls)).procedure}'
@@ -374,8 +372,8 @@ class ComparedContent:
     def message(self, first: Message | None, second: Message | None) -> Iterator[str]:
         """A message of both runs: where it is, and its fields."""
         # (the frames of the call are in the line of its row)
-        places = ' | '.join(f'{one.place}{"" if one.is_call else telling.frames_text(one, framing)}'
-                            for one, framing in zip((first, second), self.framings) if one)
+        places = ' | '.join(f'{one.place}{"" if one.is_call else telling.frames_text(one)}'
+                            for one in (first, second) if one)
         what = 'call' if next(filter(None, (first, second))).is_call else 'reply'
         yield f'<h4>{what}: {places}</h4>'
         found = self.found.get(both_places(first, second), ())

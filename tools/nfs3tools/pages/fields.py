@@ -8,7 +8,8 @@ from html import escape
 from itertools import chain, groupby, zip_longest
 
 from ..comparison.values import long_values
-from ..comparison.values.long_values import bytes_of, is_long, spelled_bytes
+from ..comparison.values.long_values import (
+    ELLIPSIS, SomeBytes, bytes_of, is_long, is_quoted, spelled_bytes)
 from ..comparison.verdict.differences import LAST_OF_HEAD, Difference
 from ..comparison.verdict.findings import Finding
 from ..exchanges.listing import Message
@@ -21,7 +22,6 @@ FIELD_CHARACTERS_AT_MOST = 6_000  # characters of a message's fields
 GLUE = '\u00a0'  # a space after a sign at which no line ends
 SIGNS, SIGN_CLASSES = ('-', '+'), ('minus', 'plus')
 OPAQUE = ('data', 'rest')  # items whose values are hexadecimal also if they are short
-ELLIPSIS = '..'
 READABLE = 0.75  # of the bytes of a text, at least
 NO_LETTER = '\u00b7'  # stands for a byte that is none
 LAST_OF_REPLY = 'accept_stat'  # RFC 5531, section 9
@@ -36,7 +36,7 @@ def changed_values(finding: Finding) -> Iterator[str]:
     yield '<div class=change>'
     yield from chain.from_iterable(map(marked_difference,
                                        finding.differences[:DIFFERENCES_AT_MOST]))
-    yield from (signed_line(line[0], escape(line[2:])) for line in arguments)
+    yield from (signed_line(line.sign, escape(line.words)) for line in arguments)
     if more > 0:
         yield f'<div>.. and {more:,} more fields</div>'
     yield '</div>'
@@ -46,11 +46,10 @@ def marked_difference(difference: Difference) -> Iterator[str]:
     """The lines of a difference, with the bytes marked that differ."""
     rows, values = telling.signed_rows(difference), marked_values(difference)
     if len(rows) != len(values):
-        return (signed_line(sign, escape(value + (f'    # {remark}' if remark else '')))
-                for sign, value, remark in rows)
-    return (signed_line(sign, f'{escape(difference.label)}={value}' + (
-        f' <span class=quiet># {escape(remark)}</span>' if remark else ''))
-            for (sign, _, remark), value in zip(rows, values))
+        return (signed_line(row.sign, escape(row.words)) for row in rows)
+    return (signed_line(row.sign, f'{escape(difference.label)}={value}' + (
+        f' <span class=quiet># {escape(row.remark)}</span>' if row.remark else ''))
+            for row, value in zip(rows, values))
 
 
 def signed_line(sign: str, words: str) -> str:
@@ -61,21 +60,19 @@ def signed_line(sign: str, words: str) -> str:
 
 def marked_values(difference: Difference) -> list[str]:
     """Returns both values as HTML, as they are printed, or nothing if they are numbers."""
-    values = difference.apart.shown if difference.apart else (str(difference.first or ''),
-                                                              str(difference.second or ''))
     if difference.is_equal or not has_bytes(difference):
         return []
-    # (some bytes may be left out at the ends)
-    inner = [value.removeprefix(ELLIPSIS).removesuffix(ELLIPSIS) for value in values]
-    pieces, is_text = [*map(bytes_of, inner)], values[0].strip('.').startswith('"')
+    both = difference.apart.shown if difference.apart else tuple(
+        SomeBytes(bytes_of(str(value)), is_quoted(str(value)))
+        for value in (difference.first, difference.second))
+    is_text, pieces = both[0].is_text, [one.content for one in both]
     has_text = not is_text and all(map(is_readable, pieces))
-    both = zip(values, pieces, reversed(pieces))
-    return [ELLIPSIS * value.startswith(ELLIPSIS)
+    return [ELLIPSIS * one.is_cut_before
             + (f'"{marked(own, other, spelled_bytes)}"' if is_text
                else marked(own, other, bytes.hex))
-            + ELLIPSIS * value.endswith(ELLIPSIS)
+            + ELLIPSIS * one.is_cut_after
             + (f' <span class=text>{marked(own, other, letters)}</span>' if has_text else '')
-            for value, own, other in both]
+            for one, own, other in zip(both, pieces, reversed(pieces))]
 
 
 def has_bytes(difference: Difference) -> bool:
@@ -84,7 +81,7 @@ def has_bytes(difference: Difference) -> bool:
     if difference.apart or not all(both):
         return difference.apart is not None
     return difference.name in OPAQUE or all(
-        value is not None and str(value).startswith('"') and not is_long(value) for value in both)
+        value is not None and is_quoted(str(value)) and not is_long(value) for value in both)
 
 
 def is_readable(content: bytes) -> bool:

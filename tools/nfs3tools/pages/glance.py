@@ -10,7 +10,7 @@ from html import escape
 from itertools import chain
 from typing import Any
 
-from ..comparison.verdict.findings import Compared, Finding
+from ..comparison.verdict.findings import ELSEWHERE, Compared, Finding
 from ..exchanges.in_words import short
 from ..recordings.selection import count, plural
 from ..reporting.telling import is_of_equal_values, up_to
@@ -18,7 +18,6 @@ from .markup import code
 
 FIELDS_IN_PHRASE = 3  # of a phrase, and arguments
 LONGEST_SHOWN = 40  # characters of a value
-ELSEWHERE = ' on another connection'
 DATA, ONLY, CONNECTION, FIELDS, REPLIES, ORDER, EQUAL = range(7)  # the order of phrases
 # What is only counted, by the kind of its findings: its order, what it is, and the words after it.
 COUNTED = {'connection': (CONNECTION, 'connection', ' only in the {} run'),
@@ -53,7 +52,7 @@ def common_of(finding: Finding) -> Common:
         return EQUAL, ('message', ' that correspond to others elsewhere')
     if finding.kind in COUNTED:
         order, what, words = COUNTED[finding.kind]
-        return order, (what, ELSEWHERE if ELSEWHERE in finding.remark
+        return order, (what, ' on another connection' if finding.remark == ELSEWHERE
                        else words.format(finding.run))
     return (REPLIES if finding.kind == 'replies' else FIELDS,
             (fields_of_finding(finding), finding.message.is_call))

@@ -14,24 +14,22 @@ from ..captures.explained import tell_record
 from ..captures.located import Within
 from ..exchanges.kept import Kept
 from ..judgement.verdict import (
-    VERDICT_HEADS, Verdict, counts_after, is_row, status_of, subject_of, verdict_notes, verdict_row)
+    COVERED, VERDICT_HEADS, Verdict, counts_after, is_row, status_of, subject_of, verdict_notes,
+    verdict_row)
 from ..recordings.coverage import Allowed, Counts, named_calls
 from ..recordings.parts import Part
 from ..recordings.selection import count, plural
 from ..recordings.taken import Taken
-from ..shared.places import NoPlace, Place, parse_place
+from ..shared.places import NoPlace, Place
 from ..shared.printed import escaped, printable
-from ..shared.screens import Styled
 from . import markup
 from .markup import class_of
 from .time_line import FORMS, TimeLine, of_time_line, time_line_of
 
 # How words of verdicts look: good, judged in part, at fault.
 GOOD, PARTIAL, BAD = 'plus', 'part', 'minus'
-LOOKS = {'ok': GOOD, 'in part': PARTIAL, 'left out': PARTIAL, 'not checked': PARTIAL,
-         'refused': BAD, 'error': BAD}
-LOOKS_OF_COUNTS = (('in part', PARTIAL), ('left out', PARTIAL), ('not checked', PARTIAL),
-                   ('errors', BAD))
+LOOKS = {'ok': GOOD, **dict.fromkeys(COVERED, PARTIAL), 'refused': BAD, 'error': BAD}
+LOOKS_OF_COUNTS = (*((word, PARTIAL) for word in COVERED), ('errors', BAD))
 FAULTS_IN_RECORDING, FAULTS_OF_EACH = 500, 200  # on a page, and of a recording
 LINES_AT_MOST = 200  # of a message
 
@@ -60,7 +58,7 @@ def seen_in(kept: Kept, taken: Taken, recording: str, verdicts: list[Verdict]) -
     """Returns what is shown of a recording, by the exchanges of its connections."""
     refused = [verdict for verdict in verdicts if verdict.state == 'refused']
     faults = [explained_fault(taken, verdict) for verdict in refused[:FAULTS_OF_EACH]]
-    return Seen(recording, verdicts, faults, time_line_of(kept, taken.begun), tuple(taken.parts))
+    return Seen(recording, verdicts, faults, time_line_of(kept), tuple(taken.parts))
 
 
 class ShownTable(NamedTuple):
@@ -168,14 +166,6 @@ def of_table(table: ShownTable, level: str) -> str:
     return ''.join(chain(title, shown, folded if table.valid else ()))
 
 
-def as_printed(title: str, rows: Sequence[Styled], numbers: Container[int]) -> ShownTable:
-    """Returns a table of rows that are printed, that of the heads first. The columns of these
-    numbers are set to the right, and the last one is folded."""
-    heads, *others = (row.cells for row in rows)
-    return ShownTable(title, heads,
-                      [row_of_cells(cells, numbers, look='folded') for cells in others])
-
-
 def row_of_cells(cells: Sequence[str], numbers: Container[int], heads: Sequence[str] = (),
                  look: str = '', link: str = '') -> str:
     """A row of a table, the last of whose cells has a look, or leads somewhere. Cells that are
@@ -196,8 +186,7 @@ def table_of(seen: Sequence[Seen]) -> ShownTable:
 
     def rows(some: Iterable[Verdict]) -> list[str]:
         # (a verdict is green only if calls were checked)
-        return [row_of_cells(verdict_row(verdict._replace(message=said_of(verdict))), range(4, 6),
-                             VERDICT_HEADS,
+        return [row_of_cells(verdict_row(verdict, said_of(verdict)), range(4, 6), VERDICT_HEADS,
                              '' if verdict.state == 'ok' and is_raw(verdict)
                              else LOOKS[verdict.state], links.get(id(verdict), ''))
                 for verdict in some]
@@ -214,10 +203,8 @@ def is_raw(verdict: Verdict) -> bool:
 
 def said_of(verdict: Verdict) -> str:
     """Returns the words of a verdict. Nothing in part, or not checked, is called ok."""
-    if verdict.state == 'in part':
-        return verdict.message.removeprefix('ok ')
     if verdict.state != 'ok':
-        return verdict.message
+        return verdict.told
     raw = f'{named_calls(verdict.raw)} raw' if verdict.raw else ''
     return '; '.join(filter(None, ['' if is_raw(verdict) else 'ok', raw])) or 'no calls'
 
@@ -229,13 +216,13 @@ def numbered_faults(seen: Sequence[Seen]) -> list[tuple[int, ExplainedFault, See
 
 def explained_fault(taken: Taken, verdict: Verdict) -> ExplainedFault:
     item, message, within = FirstLines(), FirstLines(), Within(taken.spool, None, taken)
+    fault = verdict.fault
     with contextlib.suppress(NoPlace):
-        place = parse_place(f'connection {verdict.connection} {verdict.position}')
-        if isinstance(place, Place):
-            found = within.record(place)
-            tell_record(found, place, verdict.reason, item.take)
-            if place.byte is not None:
-                tell_record(found, place._replace(byte=None), None, message.take)
+        if fault and isinstance(fault.place, Place):
+            found = within.record(fault.place)
+            tell_record(found, fault.place, fault.reason, item.take)
+            if fault.place.byte is not None:
+                tell_record(found, fault.place._replace(byte=None), None, message.take)
     return ExplainedFault(verdict, item.all(), message.all())
 
 

@@ -143,33 +143,34 @@ def ticks(end: int) -> Iterator[int]:
     return iter(range(0, end + 1, step * factor))
 
 
-def time_line_of(kept: Kept, begun: int, window: TimeWindow = ALL) -> TimeLine:
+def time_line_of(kept: Kept, window: TimeWindow = ALL) -> TimeLine:
     """Returns the time line of the calls of a window that have a time: all of them if they are few,
     or else the errors, those without a reply, and the slowest of each column."""
     own = [at for at in range(len(kept)) if window.has(kept.times[at])]
     timed = [at for at in own if kept.times[at]]
-    end = max((kept.times[at] for at in timed), default=begun) - begun
+    end = max((kept.times[at] for at in timed), default=kept.begun) - kept.begun
     errors = [at for at in timed if kept.exchange(at).is_error]
     chosen = {*timed} if len(timed) <= DOTS_AT_MOST else {
         *errors[:ERRORS_AT_MOST], *filter(kept.is_unanswered, timed),
-        *slowest(kept, timed, begun, end)}
-    return TimeLine([dot_of(kept.exchange(at), begun) for at in sorted(chosen)], end, len(own),
+        *slowest(kept, timed, end)}
+    return TimeLine([dot_of(kept.exchange(at)) for at in sorted(chosen)], end, len(own),
                     sum(at not in chosen for at in errors), len(own) - len(timed))
 
 
-def slowest(kept: Kept, timed: Sequence[int], begun: int, end: int) -> Iterable[int]:
+def slowest(kept: Kept, timed: Sequence[int], end: int) -> Iterable[int]:
     """Returns the call with the longest latency of each column, the first of several."""
     found = dict[int, int]()
     for at in timed:
-        column = (kept.times[at] - begun) * PIXEL_COLUMNS // (end + 1)
+        column = (kept.times[at] - kept.begun) * PIXEL_COLUMNS // (end + 1)
         if kept.latency(at) > kept.latency(found.setdefault(column, at)):
             found[column] = at
     return found.values()
 
 
-def dot_of(one: KeptExchange, begun: int) -> Dot:
+def dot_of(one: KeptExchange) -> Dot:
     call, answer = (words if len(words) <= WORDS_AT_MOST else f'{words[:WORDS_AT_MOST]}..'
-                    for words in (' '.join(call_text(one).split()), one.answer))
+                    for words in (call_text(one), one.answer))
     latency = 'no latency' if one.latency is None else f'{milliseconds(one.latency)} ms'
     where = f'connection {one.part.number} client record {one.record}, frame {one.frame}'
-    return Dot(one.time - begun, one.latency, one.is_error, f'{call}: {answer}; {where}, {latency}')
+    return Dot(one.time - one.kept.begun, one.latency, one.is_error,
+               f'{call}: {answer}; {where}, {latency}')

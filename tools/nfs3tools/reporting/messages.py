@@ -2,6 +2,7 @@
 from __future__ import annotations
 
 import argparse
+import functools
 import os
 import re
 import shlex
@@ -33,6 +34,15 @@ OPTION = re.compile(r' \[-[^]]*\]')  # in a usage
 STATUS_TEXT = 'The status is 0'  # begins what is said of it
 WITHOUT_VALUE = re.compile(r'argument (\S+): expected one argument')
 PAGES = Path(__file__).resolve().parents[2] / 'man'
+
+
+def command_of(module: str, name: str,
+               main: typing.Callable[[list[str]], int]) -> typing.Callable[[], int]:
+    """Returns what runs a tool, or runs it at once if Python was asked to run its module."""
+    command = functools.partial(run, name, main)
+    if module == '__main__':
+        sys.exit(command())
+    return command
 
 
 def run(name: str, main: typing.Callable[[list[str]], int]) -> int:

@@ -10,6 +10,12 @@ from collections.abc import Iterable, Mapping, Sequence
 Rows = Iterable[Sequence[object]]
 
 
+def json_members(members: Mapping[str, object]) -> str:
+    """The members of an object, one below the other, as JSON has them within its braces."""
+    return ',\n'.join(f' {json.dumps(name)}: ' + json.dumps(value, indent=1).replace('\n', '\n ')
+                      for name, value in members.items())
+
+
 class JsonRows:
     """An object with the version of its form, a list of a line for each row, and members."""
 
@@ -23,7 +29,7 @@ class JsonRows:
             self.before = ','
 
     def end(self, members: Mapping[str, object]) -> None:
-        sys.stdout.write(f'\n],{json.dumps(members, indent=1)[1:]}\n')
+        sys.stdout.write(f'\n],\n{json_members(members)}\n}}\n')
 
 
 class CsvRows:

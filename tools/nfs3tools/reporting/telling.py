@@ -3,26 +3,26 @@ from __future__ import annotations
 
 import json
 from collections import Counter, defaultdict
-from collections.abc import Iterable, Iterator, Sequence
+from collections.abc import Callable, Iterable, Iterator, Sequence
 from itertools import chain
-from typing import Any
+from typing import Any, NamedTuple, Union
 
+from ..comparison.exchanges.explained import RUNS
 from ..comparison.values import long_values
 from ..comparison.values.classes import Mask
 from ..comparison.verdict.accepted import Split, entry_text
-from ..comparison.verdict.cover import Cover
-from ..comparison.verdict.decision import Report
+from ..comparison.verdict.cover import Cover, cause_of
+from ..comparison.verdict.decision import WHY_LEFT_OUT, Report
 from ..comparison.verdict.differences import Difference
-from ..comparison.verdict.findings import RUNS, Compared, Finding, Framing
+from ..comparison.verdict.findings import Compared, Finding
 from ..exchanges.in_words import short
 from ..exchanges.listing import Message
 from ..exchanges.stored import Long, Value
 from ..shared.printed import escaped, printable
 from .junit import Suite
+from .rows import json_members
 
 OF_CONNECTIONS = ('order', 'connection')  # kinds of findings
-# Why calls of both runs are left out.
-WHY_LEFT_OUT = {'explained': 'explained by order', 'sent again': 'sent again'}
 LONGEST_VALUE, LONGEST_NAME = 128, 1024  # characters, as the listing spells them
 LONGEST_LIST = 4  # frames
 FIELDS_AT_MOST = 12
@@ -41,41 +41,52 @@ def shortened(value: Value) -> str:
     """Returns a value as it is printed alone. Handles and names are whole."""
     if isinstance(value, Long):
         return f'{value.shown(LONGEST_VALUE)}.. ({2 * value.size} characters)'
-    most = LONGEST_NAME if value.startswith('"') else LONGEST_VALUE
+    most = LONGEST_NAME if long_values.is_quoted(value) else LONGEST_VALUE
     return value if len(value) <= most else f'{value[:most]}.. ({len(value)} characters)'
 
 
-def frames_text(message: Message | None, framing: Framing) -> str:
+def frames_text(message: Message) -> str:
     """Returns the numbers of the frames that carry a message, or nothing of a capture."""
-    numbers: Sequence[int] = framing(message) if message else []
+    numbers = message.frames
     if not numbers:
         return ''
     some = ', '.join(str(number) for number in numbers[:LONGEST_LIST])
     return f' (frame {some}{" .." if len(numbers) > LONGEST_LIST else ""})'
 
 
-def signed_rows(difference: Difference) -> list[tuple[str, str, str]]:
-    """The values of both runs: of each its sign, as `diff` has it, the value after its label, and a
-    remark, which only the last one has. A value that is equal in both runs is one."""
+class SignedLine(NamedTuple):
+    """A value after its label, its sign, as `diff` has it, `=` for both runs, and a remark."""
+    text: str
+    sign: str
+    remark: str = ''
+
+    @property
+    def words(self) -> str:
+        return self.text + (f'    # {self.remark}' if self.remark else '')
+
+    def __str__(self) -> str:
+        return f'  {self.sign} {self.words}'
+
+
+PrintedLine = Union[str, SignedLine]
+
+
+def signed_rows(difference: Difference) -> list[SignedLine]:
+    """The values of both runs, of which the last one has a remark. A value that is equal in both
+    runs is one."""
     signs = [('=', 0)] if difference.is_equal else [
         (sign, run) for run, sign in enumerate('-+')
         if (difference.first, difference.second)[run] is not None]
     apart = [long_values.parting_in_words(difference.apart)] if difference.apart else []
     remark = '; '.join(filter(None, [*apart, difference.remark]))
-    return [(sign, f'{difference.label}={value_of(difference, run)}',
-             remark if (sign, run) == signs[-1] else '') for sign, run in signs]
-
-
-def difference_lines(difference: Difference) -> Iterator[str]:
-    """Two lines, as `diff` has them, and a remark; one line of a value that is equal in both."""
-    return (f'  {sign} {value}' + (f'    # {remark}' if remark else '')
-            for sign, value, remark in signed_rows(difference))
+    return [SignedLine(f'{difference.label}={value_of(difference, run)}', sign,
+                       remark if (sign, run) == signs[-1] else '') for sign, run in signs]
 
 
 def value_of(difference: Difference, number: int) -> str:
     """Returns a value as it is printed, with its name: that of the first run, 0, or the second."""
     if difference.apart:
-        return difference.apart.shown[number]
+        return str(difference.apart.shown[number])
     return value_with_meaning(difference.name, (difference.first, difference.second)[number] or '',
                               difference.meanings[number])
 
@@ -87,10 +98,10 @@ def value_with_meaning(name: str, value: Value, meaning: str) -> str:
     return shortened(value) + (f' ({meaning})' if meaning else '')
 
 
-def of_arguments(finding: Finding) -> list[str]:
+def of_arguments(finding: Finding) -> list[SignedLine]:
     """Returns the arguments of a call that one run alone has, but for those that its path names."""
     sign = '+' if finding.first is None else '-'
-    return [f'{sign} {one.label}={value_with_meaning(one.name, one.value, one.meaning)}'
+    return [SignedLine(f'{one.label}={value_with_meaning(one.name, one.value, one.meaning)}', sign)
             for one in (finding.beside_path if finding.path is not None else finding.arguments)]
 
 
@@ -130,14 +141,14 @@ def is_summed(findings: Sequence[Finding]) -> bool:
     return len(findings) > 1 and is_of_equal_values(findings[0])
 
 
-def messages_text(findings: Sequence[Finding]) -> str:
-    """Which messages they are, several by their number."""
+def messages_text(findings: Sequence[Finding], of_call: str = ' call') -> str:
+    """Which messages they are, several by their number. `of_call` is after the name of a call."""
     message, number = findings[0].message, len(findings)
     if is_summed(findings):
         return (f'{number:,} messages have values that are equal in both runs, '
                 'and that correspond to others elsewhere')
     if number == 1:
-        return f'{message.procedure} {"call" if message.is_call else "reply"}'
+        return f'{message.procedure}{of_call if message.is_call else " reply"}'
     return f'{number:,} {"calls" if message.is_call else "replies"} of {message.procedure}'
 
 
@@ -147,12 +158,12 @@ def only_in(finding: Finding) -> str:
     return '' if is_of_both else f'only in the {finding.run} run: '
 
 
-def group_heading(findings: Sequence[Finding], framings: Sequence[Framing]) -> str:
+def group_heading(findings: Sequence[Finding]) -> str:
     """Which messages they are, and the places of the first in both runs."""
     finding, paths = findings[0], {finding.path for finding in findings}
     if finding.kind in OF_CONNECTIONS:
         return f'{only_in(finding)}connection {finding.message.connection}'
-    what, known = messages_text(findings).removesuffix(' call'), len(paths - {None})
+    what, known = messages_text(findings, ''), len(paths - {None})
     path = f' {finding.path}' if finding.path else ''
     if is_summed(findings):
         what += ', first'
@@ -160,21 +171,21 @@ def group_heading(findings: Sequence[Finding], framings: Sequence[Framing]) -> s
         what += path + ', first' * (len(findings) > 1)
     else:
         what += f' on {known:,} paths' * (known > 1) + f', first{path}'
-    return f'{only_in(finding)}{what}: {places_text(finding, framings)}'
+    return f'{only_in(finding)}{what}: {places_text(finding)}'
 
 
-def of_group(findings: Sequence[Finding], framings: Sequence[Framing]) -> Iterator[str]:
+def of_group(findings: Sequence[Finding]) -> Iterator[PrintedLine]:
     if is_summed(findings):
-        yield brief_of(findings, framings)
+        yield brief_of(findings)
         return
-    yield group_heading(findings, framings)
+    yield group_heading(findings)
     if findings[0].remark:
         yield f'  {findings[0].remark}'
-    yield from chain.from_iterable(map(difference_lines, findings[0].differences))
-    yield from (f'  {line}' for line in of_arguments(findings[0]))
+    yield from chain.from_iterable(map(signed_rows, findings[0].differences))
+    yield from of_arguments(findings[0])
 
 
-def brief_of(findings: Sequence[Finding], framings: Sequence[Framing]) -> str:
+def brief_of(findings: Sequence[Finding]) -> str:
     """One line for findings that say the same."""
     finding = findings[0]
     if is_summed(findings):
@@ -182,67 +193,70 @@ def brief_of(findings: Sequence[Finding], framings: Sequence[Framing]) -> str:
         said = [fields_text(fields.most_common(FIELDS_AT_MOST))]
     else:
         said = [*filter(None, [finding.remark]), *map(brief_difference, finding.differences),
-                *(line.replace(' ', '', 1) for line in of_arguments(finding))]
-    return ': '.join(filter(None, [group_heading(findings, framings), '; '.join(said)]))
+                *(f'{line.sign}{line.text}' for line in of_arguments(finding))]
+    return ': '.join(filter(None, [group_heading(findings), '; '.join(said)]))
 
 
 def brief_difference(difference: Difference) -> str:
     """A difference in a part of a line. An item of one run alone has its sign, and no remark."""
-    *before, (sign, value, remark) = signed_rows(difference)
-    if sign == '=':
-        words = f'{value} in both runs'
+    *before, last = signed_rows(difference)
+    if last.sign == '=':
+        words = f'{last.text} in both runs'
     elif before:
-        words = f'{before[0][1]} -> {value_of(difference, 1)}'
+        words = f'{before[0].text} -> {value_of(difference, 1)}'
     else:
-        return sign + value
-    return f'{words} ({remark})' if remark else words
+        return last.sign + last.text
+    return f'{words} ({last.remark})' if last.remark else words
 
 
-def of_silent(compared: Compared, framings: Sequence[Framing], most: int | None) -> Iterator[str]:
+def of_silent(compared: Compared, most: int | None) -> Iterator[str]:
     """The calls that are left out, by procedures and paths, up to `most`, or each by itself."""
     groups = defaultdict[object, list[Finding]](list)
     for number, call in enumerate(compared.silent):
         key = call.kind, call.first is None, call.message.procedure, call.path
         groups[number if most is None else key].append(call)
-    for some in list(groups.values())[:most]:
-        yield silent_line(some, framings)
-    if most is not None and len(groups) > most:
-        yield f'.. and {len(groups) - most:,} more left out (--all prints them)'
+    return first_of([*groups.values()], most, silent_line, ' left out')
 
 
-def silent_line(some: Sequence[Finding], framings: Sequence[Framing]) -> str:
+def first_of(several: Sequence[Any], most: int | None, line_of_one: Callable[[Any], str],
+             what: str) -> Iterator[str]:
+    """Iterates over lines of several, up to `most`, and how many more there are."""
+    yield from map(line_of_one, several[:most])
+    if most is not None and len(several) > most:
+        yield f'.. and {len(several) - most:,} more{what} (--all prints them)'
+
+
+def silent_line(some: Sequence[Finding]) -> str:
     call, path = some[0], f' {some[0].path}' if some[0].path else ''
     whom = '' if call.first and call.second else f' of the {call.run} run'
     kind = f', {WHY_LEFT_OUT[call.kind]}' if call.kind in WHY_LEFT_OUT else ''
     why = f', {"by " * (call.kind == "explained")}{call.remark}' if call.remark else ''
     return (f'left out{whom}: {len(some):,} {call.message.procedure}{path}{kind}'
-            f'{", first" * (len(some) > 1)}: {places_text(call, framings)}{why}')
+            f'{", first" * (len(some) > 1)}: {places_text(call)}{why}')
 
 
-def of_notes(compared: Compared, framings: Sequence[Framing], most: int | None) -> Iterator[str]:
+def of_notes(compared: Compared, most: int | None) -> Iterator[str]:
     """The pairs whose answers are equal and which their run does not allow, up to `most`."""
-    for one in compared.noted[:most]:
-        yield (f'note: {one.message.procedure}{f" {one.path}" if one.path else ""}, equal in both '
-               f'runs: {places_text(one, framings)}, {one.remark}')
-    if most is not None and len(compared.noted) > most:
-        yield f'.. and {len(compared.noted) - most:,} more notes (--all prints them)'
+    return first_of(compared.noted, most, lambda one: (
+        f'note: {one.message.procedure}{f" {one.path}" if one.path else ""}, equal in both runs: '
+        f'{places_text(one)}, {one.remark}'), ' notes')
 
 
-def places_text(one: Finding, framings: Sequence[Framing]) -> str:
+def places_text(one: Finding) -> str:
     """Returns the places of messages in both runs, with their frames."""
-    return ' | '.join(f'{message.place}{frames_text(message, framing)}'
-                      for message, framing in zip((one.first, one.second), framings) if message)
+    return ' | '.join(f'{message.place}{frames_text(message)}' for message in one.messages)
 
 
-def of_compared(compared: Compared, framings: Sequence[Framing], most: int | None,
-                left_out: Counter[tuple[str, str]], is_brief: bool = False) -> Iterator[str]:
+def of_compared(compared: Compared, most: int | None,
+                left_out: Counter[tuple[str, str]],
+                is_brief: bool = False) -> Iterator[PrintedLine]:
     """The findings, those together that say the same, up to `most` of such groups, or each by
     itself, and each in a line if that is asked for. Then which fields differ how often, and which
     were left out."""
     groups = [[finding]
               for finding in compared.findings] if most is None else groups_alike(compared.findings)
     for group in groups[:most]:
-        yield from [brief_of(group, framings)] if is_brief else of_group(group, framings)
+        yield from [brief_of(group)] if is_brief else of_group(group)
     if most is not None and len(groups) > most:
         yield f'.. and {len(groups) - most:,} more (--all prints them)'
     fields = compared.fields()
@@ -257,16 +271,17 @@ def of_compared(compared: Compared, framings: Sequence[Framing], most: int | Non
                'only which messages share a value, or empty connections, can')
 
 
-def of_accepted(accepted: Split | None, framings: Sequence[Framing],
-                is_all: bool) -> Iterator[str]:
-    """How many findings were accepted, each in a line if all are asked for, and which entries fit
-    none any more. Nothing if there is no file of them."""
-    if accepted is None:
-        return
-    if is_all:
-        yield from (f'accepted: {brief_of([one], framings)}' for one in accepted.findings)
-    yield f'{len(accepted.findings):,} accepted'
-    yield from (f'no longer found: {entry_text(entry)}' for entry in accepted.no_longer_found)
+def each_accepted(accepted: Split | None) -> list[str]:
+    """A line for each finding that was accepted."""
+    return [f'accepted: {brief_of([one])}'
+            for one in (accepted.findings if accepted else ())]
+
+
+def of_accepted(accepted: Split | None) -> list[str]:
+    """How many findings were accepted, and which entries fit none any more. Nothing if there is no
+    file of them."""
+    return [] if accepted is None else [f'{len(accepted.findings):,} accepted', *(
+        f'no longer found: {entry_text(entry)}' for entry in accepted.no_longer_found)]
 
 
 def fields_text(fields: Iterable[tuple[tuple[str, str], int]]) -> str:
@@ -280,43 +295,42 @@ def up_to(most: int, some: Sequence[str], comma: str = ', ') -> str:
 
 # --- JSON ---
 
-def json_of_comparison(report: Report, compared: Compared, left_out: Counter[tuple[str, str]],
-                       framings: Sequence[Framing]) -> Iterator[bytes]:
+def json_of_comparison(report: Report, compared: Compared,
+                       left_out: Counter[tuple[str, str]]) -> Iterator[bytes]:
     """The comparison, in pieces: an object, each of whose findings is a line."""
-    found, runs = report.found, zip(report.names, report.covers, compared.lonely,
-                                    compared.left_out)
+    found, runs = report.found, zip(report.covers, compared.lonely, compared.left_out)
     head = {
-        'version': REPORT_VERSION, 'verdict': report.word(),
-        'position': report.place or None,
+        'version': REPORT_VERSION, 'verdict': report.word(), 'position': report.place or None,
         'mask': ways_by_class(report.choices.masks[0]),
         'same_under': found.same_under and ways_by_class(found.same_under),
-        'runs': [{'name': escaped(name), **cover_members(cover), 'only': only,
-                  'left_out': dict(left)} for name, cover, only, left in runs],
+        'runs': [{**cover_members(cover), 'only': only, 'left_out': dict(left)}
+                 for cover, only, left in runs],
         'order': {'together': compared.exchanges, 'calls': compared.moved, 'replies': compared.late,
                   'connections': compared.late_connections,
                   'on_another_connection': compared.elsewhere},
         'fields': field_counts(compared.fields()), 'ignored': field_counts(left_out),
-        'left_out': [{'procedure': one.message.procedure, 'path': one.path,
-                      **both_positions(one, framings), 'kind': one.kind, 'why': one.remark or None}
+        'left_out': [{**asked_members(one), 'kind': one.kind, 'why': one.remark or None}
                       for one in compared.silent],
-        **({'noted': [{'procedure': one.message.procedure, 'path': one.path,
-                       **both_positions(one, framings), 'why': one.remark}
-                      for one in compared.noted]} if compared.noted else {}),
+        **({'noted': [{**asked_members(one), 'why': one.remark} for one in compared.noted]}
+           if compared.noted else {}),
         'accepted': found.accepted and {
             'count': len(found.accepted.findings),
-            'findings': [of_finding(one, framings) for one in found.accepted.findings],
+            'findings': [of_finding(one) for one in found.accepted.findings],
             'no_longer_found': found.accepted.no_longer_found}}
-    yield json.dumps(head, indent=1).removesuffix('\n}').encode() + b',\n "findings": ['
+    yield f'{{\n{json_members(head)},\n "findings": ['.encode()
     for number, one in enumerate(compared.findings):
         yield b',\n  ' if number else b'\n  '
-        yield json.dumps(of_finding(one, framings)).encode()
+        yield json.dumps(of_finding(one)).encode()
     yield b'\n ]\n}\n'
 
 
 def cover_members(cover: Cover) -> dict[str, Any]:
     """How much of a run is compared: size, missing bytes, counts, and what is not judged whole."""
-    return {**cover.size._asdict(), 'missing': cover.missing, 'counts': cover.counts().members(),
-            'not_judged': [{**row._asdict(), 'ends': row.ends or None} for row in cover.rows()]}
+    return {'name': escaped(cover.name), **cover.size._asdict(), 'missing': cover.missing,
+            'counts': cover.counts().members(),
+            'not_judged': [{'word': one.state, 'connection': one.connection,
+                            'ends': one.covered.ends or None, 'reason': cause_of(one)}
+                           for one in cover.rows()]}
 
 
 def ways_by_class(mask: Mask) -> dict[str, str]:
@@ -328,18 +342,22 @@ def field_counts(fields: Counter[tuple[str, str]]) -> list[dict[str, Any]]:
             for (procedure, field), number in fields.most_common()]
 
 
-def of_finding(finding: Finding, framings: Sequence[Framing]) -> dict[str, Any]:
+def of_finding(finding: Finding) -> dict[str, Any]:
     message = finding.message
     return {'kind': finding.kind, 'procedure': message.procedure, 'is_call': message.is_call,
-            'path': finding.path, **both_positions(finding, framings), 'remark': finding.remark,
+            'path': finding.path, **both_positions(finding), 'remark': finding.remark,
             'differences': [difference_object(one) for one in finding.differences],
             'arguments': [{'label': one.label, 'value': short_value(one.value),
                            'name': one.meaning or None} for one in finding.arguments]}
 
 
-def both_positions(one: Finding, framings: Sequence[Framing]) -> dict[str, Any]:
-    return {run: message and {'position': str(message.place), 'frames': list(framing(message))}
-            for run, message, framing in zip(RUNS, (one.first, one.second), framings)}
+def asked_members(one: Finding) -> dict[str, Any]:
+    return {'procedure': one.message.procedure, 'path': one.path, **both_positions(one)}
+
+
+def both_positions(one: Finding) -> dict[str, Any]:
+    return {run: message and {'position': str(message.place), 'frames': [*message.frames]}
+            for run, message in zip(RUNS, (one.first, one.second))}
 
 
 def difference_object(difference: Difference) -> dict[str, Any]:
@@ -347,7 +365,7 @@ def difference_object(difference: Difference) -> dict[str, Any]:
     both, apart = (difference.first, difference.second), difference.apart
     parting = apart and {
         'at': apart.at, 'offset': apart.offset, 'differing': apart.differing,
-        'sizes': apart.sizes, 'shown': apart.shown,
+        'sizes': apart.sizes, 'shown': [*map(str, apart.shown)],
         'sha256': [value.digest if isinstance(value, Long) else None for value in both]}
     return {'field': difference.field, 'label': difference.label,
             **dict(zip(RUNS, map(short_value, both))),
@@ -372,14 +390,14 @@ class Cases:
             if cover.faults():
                 self.add(f'the {run} run is valid', 'error', '; '.join(cover.faults()))
 
-    def add(self, given: str, tag: str | None = None, message: str = '', text: Iterable[str] = (),
-            **attributes: str) -> None:
+    def add(self, given: str, tag: str | None = None, message: str = '',
+            text: Iterable[object] = (), **attributes: str) -> None:
         """Adds a case, which passed if there is no tag. Equal names are numbered."""
         name = printable(given)
         self.number_of[name] += 1
         name += f' ({self.number_of[name]})' if self.number_of[name] > 1 else ''
-        self.suite.add(self.about, name, tag, printable(message), '\n'.join(map(printable, text)),
-                       attributes)
+        lines = '\n'.join(printable(str(line)) for line in text)
+        self.suite.add(self.about, name, tag, printable(message), lines, attributes)
 
     def written(self) -> bytes:
         return self.suite.written(('failures', 'errors', 'skipped', 'tests'))
@@ -396,25 +414,23 @@ def properties_of(covers: Sequence[Cover], accepted: Split | None) -> Iterator[t
         yield 'no longer found', len(accepted.no_longer_found)
 
 
-def junit_of_comparison(line: str, report: Report, compared: Compared, framings: Sequence[Framing],
-                        is_good: bool) -> bytes:
+def junit_of_comparison(report: Report, compared: Compared, is_good: bool) -> bytes:
     """The verdict as a case, which passed if it is good, and else each finding as one that failed.
     Findings that say the same are one. The counts are properties, and each run of which a part is
     refused has a case with an error."""
-    groups = [] if is_good else groups_alike(compared.findings)
-    cases = Cases(report.names, report.covers, report.found.accepted)
+    groups, line = [] if is_good else groups_alike(compared.findings), '; '.join(report.lines())
+    accepted = report.found.accepted
+    cases = Cases([cover.name for cover in report.covers], report.covers, accepted)
     more = len(groups) - CASES_AT_MOST
-    silent = [*of_accepted(report.found.accepted, framings, True),
-              *of_silent(compared, framings, CASES_AT_MOST),
-              *of_notes(compared, framings, CASES_AT_MOST)]
+    silent = [*each_accepted(accepted), *of_accepted(accepted),
+              *of_silent(compared, CASES_AT_MOST), *of_notes(compared, CASES_AT_MOST)]
     if is_good:
         cases.add('the runs are the same', text=[line, *silent])
     else:
         untold = [f'{more:,} more findings have no case'] * (more > 0)
         cases.add('the runs are the same', 'failure', line, [*untold, *silent], type=report.word())
     for group in groups[:CASES_AT_MOST]:
-        cases.add(case_name(group), 'failure', brief_of(group, framings),
-                  of_group(group, framings), type=group[0].kind)
+        cases.add(case_name(group), 'failure', brief_of(group), of_group(group), type=group[0].kind)
     return cases.written()
 
 

@@ -3,6 +3,8 @@ names of the listing."""
 from __future__ import annotations
 
 import contextlib
+import functools
+import re
 from collections.abc import Callable, Iterable, Iterator, Mapping
 from typing import NamedTuple, Protocol
 
@@ -20,6 +22,7 @@ ERRORS_OF_MOUNT = (1, 2, 5, 13, 20, 22, 63, 10004, 10006)
 NFSSTAT = {0: 'NFS3_OK'} | {number: f'NFS3ERR_{name}' for number, name in ERRORS.items()}
 MOUNTSTAT = {0: 'MNT3_OK'} | {number: f'MNT3ERR_{ERRORS[number]}' for number in ERRORS_OF_MOUNT}
 BOOL = {0: 'FALSE', 1: 'TRUE'}
+TYPES_OF_FILES = dict(enumerate(('REG', 'DIR', 'BLK', 'CHR', 'LNK', 'SOCK', 'FIFO'), 1))
 
 # The values that a word may have, by the name of the item.
 VALUES = {
@@ -35,8 +38,7 @@ VALUES = {
         'AUTH_FAILED', 'AUTH_KERB_GENERIC', 'AUTH_TIMEEXPIRE', 'AUTH_TKT_FILE', 'AUTH_DECODE',
         'AUTH_NET_ADDR',
         'RPCSEC_GSS_CREDPROBLEM', 'RPCSEC_GSS_CTXPROBLEM'))),
-    'type': dict(enumerate(('NF3REG', 'NF3DIR', 'NF3BLK', 'NF3CHR', 'NF3LNK', 'NF3SOCK',
-                            'NF3FIFO'), 1)),
+    'type': {number: f'NF3{name}' for number, name in TYPES_OF_FILES.items()},
     'stable': {0: 'UNSTABLE', 1: 'DATA_SYNC', 2: 'FILE_SYNC'},
     'how': {0: 'UNCHECKED', 1: 'GUARDED', 2: 'EXCLUSIVE'},
     'set_atime': {0: 'DONT_CHANGE', 1: 'SET_TO_SERVER_TIME', 2: 'SET_TO_CLIENT_TIME'},
@@ -52,17 +54,18 @@ BITS = {
 }
 
 # A part is a list of items: `w` a word, `e` one of the words above, `b` a bool, `h` a number of
-# eight bytes, `x` eight bytes, `o` opaque data, `t` a string (both with their maximum), `fh` a
-# handle, `opt` a bool and a part, `list` parts each after the word 1, `count` a number of parts,
+# eight bytes, `x` eight bytes, `o` opaque data, `t` a string (both with their maximum), `opt` a
+# bool and a part, `list` parts each after the word 1, `count` a number of parts,
 # `case` a word and the part that goes with it, `sized` a number of bytes and a part that takes as
 # many; any other word is a part. `NAME@` before an item says whose it is, or which of several, for
 # those who name items so.
+ITEM_OF_LAYOUT = re.compile(r'(?:([\w-]+)@)?(?:([a-z]+)(\d*):)?(\w*)(?:=(\S+))?(?: |$)')
 PARTS = {
     'atime': 'w:atime_sec w:atime_nsec', 'mtime': 'w:mtime_sec w:mtime_nsec',
     'ctime': 'w:ctime_sec w:ctime_nsec',
     'fattr3': 'e:type w:mode w:nlink w:uid w:gid h:size h:used w:rdev1 w:rdev2 h:fsid h:fileid '
               'atime mtime ctime',
-    'poa': 'opt:attr=fattr3', 'wcc_attr': 'h:size mtime ctime',
+    'fh': 'o64:fh', 'poa': 'opt:attr=fattr3', 'wcc_attr': 'h:size mtime ctime',
     'wcc': 'opt:before=before@wcc_attr after@poa', 'pofh': 'opt:handle=fh',
     'sattr3': 'opt:set_mode=set@w:mode opt:set_uid=set@w:uid opt:set_gid=set@w:gid '
               'opt:set_size=set@h:size case:set_atime=2:set@atime case:set_mtime=2:set@mtime',
@@ -122,8 +125,11 @@ MOUNT_PROCEDURES = [
 
 
 class Procedure(NamedTuple):
-    """The layouts of one procedure. Results are `done`, or a status and `done` or `failed`."""
+    """The layouts of one procedure. Results are `done`, or a status and `done` or `failed`. It is
+    known by its last name to those who type it, as `WRITE`, and by its short one to others."""
     name: str
+    short: str
+    last: str
     arguments: str
     done: str
     failed: str = ''
@@ -133,14 +139,14 @@ class Procedure(NamedTuple):
 def procedures() -> Iterator[tuple[tuple[int, int], Procedure]]:
     """Yields those that have a type, with program and number. The version of both is 3."""
     for number, (name, arguments, done, failed) in enumerate(NFS_PROCEDURES):
-        yield (NFS, number), Procedure('NFSPROC3_' + name, arguments, done, failed,
+        yield (NFS, number), Procedure('NFSPROC3_' + name, name, name, arguments, done, failed,
                                        NFSSTAT if number else None)
     for number, (name, arguments, done) in enumerate(MOUNT_PROCEDURES):
-        yield (MOUNT, number), Procedure('MOUNTPROC3_' + name, arguments, done, '',
-                                         MOUNTSTAT if name == 'MNT' else None)
+        yield (MOUNT, number), Procedure('MOUNTPROC3_' + name, 'MOUNT ' + name, name, arguments,
+                                         done, '', MOUNTSTAT if name == 'MNT' else None)
 
 
-RAW = Procedure('RAW', 'rest', 'rest')
+RAW = Procedure('RAW', 'RAW', 'RAW', 'rest', 'rest')
 BY_NUMBER = dict(procedures())
 BY_NAME = {procedure.name: procedure for procedure in [*BY_NUMBER.values(), RAW]}
 
@@ -167,6 +173,24 @@ def bits_of(word: int, names: Mapping[int, str]) -> list[str]:
     return [name for bit, name in names.items() if word & bit] + [f'0x{rest:x}'] * bool(rest)
 
 
+class LayoutItem(NamedTuple):
+    """An item of a layout: whose it is or '', its kind, '' of a part, its maximum, its name, and
+    what is in it."""
+    owner: str
+    kind: str
+    most: int
+    name: str
+    inner: str
+
+
+@functools.cache
+def layout_items(layout: str) -> tuple[LayoutItem, ...]:
+    """Reads a list of items, as PARTS has them."""
+    return tuple(LayoutItem(owner, kind, int(most or 0xffffffff), name, inner)
+                 for owner, kind, most, name, inner in ITEM_OF_LAYOUT.findall(layout) if name)
+
+
+NO_OWNER = contextlib.nullcontext()
 # Writes the bytes of an item as a text.
 Spell = Callable[[bytes], str]
 
@@ -202,7 +226,7 @@ class Walk:
 
     def whose(self, name: str, number: int = 0) -> contextlib.AbstractContextManager[None]:
         """Says whose the items inside are: a name, or of a list, with a number from 1 on."""
-        return contextlib.nullcontext()
+        return NO_OWNER
 
     def message(self, is_call: bool) -> None:
         """The items after the xid, of a reply only if its procedure is known."""
@@ -211,36 +235,20 @@ class Walk:
             self.part('call' if is_call else 'reply')
 
     def part(self, layout: str) -> None:
-        for item in PARTS.get(layout, layout).split():
-            self.item(*item.partition('=')[::2])
-
-    def item(self, item: str, inner: str) -> None:
-        owner, _, item = item.rpartition('@')
-        kind, colon, name = item.partition(':')
-        if owner:
-            with self.whose(owner):
-                self.item(item, inner)
-        elif colon:
-            self.of_kind(kind.rstrip('0123456789'), name,
-                         int(kind.lstrip('abcdefghijklmnopqrstuvwxyz') or 0xffffffff), inner)
-        else:
-            self.other(item)
+        for item in layout_items(PARTS.get(layout, layout)):
+            with self.whose(item.owner) if item.owner else NO_OWNER:
+                if item.kind:
+                    self.of_kind(item.kind, item.name, item.most, item.inner)
+                else:
+                    self.other(item.name)
 
     def of_kind(self, kind: str, name: str, most: int, inner: str) -> None:
-        if kind == 'w':
-            self.word(name)
-        elif kind == 'e':
-            self.word(name, VALUES[name])
-        elif kind == 'b':
-            self.word(name, BOOL)
-        elif kind == 'h':
-            self.fixed(name, 'any number of eight bytes', number)
-        elif kind == 'x':
-            self.fixed(name, 'any eight bytes', bytes.hex)
-        elif kind == 't':
-            self.variable(name, most, repr)
-        elif kind == 'o':
-            self.variable(name, most, bytes.hex)
+        if kind in ('w', 'e', 'b'):
+            self.word(name, VALUES[name] if kind == 'e' else BOOL if kind == 'b' else None)
+        elif kind in ('h', 'x'):
+            self.fixed(name, *EIGHT_BYTES[kind])
+        elif kind in ('t', 'o'):
+            self.variable(name, most, SPELLED[kind])
         else:
             self.branch(kind, name, most, inner)
 
@@ -259,16 +267,14 @@ class Walk:
 
     def numbered(self, name: str, turns: Iterable[object], inner: str) -> None:
         for number, _ in enumerate(turns, 1):
-            with self.whose(name, number) if name else contextlib.nullcontext():
+            with self.whose(name, number) if name else NO_OWNER:
                 self.part(inner)
 
     def sized(self, size: int, inner: str) -> None:
         self.part(inner)
 
     def other(self, item: str) -> None:
-        if item == 'fh':
-            self.variable('fh', 64, bytes.hex)
-        elif item == 'rest':
+        if item == 'rest':
             self.remaining('rest')
         elif item == 'arguments':
             self.part(self.procedure.arguments if self.procedure else '')
@@ -382,3 +388,9 @@ class BodyReader(Walk):
 
 def number(piece: bytes) -> str:
     return str(int.from_bytes(piece, 'big')) if piece else ''
+
+
+# What may be in eight bytes, by the kind of an item, and how they are spelled.
+EIGHT_BYTES: Mapping[str, tuple[str, Spell]] = {
+    'h': ('any number of eight bytes', number), 'x': ('any eight bytes', bytes.hex)}
+SPELLED: Mapping[str, Spell] = {'t': repr, 'o': bytes.hex}

@@ -45,6 +45,9 @@ class FramePlace(typing.NamedTuple):
         return f'frame {self.frame}'
 
 
+AnyPlace = typing.Union[Place, FilePlace, FramePlace]
+
+
 class Fault(typing.NamedTuple):
     """What `check` prints of a capture that it refuses."""
     place: Place | FilePlace
@@ -63,7 +66,7 @@ FRAME = re.compile(r'frame (\d{1,18})')
 EXAMPLE = "as in 'connection 1 server record 7 byte 24'"
 
 
-def parse_place(text: str) -> Place | FilePlace | FramePlace:
+def parse_place(text: str) -> AnyPlace:
     """Reads a position from a line of `check`, `same` or `show`, a call as tools/calls prints it
     (`7:3182`), or a frame. Of several lines the first that is one counts. Before and after it only
     what these print there may be. Raises `NoPlace` if there is none."""

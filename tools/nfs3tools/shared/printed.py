@@ -2,8 +2,6 @@
 own."""
 from __future__ import annotations
 
-from collections.abc import Container, Iterator, Sequence
-
 
 def escaped(name: str) -> str:
     """Returns the name of a file as nfs3canon prints it: a control character, a backslash, and a
@@ -19,13 +17,3 @@ def printable(text: str) -> str:
 
 def hexadecimal(letter: str) -> str:
     return ''.join(f'\\x{byte:02x}' for byte in letter.encode(errors='surrogateescape'))
-
-
-def columns(rows: Sequence[Sequence[str]], right: Container[int] = ()) -> Iterator[str]:
-    """Returns the lines of a table, whose first row has the heads. The columns of these numbers are
-    set to the right, the last one is left as it is."""
-    widths = [max(map(len, column)) for column in zip(*rows)][:-1]
-    for row in rows:
-        cells = (cell.rjust(width) if number in right else cell.ljust(width)
-                 for number, (cell, width) in enumerate(zip(row, widths)))
-        yield '  '.join([*cells, row[-1]])

@@ -5,6 +5,7 @@ import contextlib
 import functools
 import io
 import pathlib
+import re
 import shutil
 import signal
 import subprocess
@@ -18,6 +19,7 @@ from .version import TOP
 # How the programs answer: by which status, and how standard output begins then.
 CHECKED, COMPARED, MASKED = {0: 'ok ', 2: ''}, {0: 'same\n', 1: 'differ at '}, {0: 'ok '}
 COMMANDS = ('check', 'same', 'show')
+CHECKED_COUNTS = re.compile(r'ok connections=(\d+) calls=(\d+) replies=(\d+) handles=\d+\n')
 PIPE_SIZE = 1 << 16  # of Linux
 NOT_FOUND = ('nfs3canon is missing: it is neither beside the tools nor on the PATH; '
              '`make install` in a clone of nfs3canon installs it')
@@ -37,6 +39,12 @@ class Answer(typing.NamedTuple):
     status: int
     out: str
     error: str
+
+
+def checked_counts(answer: Answer) -> tuple[int, ...]:
+    """Returns how many connections, calls and replies `check` counts, or nothing after a fault."""
+    found = CHECKED_COUNTS.fullmatch(answer.out)
+    return tuple(map(int, found.groups())) if found else ()
 
 
 def program_path(named: str | None = None) -> str:
@@ -84,8 +92,7 @@ def run_program(program: str, words: list[str], expected: typing.Mapping[int, st
     return expected_of([program, *words], answer, expected)
 
 
-def expected_of(command: list[str], answer: Answer,
-                expected: typing.Mapping[int, str]) -> Answer:
+def expected_of(command: list[str], answer: Answer, expected: typing.Mapping[int, str]) -> Answer:
     """Returns an answer. Raises `Died` if it is none that is expected."""
     if answer.status not in expected or not answer.out.startswith(expected[answer.status]):
         raise died(command, answer.status, answer.error)

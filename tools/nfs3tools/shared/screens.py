@@ -13,7 +13,6 @@ import sys
 from collections.abc import Container, Iterator, Sequence
 from typing import NamedTuple
 
-from .printed import columns
 
 
 class Colour(enum.Enum):
@@ -80,9 +79,13 @@ class Styled(NamedTuple):
 
 def table_lines(rows: Sequence[Styled], screen: Screen, right: Container[int] = (),
                 is_cut: bool = False) -> Iterator[str]:
-    """Returns the lines of a table. On a terminal they may be cut at its width."""
-    heads = columns([[*row.cells[:-1], ''] for row in rows], right)
+    """Returns the lines of a table, whose first row has the heads. The columns of these numbers are
+    set to the right, the last one is left as it is. On a terminal lines may be cut at its width."""
+    widths = [max(map(len, column)) for column in zip(*(row.cells for row in rows))][:-1]
     width = screen.width if is_cut else None
-    for head, row in zip(heads, rows):
+    for row in rows:
+        cells = (cell.rjust(wide) if number in right else cell.ljust(wide)
+                 for number, (cell, wide) in enumerate(zip(row.cells, widths)))
+        head = '  '.join([*cells, ''])
         yield head[:width] + screen.painted(row.cells[-1][:width and max(0, width - len(head))],
                                             row.colour)

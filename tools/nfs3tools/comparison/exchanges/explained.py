@@ -22,7 +22,7 @@ from ...exchanges.procedures import (
     ACCESS, BEFORE, DONE, LISTINGS, LOOKUP, NO_ENTRY, STEADY, is_of_files, owners_in,
     statements_of_entry)
 from ...exchanges.timelines import SaidValues
-from ...exchanges.values import Values
+from ...exchanges.values import Values, owned
 from ...recordings.taken import Taken
 from ..values.classes import CLASSES, Mask, Way
 from .facts import Change, ChangesOfKey, Facts, Turns, is_quiet
@@ -38,7 +38,7 @@ FOLLOWING_ITEMS = {'fileid': 'ids', 'fsid': 'fsids', 'cookie': 'cookies',
 NOT_KNOWN, NOT_ALLOWED = (
     'not known: no recorded change and no other answer of the {} run says what it was',
     'the recorded changes and the other answers of the {} run do not allow it')
-RUN_WORDS = ('first', 'second')
+RUNS = ('first', 'second')
 FEW, SHARE = 10, 10  # so many calls of a procedure, or one of so many
 EntryKey = object  # the name of an entry, or the object of one whose name is masked
 Question = tuple[str, int, tuple[str, ...]]  # the procedure, the object, and the name
@@ -54,7 +54,7 @@ def free_items(mask: Mask) -> frozenset[str]:
     masked = {name for one in CLASSES for name in one.items if mask.get(one.name) is Way.ZERO
               and not one.is_of_changes and not one.has_names}
     # (a time is one value)
-    return frozenset(name.removesuffix('_sec') for name in masked) | {
+    return frozenset(masked) | {time for time in TIMES_OF_FILES if f'{time}_sec' in masked} | {
         name for name, way in FOLLOWING_ITEMS.items() if way in mask}
 
 
@@ -78,11 +78,11 @@ class Reply:
 
     def claim(self, label: str, value: Any, own: object) -> Claim | None:
         """Returns what an item of the reply, or of an entry of an object, says of a history."""
-        owner, _, item = label.rpartition('.')
-        own = self.owners.get(owner.partition('.')[0], own)
+        owners, item = owned(label)
+        own = self.owners.get(owners[0], own) if owners else own
         kept = (TIMES_ITEM if item in TIMES_OF_FILES else
                 item if item in KEPT_ITEMS or item in LASTING_ITEMS else '')
-        return Claim((own, kept), value, f'{owner}.'.endswith(BEFORE)) if (
+        return Claim((own, kept), value, owners[-1:] == (BEFORE,)) if (
             kept and own is not None) else None
 
     def object_in(self, entry: Values) -> object:
@@ -116,7 +116,7 @@ class OrderRule:
                                  for own, at in runs):
             raise Unexplained
         first, second = (Reply(own, run, at) for run, (own, at) in enumerate(runs))
-        if first.head.partition(' status=')[0] != second.head.partition(' status=')[0]:
+        if first.head != second.head:
             raise Unexplained
         # (both ask from the beginning of a folder, or neither does)
         if len({reply.one.call.get('cookie') == 0 for reply in (first, second)}) > 1:
@@ -150,7 +150,7 @@ class OrderRule:
         is_allowed = self.allows(reply.run, reply.at, claim)
         if not is_allowed:
             why = NOT_KNOWN if is_allowed is None else NOT_ALLOWED
-            raise Unexplained(f'{label}: {why.format(RUN_WORDS[reply.run])}')
+            raise Unexplained(f'{label}: {why.format(RUNS[reply.run])}')
 
     def allows(self, run: int, at: int, claim: Claim) -> bool | None:
         """Returns whether a run allows what an answer says. Before all changes of a name it leads
@@ -173,7 +173,7 @@ class OrderRule:
         for label in (label for label in first if label != 'entries'):
             one, other = (reply.shared(its[label]) if label == 'fh' else its[label]
                           for reply, its in zip(both, values))
-            if one != other and label.rpartition('.')[2] not in self.free:
+            if one != other and owned(label).name not in self.free:
                 yield self.of_claims(both, label, [reply.claim(label, its[label], own)
                                                    for reply, its in zip(both, values)])
 
@@ -198,7 +198,8 @@ class OrderRule:
                 if claim.key[0] == found_in(reply):
                     self.check(reply, claim, f'obj.{claim.key[1]}')
         yield from self.of_values(both, [
-            {label: value for label, value in reply.reply.items() if label.startswith('dir.')}
+            {label: value for label, value in reply.reply.items()
+             if owned(label).owners[:1] == ('dir',)}
             for reply in both])
 
     # --- Folders ---
@@ -215,7 +216,7 @@ class OrderRule:
         for reply in both:
             wrong = self.wrong_names(reply)
             if wrong:
-                raise Unexplained(f'{wrong} in the {RUN_WORDS[reply.run]} run')
+                raise Unexplained(f'{wrong} in the {RUNS[reply.run]} run')
         common = [[key for key in own if key in others and self.has_a_place(first, key)]
                   for own, others in zip(entries, reversed(entries))]
         if common[0] != common[1]:
@@ -290,7 +291,7 @@ class OrderRule:
                          if self.allows(run, at, Claim(key, one.value)) is False]
                 if wrong:
                     label = 'name' if key[1][0] == '/' else key[1]
-                    yield pair, f'{label}: {NOT_ALLOWED.format(RUN_WORDS[wrong[0]])}'
+                    yield pair, f'{label}: {NOT_ALLOWED.format(RUNS[wrong[0]])}'
 
     def wrong_answer(self, run: int, at: int) -> str:
         """Returns why an answer is not all allowed by its run, or nothing."""

@@ -240,7 +240,9 @@ class Facts:
         text = self.values.cut(line.text)
         head = REPLY_STATUS.match(text) if line.procedure != RAW.name else None
         status, reply = read_reply(line.procedure, text, self.values) if head else (None, {})
-        self.messages[at].append((head[0] if head else text, self.carried_out(at, status, reply)))
+        # (up to the status)
+        begin = text[:head.end(1) if head[1] else head.end()] if head else text
+        self.messages[at].append((begin, self.carried_out(at, status, reply)))
 
     def carried_out(self, at: int, status: int | None, reply: Values) -> CarriedOut:
         procedure, turns = self.outlines.procedure_of(at), self.turns

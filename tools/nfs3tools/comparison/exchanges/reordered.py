@@ -123,8 +123,7 @@ class WrittenStream:
 
 
 def write_in_order(taken: Taken, exchanges: Iterable[Numbered], left_out: Iterable[Numbered],
-                   path: str,
-                   writer: type[Rewriting] = Rewriting) -> None:
+                   path: str, writer: type[Rewriting] = Rewriting) -> None:
     """Writes the exchanges of a run, which are iterated over twice, as a temporary capture. With
     those that are left out they are all of it: raises `WrongOrder` if not, and `OSError`."""
     rewriting = writer(taken, exchanges)

@@ -47,62 +47,58 @@ class ValueClass:
         return self.form is None or self.form.fullmatch(value) is not None
 
 
-def names(text: str) -> frozenset[str]:
-    return frozenset(text.split())
-
-
 CLASSES = (
-    ValueClass('times', names('atime_sec atime_nsec mtime_sec mtime_nsec ctime_sec ctime_nsec'),
-               Way.ZERO, True,
+    ValueClass('times', frozenset(f'{time}_{part}' for time in ('atime', 'mtime', 'ctime')
+                                  for part in ('sec', 'nsec')), Way.ZERO, True,
                'times of files, in attributes, guards and settings'),
-    ValueClass('stamps', names('stamp'), Way.ZERO, True, 'stamps of AUTH_SYS credentials'),
-    ValueClass('machines', names('machinename hostname'), Way.ZERO, True,
+    ValueClass('stamps', frozenset(('stamp',)), Way.ZERO, True, 'stamps of AUTH_SYS credentials'),
+    ValueClass('machines', frozenset(('machinename', 'hostname')), Way.ZERO, True,
                'names of machines in AUTH_SYS credentials, and of hosts in replies to DUMP',
                has_names=True),
-    ValueClass('space', names('tbytes fbytes abytes tfiles ffiles afiles invarsec used'), Way.ZERO,
-               True,
+    ValueClass('space', frozenset(('tbytes', 'fbytes', 'abytes', 'tfiles', 'ffiles', 'afiles',
+                                   'invarsec', 'used')), Way.ZERO, True,
                'counts of free space, and the space that a file uses'),
-    ValueClass('ids', names('fileid'), Way.NUMBER, True, 'file ids'),
-    ValueClass('fsids', names('fsid'), Way.NUMBER, True, 'file system ids'),
-    ValueClass('cookies', names('cookie'), Way.NUMBER, True, 'cookies of directories',
+    ValueClass('ids', frozenset(('fileid',)), Way.NUMBER, True, 'file ids'),
+    ValueClass('fsids', frozenset(('fsid',)), Way.NUMBER, True, 'file system ids'),
+    ValueClass('cookies', frozenset(('cookie',)), Way.NUMBER, True, 'cookies of directories',
                keeps_zero=True),
-    ValueClass('cookieverfs', names('cookieverf'), Way.NUMBER, True, 'cookie verifiers',
+    ValueClass('cookieverfs', frozenset(('cookieverf',)), Way.NUMBER, True, 'cookie verifiers',
                keeps_zero=True),
-    ValueClass('createverfs', names('createverf'), Way.NUMBER, True,
+    ValueClass('createverfs', frozenset(('createverf',)), Way.NUMBER, True,
                'verifiers of exclusive creates'),
-    ValueClass('owners', names('uid gid group'), Way.NUMBER, False,
+    ValueClass('owners', frozenset(('uid', 'gid', 'group')), Way.NUMBER, False,
                'users and groups, in credentials and attributes',
-               only_in_calls=names('group')),
-    ValueClass('wcc', names('size nlink'), Way.ZERO, False,
+               only_in_calls=frozenset(('group',))),
+    ValueClass('wcc', frozenset(('size', 'nlink')), Way.ZERO, False,
                'sizes and counts of links, in replies, that others may change meanwhile',
                is_of_changes=True),
-    ValueClass('sillynames', names('name'), Way.ZERO, True,
+    ValueClass('sillynames', frozenset(('name',)), Way.ZERO, True,
                'names that Linux clients give to removed files that are open: .nfs and 24 digits',
                form=re.compile(r'"\.nfs[0-9a-f]{24}"'), has_names=True),
-    ValueClass('raw', names('rest'), Way.ZERO, False,
+    ValueClass('raw', frozenset(('rest',)), Way.ZERO, False,
                'bodies of messages of other programs and versions, whose lengths stay',
-               is_raw=True),
-)
+               is_raw=True))
 HANDLES, VERIFIERS = 'handles', 'write verifiers'
 RENAMED = {'fh': HANDLES, 'verf': VERIFIERS}  # by the names of items
 CLASSES_BY_NAME = {one.name: one for one in CLASSES}
 
 Mask = dict[str, Way]
+# A word of `--mask`: its sign, its name, and its way, or nothing in their places.
+MASK_WORD = re.compile(r'(?=[^,])([+-]?)[+-]*([^,=]*)=?([^,]*)')
 
 
 def default_mask() -> Mask:
     return {one.name: one.way for one in CLASSES if one.is_default}
 
 
-def changed_mask(mask: Mask, word: str) -> Mask:
+def changed_mask(mask: Mask, sign: str, name: str, way: str) -> Mask:
     """Returns a mask with a class added (`+NAME`), removed (`-NAME`) or masked so (`NAME=zero`)."""
-    name, _, way = word.lstrip('+-').partition('=')
     if name not in CLASSES_BY_NAME:
         raise argparse.ArgumentTypeError(
             f'no class of values: {name} (there are {", ".join(CLASSES_BY_NAME)})')
     if way and way not in ('zero', 'number'):
         raise argparse.ArgumentTypeError(f'{name} is masked as zero or number, not as {way}')
-    if word.startswith('-'):
+    if sign == '-':
         return {kept: how for kept, how in mask.items() if kept != name}
     one = CLASSES_BY_NAME[name]
     if way == 'number' and one.is_raw:
@@ -112,10 +108,10 @@ def changed_mask(mask: Mask, word: str) -> Mask:
 
 def mask_of(text: str) -> Mask:
     """Reads the word of `--mask`. Words with `+` or `-` change the default mask."""
-    words = [word for word in text.split(',') if word and word != 'none']
-    mask = default_mask() if words and all(word[0] in '+-' for word in words) else {}
+    words = [word for word in MASK_WORD.findall(text) if word != ('', 'none', '')]
+    mask = default_mask() if words and all(sign for sign, *_ in words) else {}
     for word in words:
-        mask = changed_mask(mask, word)
+        mask = changed_mask(mask, *word)
     return mask
 
 
@@ -144,10 +140,8 @@ def in_any_order(text: str | None, has_raw: bool = False) -> list[Mask]:
 
 def named_in(text: str | None) -> frozenset[str] | None:
     """Returns the classes that `--mask` changes, or None if it is the whole mask."""
-    words = [] if text is None else [word for word in text.split(',') if word]
-    if not all(word[0] in '+-' for word in words):
-        return None
-    return frozenset(word.lstrip('+-').partition('=')[0] for word in words)
+    words = MASK_WORD.findall(text or '')
+    return frozenset(name for _, name, _ in words) if all(sign for sign, *_ in words) else None
 
 
 def following(text: str | None) -> frozenset[str]:
@@ -156,6 +150,6 @@ def following(text: str | None) -> frozenset[str]:
     return frozenset() if named is None else FOLLOWING_CLASSES - named
 
 
-def mask_text(mask: Mask) -> str:
+def mask_text(mask: Mask, comma: str = ',') -> str:
     """Returns the mask as `--mask` takes it."""
-    return ','.join(f'{name}={way.value}' for name, way in mask.items()) or 'none'
+    return comma.join(f'{name}={way.value}' for name, way in mask.items()) or 'none'

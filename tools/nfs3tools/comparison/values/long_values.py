@@ -8,13 +8,31 @@ from typing import NamedTuple
 from ...exchanges.stored import Long, Value
 
 LONG_TEXT = 60  # characters of a value, as the listing spells it
+ELLIPSIS = '..'  # means more bytes
 SHOWN = 16  # bytes of each value, round the first that differs
 COMPARED_AT_ONCE = 1 << 16  # bytes that are compared
 ESCAPED = re.compile(r'\\x([0-9a-f]{2})')
 
 
+class SomeBytes(NamedTuple):
+    """Bytes of a value: of a name, which is printed as it is listed, or of another one, which is
+    digits, perhaps in two parts; and whether the value goes on before them, and after them."""
+    content: bytes
+    is_text: bool
+    part: int = 0
+    is_cut_before: bool = False
+    is_cut_after: bool = False
+
+    def __str__(self) -> str:
+        content, part = self.content, self.part
+        gap = ' ' if 0 < part < len(content) else ''
+        told = (f'"{spelled_bytes(content)}"' if self.is_text
+                else f'{content[:part].hex()}{gap}{content[part:].hex()}')
+        return f'{ELLIPSIS * self.is_cut_before}{told}{ELLIPSIS * self.is_cut_after}'
+
+
 class Parting(NamedTuple):
-    """Two values that differ, with some bytes round the first that does, as they are printed.
+    """Two values that differ, with some bytes round the first that does.
 
     at: this byte from 0, or the size of a value with which the other begins
     offset: its place in the file, of data of a file
@@ -25,7 +43,12 @@ class Parting(NamedTuple):
     offset: int | None
     differing: int
     sizes: tuple[int, int]
-    shown: tuple[str, str]
+    shown: tuple[SomeBytes, SomeBytes]
+
+
+def is_quoted(value: str) -> bool:
+    """Whether a value of a listing is a string, and no digits."""
+    return value.startswith('"')
 
 
 def is_long(value: Value) -> bool:
@@ -34,7 +57,7 @@ def is_long(value: Value) -> bool:
 
 def bytes_of(value: str) -> bytes:
     """Returns the bytes of a value that is not stored."""
-    if value.startswith('"'):
+    if is_quoted(value):
         return ESCAPED.sub(lambda found: chr(int(found[1], 16)), value[1:-1]).encode('latin-1')
     return bytes.fromhex(value)
 
@@ -54,7 +77,7 @@ def parting_between(first: Value, second: Value, offset: int | None = None) -> P
         first_of_piece, number = parting(one[piece], other[piece])
         at = min(at, begin + first_of_piece) if number else at
         differing += number
-    is_text = str(first).startswith('"')
+    is_text = is_quoted(str(first))
     return Parting(at, None if offset is None else offset + at, differing, (len(one), len(other)),
                    (bytes_around(one, at, is_text), bytes_around(other, at, is_text)))
 
@@ -67,15 +90,11 @@ def parting(one: bytes, other: bytes) -> tuple[int, int]:
     return len(one) - len(bits.lstrip(b'\0')), len(one) - bits.count(0)
 
 
-def bytes_around(content: bytes | Long, at: int, is_text: bool) -> str:
-    """Returns the bytes round a place: a name as it is listed, others in two parts of digits."""
+def bytes_around(content: bytes | Long, at: int, is_text: bool) -> SomeBytes:
+    """Returns the bytes round a place."""
     begin = max(0, at - SHOWN // 2)
-    piece, before, after = (content[begin:begin + SHOWN], '..' * (begin > 0),
-                            '..' * (begin + SHOWN < len(content)))
-    if is_text:
-        return f'{before}"{spelled_bytes(piece)}"{after}'
-    gap = ' ' if begin < at < begin + len(piece) else ''
-    return f'{before}{piece[:at - begin].hex()}{gap}{piece[at - begin:].hex()}{after}'
+    return SomeBytes(content[begin:begin + SHOWN], is_text, at - begin, begin > 0,
+                     begin + SHOWN < len(content))
 
 
 def spelled_bytes(content: bytes) -> str:

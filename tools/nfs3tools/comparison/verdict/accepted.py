@@ -17,9 +17,10 @@ from typing import Any, NamedTuple
 from ...exchanges.whose import ANY, fields_of
 from ...shared.layouts import BY_NAME
 from ...shared.printed import escaped, printable
+from ..exchanges.explained import RUNS
 from ..values.classes import CLASSES, RENAMED, Mask, Way
 from .differences import Difference
-from .findings import RUNS, Compared, Finding
+from .findings import Compared, Finding
 
 ACCEPTED_VERSION = 2  # of the form of the file
 # Findings that are stated by their kind: calls in another place, sent again, and other numbers of
@@ -49,7 +50,7 @@ class Accepted:
         for number, entry in enumerate(entries):
             self.by_path[key_of(entry.get('path', ANY))].append(number)
 
-    def split(self, compared: Compared) -> tuple[Compared, Split]:
+    def divide(self, compared: Compared) -> tuple[Compared, Split]:
         """Returns what is left of a comparison, and what was accepted of it. A finding of which
         some fields are accepted is in both, with its own fields in each."""
         left, taken, uses = list[Finding](), list[Finding](), Counter[int]()
@@ -199,10 +200,11 @@ MEMBERS: dict[str, Callable[[Any], bool]] = {
 
 def file_of(findings: Iterable[Finding], mask: Mask) -> bytes:
     """Returns a file that accepts findings. Equal entries are one, which says how often."""
-    lines = Counter(json.dumps(entry) for finding in findings
-                    for entry in entries_of(finding, mask))
-    entries = ','.join('\n  ' + (line if number == 1 else f'{line[:-1]}, "times": {number}}}')
-                       for line, number in lines.items())
+    every = [entry for finding in findings for entry in entries_of(finding, mask)]
+    often, own = Counter(map(json.dumps, every)), {json.dumps(entry): entry for entry in every}
+    entries = ','.join(
+        '\n  ' + (line if number == 1 else json.dumps({**own[line], 'times': number}))
+        for line, number in often.items())
     return f'{{"version": {ACCEPTED_VERSION}, "accepted": [{entries}\n]}}\n'.encode()
 
 

@@ -15,19 +15,19 @@ from ...exchanges.in_words import short
 from ...exchanges.listing import Line, line_of
 from ...recordings.coverage import Allowed
 from ...recordings.selection import count
-from ...recordings.taken import Taken
-from ...shared.printed import escaped
-from ..exchanges.explained import Explanation, explanation_of
+from ..exchanges.explained import RUNS, Explanation, explanation_of
 from ..exchanges.followed import Followed, with_values
 from ..exchanges.outlines import Outlines, classes_of_items, renamed_values
 from ..exchanges.pairing import ASKING, Listing, Pairing
 from ..values.classes import CLASSES, Mask, Way
 from .accepted import Accepted, Split
 from .cover import Cover
-from .findings import RUNS, Compared, Explaining, Finding, Run, replies
+from .findings import Compared, Explaining, Finding, Run, replies
 from .trial import Trial
 
 FIELDS_IN_SUMMARY = 4
+# Why calls of both runs are left out.
+WHY_LEFT_OUT = {'explained': 'explained by order', 'sent again': 'sent again'}
 IN_ANOTHER_ORDER, BUT_IDS, BUT_LEFT_OUT = (
     'same in another order', 'same but for ids', 'same but for calls left out')
 Order = Optional[Literal['strict', 'any']]
@@ -105,7 +105,7 @@ class Orders:
         found = replace(found, whole=found.compared if found.same_under is None else None)
         if self.choices.accepted is None:
             return found
-        compared, accepted = self.choices.accepted.split(found.compared)
+        compared, accepted = self.choices.accepted.divide(found.compared)
         is_all = bool(accepted.findings) and not compared.findings and found.same_under is None
         found = replace(found, compared=compared, accepted=accepted)
         return self.with_rest(found, accepted.findings) if is_all else found
@@ -186,7 +186,7 @@ class Orders:
         (first, second), trial = self.runs, self.trial
         values = Followed(self.all_paired, trial.canonical(trial.captures), classes).values
         self.trial = trial.with_second(with_values(trial.runs[1], values))
-        self.runs = first, replace(second, listing=self.trial.listing(self.trial.captures[1]))
+        self.runs = first, replace(second, listing=self.trial.listing(1, self.trial.captures[1]))
         self.take(self.all_paired, self.explanation)
 
     def is_same(self, mask: Mask) -> bool:
@@ -291,11 +291,10 @@ class ListedInPlace(TwoListings):
 @dataclass(frozen=True)
 class Report:
     """What is said of two runs: where they differ, or nothing if the program calls them the same,
-    and what was found as it was asked for; of both their names, and how much is compared."""
+    what was found as it was asked for, and how much of both is compared."""
     place: str
     found: Outcome
     choices: Choices
-    names: Sequence[str]
     covers: Sequence[Cover]
 
     @property
@@ -313,44 +312,53 @@ class Report:
         """Whether the runs differ in any order."""
         return bool(self.place) and self.found.same_under is None
 
+    @property
+    def losses(self) -> str:
+        """What of both runs is not compared, in words."""
+        return ', '.join(words for run, cover in zip(RUNS, self.covers)
+                         for words in cover.lacking(run))
+
     def word(self) -> str:
         if self.is_different:
             return 'differ'
         return word_of(self.found) + ' in part' * self.is_in_part
 
-    def line(self, losses: str = '') -> str:
+    def lines(self) -> list[str]:
         """What is printed of the verdict: how much was compared, and in which part."""
-        found, verdict = self.found, word_of(self.found)
-        if self.is_different:
-            any_order = ' in any order' * (self.choices.order == 'any')
-            return f'differ{any_order} at {self.place}' + (
-                f'\ncompared in part: {losses}' if losses else '')
-        compared = str(self.covers[0].size)
+        if not self.is_different:
+            return ['; '.join(self.words_of_same()) + (f', {self.losses}' if self.losses else '')]
+        any_order = ' in any order' * (self.choices.order == 'any')
+        return [f'differ{any_order} at {self.place}',
+                *([f'compared in part: {self.losses}'] if self.losses else [])]
+
+    def words_of_same(self) -> list[str]:
+        """How much of runs that are the same was compared, and all that does not count for that."""
+        found, verdict, compared = self.found, word_of(self.found), [str(self.covers[0].size)]
         if found.same_under is not None:
             explained = found.compared.explained
             verdict += f', {count(explained, "answer")} explained by order' if explained else ''
             compared = of_same(found, self.choices.masks[0])
         number = len(found.accepted.findings) if found.accepted else 0
         but = f' but for {number:,} accepted' if number else ''
-        return (f'{verdict}{" in part" if losses else ""}{but}: '
-                f'{compared}{f", {losses}" if losses else ""}')
+        return [f'{verdict}{" in part" if self.losses else ""}{but}: {compared[0]}', *compared[1:]]
 
 
-def run_of(trial: Trial, taken: Taken, capture: str, name: str) -> Run:
-    return Run(escaped(name), trial.listing(capture), lambda message: [
-        frame.number for frame in taken.frames(message.place)] if taken.has_frames else [])
+def run_of(trial: Trial, number: int) -> Run:
+    taken, listing = trial.runs[number], trial.listing(number, trial.captures[number])
+    return Run(listing, lambda place: [
+        frame.number for frame in taken.frames(place)] if taken.has_frames else [])
 
 
-def judged_runs(trial: Trial, runs: Sequence[Run], names: Sequence[str], choices: Choices,
-                covers: Sequence[Cover]) -> Report:
+def judged_runs(trial: Trial, choices: Choices, covers: Sequence[Cover]) -> Report:
     """Compares both runs of a trial. They are brought together if they differ, or for a page."""
     place = trial.placed(trial.difference(trial.captures, choices.masks[0]))
     if not place and not choices.is_shown:
         first, second = (cover.size.calls for cover in covers)
         compared = Compared(exchanges=first, calls=(first, second))
-        split = choices.accepted.split(compared)[1] if choices.accepted else None
-        return Report('', Outcome(compared, accepted=split), choices, names, covers)
+        split = choices.accepted.divide(compared)[1] if choices.accepted else None
+        return Report('', Outcome(compared, accepted=split), choices, covers)
     order: Order = choices.order if place else 'strict'
+    runs = [run_of(trial, number) for number in (0, 1)]
     found = Orders(trial, runs, replace(choices, order=order)).found()
     if found.is_rest_same:
         place = ''
@@ -358,7 +366,7 @@ def judged_runs(trial: Trial, runs: Sequence[Run], names: Sequence[str], choices
         # (where the first finding is that was not accepted)
         first_left = found.compared.findings[0]
         place = f'{first_left.message.place}' + ' of the second run' * (first_left.first is None)
-    return Report(place, found, choices, names, covers)
+    return Report(place, found, choices, covers)
 
 
 # --- In words ---
@@ -385,8 +393,7 @@ def of_both(compared: Compared) -> Iterator[str]:
             paths[call.kind, call.message.procedure].append(call.path or '?')
     for (kind, procedure), some in sorted(paths.items()):
         where = some[0] if len(set(some)) == 1 else f'{len(set(some)):,} paths'
-        how = 'sent again' if kind == 'sent again' else 'explained by order'
-        yield f'{len(some):,} {short(procedure)} of {where}, {how}'
+        yield f'{len(some):,} {short(procedure)} of {where}, {WHY_LEFT_OUT[kind]}'
 
 
 def word_of(found: Outcome) -> str:
@@ -401,7 +408,7 @@ def word_of(found: Outcome) -> str:
     return BUT_LEFT_OUT if compared.silent else IN_ANOTHER_ORDER
 
 
-def of_same(found: Outcome, mask: Mask) -> str:
+def of_same(found: Outcome, mask: Mask) -> list[str]:
     """What follows these words: how the order differs, and all else that does not count."""
     words = [f'{count(found.compared.exchanges, "call")}', *turns(found.compared)]
     some = [*(f'{what} of the {name} run' for what, name in left_out(found.compared)),
@@ -411,7 +418,7 @@ def of_same(found: Outcome, mask: Mask) -> str:
     if found.follows and found.same_under is not None:
         followed = sorted(mask.keys() - found.same_under.keys())
         words.append(f'{" and ".join(followed)} follow their objects')
-    return '; '.join(words)
+    return words
 
 
 def frequent_fields(compared: Compared) -> Iterator[str]:

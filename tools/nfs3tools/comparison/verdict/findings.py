@@ -3,16 +3,16 @@ from __future__ import annotations
 
 import itertools
 from collections import Counter
-from collections.abc import Callable, Iterable, Iterator, Sequence
+from collections.abc import Iterable, Iterator, Sequence
 from dataclasses import dataclass, field, replace
 
 from ...exchanges.in_words import short
-from ...exchanges.listing import Exchange, Message
+from ...exchanges.listing import Exchange, Framing, Message
 from ...exchanges.objects import GIVING_HANDLES, TEACHING, UNKNOWN, Paths, below
 from ...exchanges.stored import LongValues
 from ...exchanges.whose import Item
 from ...recordings.selection import count, plural
-from ..exchanges.explained import Explanation
+from ..exchanges.explained import RUNS, Explanation
 from ..exchanges.facts import Change
 from ..exchanges.matching import Pair
 from ..exchanges.outlines import Outlines
@@ -21,16 +21,14 @@ from ..values.classes import Mask
 from .differences import ABOUT, Comparison, Difference, arguments_of, results_of
 from .excerpt import ExcerptRow, Shown
 
-RUNS = ('first', 'second')
-Framing = Callable[[Message], Sequence[int]]
+ELSEWHERE = 'the call is on another connection'
 
 
 @dataclass
 class Run:
-    """One of two runs: its name, its listing, begun anew by a call, and the frames of a message."""
-    name: str
+    """One of two runs: its listing, begun anew by a call, and what finds frames."""
     listing: Listing
-    frames: Framing
+    framing: Framing
 
 
 @dataclass(frozen=True)
@@ -61,6 +59,10 @@ class Finding:
         message = self.first or self.second
         assert message
         return message
+
+    @property
+    def messages(self) -> list[Message]:
+        return [*filter(None, (self.first, self.second))]
 
     @property
     def run(self) -> str:
@@ -120,6 +122,7 @@ class ParsedExchanges:
         kept = outlines.with_origins(wanted)
         for at, line in outlines.located(run.listing() if kept else (), kept):
             message = line.message(values)
+            message.framing = run.framing
             if message.is_call:
                 self.exchanges[at] = Exchange(message)
             else:
@@ -297,12 +300,14 @@ class Explaining:
         """What is elsewhere in the second run, or sent again."""
         pairing = self.pairing
         for pairs, remark in ((pairing.moved, 'the call is reordered'),
-                              (pairing.elsewhere, 'the call is on another connection')):
+                              (pairing.elsewhere, ELSEWHERE)):
             yield from (self.of_both('moved', pair, remark) for pair in pairs)
         yield from self.of_sent_again()
         for connection, number, among in pairing.late_replies:
+            first_reply = Message(connection, False, 1, 0, '', '')
+            first_reply.framing = self.runs[0].run.framing
             yield Finding(
-                'order', Message(connection, False, 1, 0, '', ''), None,
+                'order', first_reply, None,
                 remark=f'{number} of {among} replies of the connection come in another order')
 
     def of_sent_again(self) -> Iterator[Finding]:

@@ -2,16 +2,16 @@
 from __future__ import annotations
 
 import os
-import re
 import tempfile
 from collections.abc import Callable, Iterable, Mapping, Sequence
 from functools import partial
 from itertools import chain
 from pathlib import Path
+from typing import Optional
 
 from ...recordings.taken import Taken
 from ...shared.outputs import write_temporary
-from ...shared.places import Place
+from ...shared.places import AnyPlace, Place, parse_place
 from ...shared.programs import (
     CHECKED, COMPARED, MASKED, lines_of_program, program_beside, run_program, run_side_by_side)
 from ...shared.progress import Progress
@@ -22,7 +22,6 @@ from ..values.classes import CLASSES_BY_NAME, Mask, mask_text
 
 SMALL = 1 << 18  # bytes of a capture whose lines are kept
 RUN_LETTERS = 'ab'  # begin the names of captures
-CONNECTION_AT_FIRST = re.compile(r'^connection (\d+)')
 
 
 def when_of(taken: Taken) -> When | None:
@@ -41,7 +40,7 @@ class Trial:
         self.program, self.folder, self.runs, self.number = program, folder, runs, 0
         self.progress = progress
         self.made = dict[tuple[str, ...], list[str]]()  # by how it was made, and of which captures
-        self.said = dict[tuple[str, str], str]()  # where two differ
+        self.said = dict[tuple[str, str], Optional[AnyPlace]]()  # where two differ
         self.few = dict[str, list[str]]()  # the lines of small captures, which are listed once
         self.captures = self.named()
         for taken, capture in zip(runs, self.captures):
@@ -73,19 +72,19 @@ class Trial:
         return self.made_of(captures, mask_text(mask), 'masking values',
                             lambda capture, name: [program, capture, name, *words], MASKED)
 
-    def difference(self, captures: Sequence[str], mask: Mask) -> str:
-        """Returns where the program says that captures differ, or nothing if they are the same."""
+    def difference(self, captures: Sequence[str], mask: Mask) -> AnyPlace | None:
+        """Returns where the program says that captures differ, if they do."""
         masked = self.masked(captures, mask)
         key = masked[0], masked[1]
         if key not in self.said:
             self.progress.begin('comparing both runs')
-            said = run_program(self.program, ['same', *masked], COMPARED).out.strip()
-            self.said[key] = said.partition(' at ')[2]
+            answer = run_program(self.program, ['same', *masked], COMPARED)
+            self.said[key] = parse_place(answer.out) if answer.status else None
         return self.said[key]
 
-    def listing(self, capture: str) -> Listing:
-        """Returns the lines of a capture, in which connections have the numbers of the run."""
-        return partial(self.lines, capture, self.runs[RUN_LETTERS.index(Path(capture).name[0])])
+    def listing(self, run: int, capture: str) -> Listing:
+        """Returns the lines of a capture of a run, 0 or 1, whose connections have its numbers."""
+        return partial(self.lines, capture, self.runs[run])
 
     def lines(self, capture: str, taken: Taken) -> Iterable[str]:
         lines: Iterable[str] = self.few.get(capture, ())
@@ -101,13 +100,14 @@ class Trial:
         parts = (line.partition(' ') for line in lines)
         return (f'{numbers[int(number) - 1]} {rest}' for number, _, rest in parts)
 
-    def placed(self, place: str) -> str:
-        """Returns where both captures differ with the number that the connection has in the first
-        run, or else in the second."""
-        found = CONNECTION_AT_FIRST.match(place)
-        numbers = [taken.connections[int(found[1]) - 1].number for taken in self.runs
-                   if int(found[1]) <= len(taken.connections)] if found else []
-        return CONNECTION_AT_FIRST.sub(f'connection {numbers[0]}', place) if numbers else place
+    def placed(self, place: AnyPlace | None) -> str:
+        """Returns where both captures differ, if they do, with the number that the connection has
+        in the first run, or else in the second."""
+        if not isinstance(place, Place):
+            return str(place or '')
+        numbers = [taken.connections[place.connection - 1].number for taken in self.runs
+                   if place.connection <= len(taken.connections)]
+        return str(place._replace(connection=numbers[0]) if numbers else place)
 
     def canonical(self, captures: Sequence[str],
                   mask: Mask | None = None) -> tuple[Listing, Listing]:
@@ -115,7 +115,7 @@ class Trial:
         masked = captures if mask is None else self.masked(captures, mask)
         first, second = self.made_of(masked, 'canon', 'making the canonical form', lambda *names: [
             self.program, 'canon', *names], CHECKED)
-        return self.listing(first), self.listing(second)
+        return self.listing(0, first), self.listing(1, second)
 
     def paired(self, masks: Sequence[Mask], lonely: frozenset[str]) -> Pairing:
         """Brings the exchanges of both runs together under the first mask, or else the second."""
