@@ -1,16 +1,14 @@
 -- The packets of frames, with one more frame.
-use Rattle.std.proofs.Common.{◌≡◌, ◌∙◌, ◌≤◌, ◌-◌, ◌^◌, List, [], ◌∷◌, ◌++◌, Result, Ok, Err, ap, append_assoc, refl, subst, sym, inl, inr}
+use Rattle.std.proofs.Common.{◌≡◌, ◌∙◌, List, [], ◌∷◌, ◌++◌, Result, Ok, Err, ap, append_assoc, refl, subst, sym, inl, inr}
 use Rattle.std.proofs.lemmas.List.{append-nil}
 use Rattle.recording3.proofs.Files.OutcomesLemmas.{tallied_more}
 use Rattle.recording3.specs.Frames.{Extends}
-use Rattle.recording3.specs.Outcomes.{HaveOutcomes, IsOutcome, Tallied, no_outcomes, total, with_outcome}
+use Rattle.recording3.specs.Outcomes.{HaveOutcomes, IsOutcome, Tallied, no_outcomes, with_outcome}
 use Rattle.recording3.specs.Places.{Passed}
-use Rattle.recording3.specs.declared.outcomes.Tally.{Tally}
 use Rattle.recording3.specs.declared.parts.NoSegment.{NoSegment}
 use Rattle.recording3.specs.declared.parts.Segment.{Segment}
 use Rattle.connections3.specs.Connections.{ShowsPackets}
-use Rattle.connections3.specs.Frames.{CarriesSegment, HasNotTaken, HasPackets, ShowsFrames, HavePackets, IsOneTooMany, LeavesTaken}
-use Rattle.connections3.specs.Packets.{HasPacket, packet_of}
+use Rattle.connections3.specs.Frames.{HasNotTaken, HasPackets, ShowsFrames, HavePackets, IsOneTooMany}
 use Rattle.connections3.specs.declared.connection.Connection.{Connection}
 use Rattle.connections3.specs.declared.packets.Packet.{Packet}
 use Rattle.connections3.specs.declared.taker.NotTaken.{NotTaken}

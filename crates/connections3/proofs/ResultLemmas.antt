@@ -1,5 +1,5 @@
 -- What holds of an Ok or an Err that was tested.
-use Rattle.std.proofs.Common.{◌≡◌, Bool, false, true, Err, Ok, Result, sym}
+use Rattle.std.proofs.Common.{◌≡◌, false, true, Err, Ok, Result, sym}
 use Rattle.std.proofs.lemmas.Bool.{false≢true}
 use Rattle.std.specs.Result.{OnErr, OnOk, is_err}
 

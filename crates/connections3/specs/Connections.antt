@@ -1,5 +1,5 @@
 -- What the connections of a recording show of its packets.
-use Rattle.std.specs.Prelude.{◌≡◌, ◌<◌, ◌⊎◌, ℕ, ◌^◌, Bool, true, false, cond, List, [], ◌∷◌, ◌++◌, map, Option, None, Some, is_some}
+use Rattle.std.specs.Prelude.{◌≡◌, Bool, true, false, cond, List, [], ◌∷◌, ◌++◌, map, Option, None, Some, is_some}
 use Rattle.std.specs.BTreeMap.{get, BTreeMap}
 use Rattle.streams3.specs.Events.{Event, Sent, Acknowledged}
 use Rattle.streams3.specs.Streams.{ShowsEvents}

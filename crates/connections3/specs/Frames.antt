@@ -1,5 +1,5 @@
 -- The connections of the frames of a recording.
-use Rattle.std.specs.Prelude.{◌≡◌, ◌⊎◌, ◌≤◌, ◌-◌, ◌^◌, ⊤, List, [], ◌∷◌, ◌++◌}
+use Rattle.std.specs.Prelude.{◌≡◌, ◌⊎◌, ◌≤◌, ◌-◌, ◌^◌, List, [], ◌∷◌, ◌++◌}
 use Rattle.recording3.specs.Outcomes.{Tallied, total}
 use Rattle.recording3.specs.Places.{Passed}
 use Rattle.recording3.specs.Segments.{IsSegment, LacksSegment}

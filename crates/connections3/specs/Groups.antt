@@ -1,5 +1,5 @@
 -- Which packets of a recording are of one connection.
-use Rattle.std.specs.Prelude.{ℕ, zero, suc, ◌+◌, Bool, cond, ◌&&◌, not, List, [], ◌∷◌, ◌++◌, length, map, fold, Option, None, Some}
+use Rattle.std.specs.Prelude.{ℕ, zero, suc, ◌+◌, cond, ◌&&◌, not, List, [], ◌∷◌, ◌++◌, length, map, fold, Option, None, Some}
 use Rattle.streams3.specs.Events.{first_number}
 use Rattle.connections3.specs.Ends.{same_ends}
 use Rattle.connections3.specs.Numbers.{begins_another, is_nearer, numbers_of}

@@ -1,5 +1,5 @@
 -- What is taken of the segments that frames carry.
-use Rattle.std.specs.Prelude.{◌≡◌, ◌<◌, ℕ, ◌+◌, ◌-◌, ◌/◌, ◌%◌, ◌^◌, Bool, cond, ◌&&◌, not, nat_eq, Option, None, Some}
+use Rattle.std.specs.Prelude.{◌<◌, ℕ, ◌+◌, ◌-◌, ◌/◌, ◌%◌, ◌^◌, Bool, cond, ◌&&◌, not, nat_eq, Option, None, Some}
 use Rattle.recording3.specs.declared.frames.FrameHead.{FrameHead}
 use Rattle.recording3.specs.declared.parts.Segment.{Segment}
 use Rattle.streams3.specs.Events.{first_number}

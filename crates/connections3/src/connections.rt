@@ -99,7 +99,8 @@ fn open(
 ) -> Result<(), Refused>
     requires table { FindsRecent recent.old (all_ends connections.old.items) }
     ensures table { FindsRecent recent.new (all_ends connections.new.items) }
-    ensures opened { OnOk result (OpensConnection connections.old.items connections.new.items packet.now) }
+    ensures opened { OnOk result (OpensConnection connections.old.items connections.new.items
+        packet.now) }
     ensures err { OnErr result (connections.new.items ≡ connections.old.items) }
 {
     let connection = Connection::new(alloc, packet)?;

@@ -1,5 +1,5 @@
 -- How a frame's outcome is taken.
-use Rattle.std.specs.Prelude.{◌≡◌, ⊤, List, [], ◌∷◌, Result, Ok, Err}
+use Rattle.std.specs.Prelude.{⊤, List, [], ◌∷◌, Result, Ok, Err}
 use Rattle.recording3.specs.declared.frames.FrameHead.{FrameHead}
 use Rattle.recording3.specs.declared.parts.NoSegment.{NoSegment}
 use Rattle.recording3.specs.declared.parts.Segment.{Segment}

@@ -1,4 +1,4 @@
-use Rattle.std.proofs.Common.{[], subst, sym}
+use Rattle.std.proofs.Common.{[], subst}
 use Rattle.connections3.specs.Connections.{ShowsFlow}
 use Rattle.connections3.proofs.ConnectionsLemmas.{flow_begun, flow_sent}
 use Rattle.connections3.proofs.connection.take_sent.Goals as goal

@@ -1,8 +1,7 @@
-use Rattle.std.proofs.Common.{◌≡◌, ◌∙◌, [], ◌∷◌, ◌++◌, Bool, false, true, Ok, Err, Result, List, ap, arith, length, refl, rules, subst, sym}
+use Rattle.std.proofs.Common.{◌≡◌, ◌∙◌, [], ◌∷◌, ◌++◌, ap, arith, length, rules, subst, sym}
 use Rattle.std.specs.BTreeMap.{get}
 use Rattle.connections3.specs.contracts.ends.EndPairOrd.TheImpl.{ghosts}
 use Rattle.connections3.specs.Groups.{with_newer}
-use Rattle.connections3.specs.declared.connection.Connection.{Connection}
 use Rattle.connections3.specs.Connections.{FindsRecent, all_ends}
 use Rattle.connections3.proofs.GroupsLemmas.{all_ends_last, ends_count, table_opened}
 use Rattle.connections3.proofs.ResultLemmas.{if_ok}

@@ -1,4 +1,4 @@
-use Rattle.std.proofs.Common.{◌∙◌, Err, ap, inl, refl, sym}
+use Rattle.std.proofs.Common.{◌∙◌, Err, ap, inl, refl}
 use Rattle.recording3.proofs.Files.OutcomesLemmas.{outcome_of}
 use Rattle.recording3.specs.Places.{Passed}
 use Rattle.connections3.specs.declared.taker.PacketTaker.{PacketTaker}
