@@ -1,11 +1,12 @@
 -- What connections show, with one more packet.
-use Rattle.std.proofs.Common.{◌≡◌, Bool, true, false, cond, List, [], ◌∷◌, ◌++◌, Option, None, Some, is_some, refl, sym, ◌∙◌, ap, subst, append_assoc}
+use Rattle.std.proofs.Common.{◌≡◌, Bool, true, false, cond, List, [], ◌∷◌, ◌++◌, Option, None, Some, is_some, refl, sym, ◌∙◌, ap, subst, append_assoc, ℕ, zero, suc, ◌<◌, ◌⊎◌, length, get_or, inl, inr, arith}
 use Rattle.std.proofs.lemmas.List.{append-nil}
 use Rattle.streams3.specs.Events.{Event, Sent}
 use Rattle.streams3.specs.Streams.{ShowsEvents}
-use Rattle.connections3.specs.Connections.{ShowsFlow, client_by, client_from, events_from, events_of, shown_by}
+use Rattle.connections3.specs.Connections.{IsFlowAtLimit, IsOneAtLimit, ShowsFlow, client_by, client_from, events_from, events_of, shown_by}
 use Rattle.connections3.specs.Ends.{other_end, same_one}
 use Rattle.connections3.specs.Numbers.{numbers_from, numbers_of, with_numbers}
+use Rattle.connections3.specs.declared.connection.Connection.{Connection}
 use Rattle.connections3.specs.declared.connection.Flow.{Flow}
 use Rattle.connections3.specs.declared.ends.OneEnd.{OneEnd}
 use Rattle.connections3.specs.declared.numbers.UsedNumbers.{UsedNumbers}
@@ -166,3 +167,14 @@ pub flow_not_begun : (packets : List Packet) (p : Packet)
     → ShowsFlow None (other_end p.from) packets
     → ShowsFlow None (other_end p.from) (packets ++ p ∷ [])
 flow_not_begun packets p m = other_numbers packets p ∙ m
+
+pub one_at_limit : (cs : List Connection) (i : ℕ) (d : Connection) (p : Packet) → i < length cs
+    → IsFlowAtLimit (get_or cs i d).lower p ⊎ IsFlowAtLimit (get_or cs i d).higher p
+    → IsOneAtLimit cs p
+one_at_limit [] i d p lt h = absurd (omega arith)
+one_at_limit (c ∷ cs) zero d p lt h = inl h
+one_at_limit (c ∷ cs) (suc i) d p lt h = inr (one_at_limit cs i d p (omega arith) h)
+
+pub new_at_limit : (cs : List Connection) (p : Packet) → IsFlowAtLimit None p → IsOneAtLimit cs p
+new_at_limit [] p h = h
+new_at_limit (c ∷ cs) p h = inr (new_at_limit cs p h)

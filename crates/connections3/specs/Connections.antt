@@ -1,8 +1,8 @@
 -- What the connections of a recording show of its packets.
-use Rattle.std.specs.Prelude.{◌≡◌, Bool, true, false, cond, List, [], ◌∷◌, ◌++◌, map, Option, None, Some, is_some}
+use Rattle.std.specs.Prelude.{◌≡◌, Bool, true, false, cond, List, [], ◌∷◌, ◌++◌, ◌⊎◌, map, Option, None, Some, is_some}
 use Rattle.std.specs.BTreeMap.{get, BTreeMap}
 use Rattle.streams3.specs.Events.{Event, Sent, Acknowledged}
-use Rattle.streams3.specs.Streams.{ShowsEvents}
+use Rattle.streams3.specs.Streams.{IsLong, Shown, ShowsEvents}
 use Rattle.streams3.specs.declared.segments.Acknowledgment.{Acknowledgment}
 use Rattle.connections3.specs.Ends.{other_end, same_one}
 use Rattle.connections3.specs.Groups.{Group, grouped, recent_from}
@@ -68,6 +68,24 @@ ShowGroups (connection ∷ connections) (group ∷ groups) =
 -- connections show exactly these packets
 abbrev pub ShowsPackets : List Connection → List Packet → Type 0
 ShowsPackets connections packets = ShowGroups connections (grouped packets)
+
+-- a stream is at a limit, as it is or with a packet's segment
+abbrev pub IsAtLimit : Shown → Packet → Type 0
+IsAtLimit stream p = IsLong stream p.segment.at ⊎ ((after : Shown)
+    × ((events : List Event) → ShowsEvents stream events
+    → ShowsEvents after (events ++ Sent p.segment ∷ [])) × IsLong after 0)
+
+-- the stream of an end, or the one that the packet begins
+abbrev pub IsFlowAtLimit : Option Flow → Packet → Type 0
+IsFlowAtLimit None p = (stream : Shown) × ShowsEvents stream [] × IsAtLimit stream p
+IsFlowAtLimit (Some flow) p = IsAtLimit flow.stream p
+
+-- a stream of one of the connections, or of one that the packet opens
+abbrev pub IsOneAtLimit : List Connection → Packet → Type 0
+IsOneAtLimit [] p = IsFlowAtLimit None p
+IsOneAtLimit (connection ∷ connections) p =
+    (IsFlowAtLimit connection.lower p ⊎ IsFlowAtLimit connection.higher p)
+    ⊎ IsOneAtLimit connections p
 
 -- what contracts see of connections
 abbrev pub connections_of : Inside → List Connection

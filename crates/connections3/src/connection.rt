@@ -1,8 +1,9 @@
 //! A connection, and what each end of it sent.
 
-ghost use Rattle.std.specs.Prelude.{◌≡◌, ◌≢◌, ◌<◌, ◌^◌, ◌⊎◌, ℕ, List, [], ◌∷◌, ◌++◌, None, Some, Ok, Err, IfOk, OnOk, OnErr};
+ghost use Rattle.std.specs.Prelude.{◌≡◌, ◌≢◌, ◌⊎◌, List, [], ◌∷◌, ◌++◌, None, Err, IfOk, OnOk};
 ghost use Rattle.streams3.specs.Events.{Sent};
-ghost use Rattle.connections3.specs.Connections.{ShowsFlow, ShowsGroup, client_from, shown_by};
+ghost use Rattle.streams3.specs.Streams.{IsLong};
+ghost use Rattle.connections3.specs.Connections.{IsAtLimit, IsFlowAtLimit, ShowsFlow, ShowsGroup, client_from, shown_by};
 ghost use Rattle.connections3.specs.Ends.{other_end};
 ghost use Rattle.connections3.specs.machinery.Table.{AddsEvents};
 ghost use Rattle.connections3.specs.declared.ends.EndPair.{EndPair};
@@ -44,6 +45,7 @@ impl Connection {
           ends = packet.now.ends;
           packets = packet.now ∷ [];
         })) }
+        ensures long { result ≡ Err Refused.Long → IsFlowAtLimit None packet.now }
     {
         let mut connection = Connection {
             ends: packet.ends,
@@ -65,6 +67,8 @@ impl Connection {
             })) }
         ensures ends { self.new.ends ≡ self.old.ends }
         ensures memory { result ≡ Err Refused.Memory → self.new ≡ self.old }
+        ensures long { result ≡ Err Refused.Long
+            → IsFlowAtLimit self.old.lower packet.now ⊎ IsFlowAtLimit self.old.higher packet.now }
     {
         take_flows(alloc, &mut self.lower, &mut self.higher, packet)?;
         self.client = client_by(self.client, packet);
@@ -101,6 +105,8 @@ fn take_flows(
         → ShowsFlow higher.new Higher (packets ++ packet.now ∷ [])) }
     ensures memory { result ≡ Err Refused.Memory
         → (lower.new ≡ lower.old) × (higher.new ≡ higher.old) }
+    ensures long { result ≡ Err Refused.Long
+        → IsFlowAtLimit lower.old packet.now ⊎ IsFlowAtLimit higher.old packet.now }
 {
     match packet.from {
         OneEnd::Lower => take_both(alloc, lower, higher, packet),
@@ -122,6 +128,8 @@ fn take_both(
         → ShowsFlow other.old (other_end packet.now.from) packets
         → ShowsFlow other.new (other_end packet.now.from) (packets ++ packet.now ∷ [])) }
     ensures memory { result ≡ Err Refused.Memory → (own.new ≡ own.old) × (other.new ≡ other.old) }
+    ensures long { result ≡ Err Refused.Long
+        → IsFlowAtLimit own.old packet.now ⊎ IsFlowAtLimit other.old packet.now }
 {
     take_sent(alloc, own, packet)?;
     take_answer(other, packet)
@@ -133,6 +141,7 @@ fn take_sent(alloc: Global, flow: &mut Option<Flow>, packet: &Packet) -> Result<
         → ShowsFlow flow.old packet.now.from packets
         → ShowsFlow flow.new packet.now.from (packets ++ packet.now ∷ [])) }
     ensures memory { result ≡ Err Refused.Memory → flow.new ≡ flow.old }
+    ensures long { result ≡ Err Refused.Long → IsFlowAtLimit flow.old packet.now }
 {
     match flow {
         Some(flow) => {
@@ -155,6 +164,7 @@ fn take_answer(flow: &mut Option<Flow>, packet: &Packet) -> Result<(), Refused>
         → ShowsFlow flow.old (other_end packet.now.from) packets
         → ShowsFlow flow.new (other_end packet.now.from) (packets ++ packet.now ∷ [])) }
     ensures memory { result ≢ Err Refused.Memory }
+    ensures long { result ≡ Err Refused.Long → IsFlowAtLimit flow.old packet.now }
 {
     match flow {
         Some(flow) => take_mark(&mut flow.stream, packet.acknowledgment),
@@ -167,6 +177,7 @@ fn take_segment(stream: &mut Stream, packet: &Packet) -> Result<(), Refused>
     ensures ok { OnOk result (AddsEvents stream.old stream.new
         (Sent packet.now.segment ∷ shown_by packet.now.cut)) }
     ensures memory { result ≡ Err Refused.Memory → stream.new ≡ stream.old }
+    ensures long { result ≡ Err Refused.Long → IsAtLimit stream.old packet.now }
 {
     stream.take(&packet.segment)?;
     take_mark(stream, packet.cut)
@@ -176,6 +187,7 @@ fn take_segment(stream: &mut Stream, packet: &Packet) -> Result<(), Refused>
 fn take_mark(stream: &mut Stream, mark: Option<Acknowledgment>) -> Result<(), Refused>
     ensures ok { OnOk result (AddsEvents stream.old stream.new (shown_by mark)) }
     ensures memory { result ≢ Err Refused.Memory }
+    ensures long { result ≡ Err Refused.Long → IsLong stream.old 0 }
 {
     match mark {
         Some(mark) => stream.acknowledge(mark),

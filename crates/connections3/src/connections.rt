@@ -1,7 +1,7 @@
 //! All connections of a recording.
 
-ghost use Rattle.std.specs.Prelude.{◌≡◌, ◌<◌, ◌^◌, ◌⊎◌, ℕ, List, [], ◌∷◌, ◌++◌, None, Some, Ok, Err, IfOk, IfSome, OnOk, OnErr, length, unwrap_or};
-ghost use Rattle.connections3.specs.Connections.{FindsRecent, ShowsPackets, all_ends};
+ghost use Rattle.std.specs.Prelude.{◌≡◌, ◌<◌, List, [], ◌∷◌, ◌++◌, None, Some, Err, IfSome, OnOk, OnErr, length, unwrap_or};
+ghost use Rattle.connections3.specs.Connections.{FindsRecent, IsFlowAtLimit, IsOneAtLimit, ShowsPackets, all_ends};
 ghost use Rattle.connections3.specs.Groups.{chosen, recent_from, with_newer};
 ghost use Rattle.connections3.specs.machinery.Table.{OpensConnection, flow_numbers_at, flow_of, numbers_in};
 ghost use Rattle.connections3.specs.declared.packets.Packet.{Packet};
@@ -82,6 +82,7 @@ impl Connections {
         ensures ok { OnOk result ((packets : List Packet) → ShowsPackets self.old packets
             → ShowsPackets self.new (packets ++ packet.now ∷ [])) }
         ensures memory { result ≡ Err Refused.Memory → self.new ≡ self.old }
+        ensures long { result ≡ Err Refused.Long → IsOneAtLimit self.old packet.now }
     {
         match find(&self.recent, &self.connections, packet) {
             Some(index) => self.connections[index].take(self.alloc, packet),
@@ -102,6 +103,7 @@ fn open(
     ensures opened { OnOk result (OpensConnection connections.old.items connections.new.items
         packet.now) }
     ensures err { OnErr result (connections.new.items ≡ connections.old.items) }
+    ensures long { result ≡ Err Refused.Long → IsFlowAtLimit None packet.now }
 {
     let connection = Connection::new(alloc, packet)?;
     let newest = connections.len();

@@ -1,6 +1,6 @@
 //! The numbers that an end of a connection has used.
 
-ghost use Rattle.std.specs.Prelude.{◌≡◌, ◌≤◌, ◌<◌, ◌^◌};
+ghost use Rattle.std.specs.Prelude.{◌≡◌};
 ghost use Rattle.connections3.specs.Numbers.{begins_another, distance, is_nearer, number_behind, with_numbers};
 ghost use Rattle.streams3.specs.Events.{first_number};
 

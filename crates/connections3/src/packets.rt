@@ -1,7 +1,7 @@
 //! Packets of TCP, out of the segments that frames carry.
 
-ghost use Rattle.std.specs.Prelude.{◌≡◌, ◌<◌, ◌-◌, ◌/◌, ◌%◌, ◌^◌, ℕ, SomeIff};
-ghost use Rattle.connections3.specs.Packets.{HasPacket, acknowledgment_of, cut_of, has_flag, packet_of, segment_of};
+ghost use Rattle.std.specs.Prelude.{◌≡◌, ◌<◌, SomeIff};
+ghost use Rattle.connections3.specs.Packets.{HasPacket, acknowledgment_of, cut_of, has_flag, packet_of};
 
 use crate::ends::{EndPair, OneEnd, ends_between};
 use recording3::{FrameHead, Segment};

@@ -1,6 +1,6 @@
 //! Connections out of the frames of a recording.
 
-ghost use Rattle.std.specs.Prelude.{◌≡◌, ◌∷◌, ◌++◌, List, [], OnOk, Err};
+ghost use Rattle.std.specs.Prelude.{◌≡◌, ◌++◌, List, [], OnOk, Err};
 ghost use Rattle.connections3.specs.Connections.{ShowsPackets};
 ghost use Rattle.connections3.specs.Frames.{HasNotTaken, ShowsFrames};
 ghost use Rattle.connections3.specs.declared.packets.Packet.{Packet};

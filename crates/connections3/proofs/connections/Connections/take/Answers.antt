@@ -1,8 +1,9 @@
-use Rattle.std.proofs.Common.{◌≡◌, ◌<◌, ◌∙◌, None, ap, length, subst, sym}
+use Rattle.std.proofs.Common.{◌≡◌, ◌⊎◌, ◌<◌, ◌∙◌, None, ap, length, subst, sym}
 use Rattle.std.proofs.lemmas.Result.{on_ok_weaker}
-use Rattle.connections3.specs.Connections.{ShowsGroup, ShowsPackets, all_ends}
+use Rattle.connections3.specs.Connections.{IsFlowAtLimit, IsOneAtLimit, ShowsGroup, ShowsPackets, all_ends}
 use Rattle.connections3.specs.Groups.{chosen, recent_from}
 use Rattle.connections3.specs.machinery.Table.{flow_numbers_at}
+use Rattle.connections3.proofs.ConnectionsLemmas.{new_at_limit, one_at_limit}
 use Rattle.connections3.proofs.GroupsLemmas.{ends_taken, shows_opened, shows_taken}
 use Rattle.connections3.proofs.connections.Connections.take.Goals as goal
 
@@ -46,3 +47,17 @@ returns-in-None-clause-ok c =
     shows_opened items c.open.new.connections.items packets p
     (subst (λ all. ShowsPackets all packets) (sym c.self.view_is) h) is opens)
     c.open.ensures.opened
+
+pub returns-in-Some-clause-long : goal.returns-in-Some-clause-long
+returns-in-Some-clause-long c = λ e.
+    let p = c.args.packet.now in
+    let within = subst (λ xs. c.in-Some.index < length xs) c.deref.ensures.value
+    c.in-Some.ensures.within in
+    subst (λ all. IsOneAtLimit all p) c.self.view_is
+    (one_at_limit c.self.inside.connections.items c.in-Some.index c.index_mut.result.now p within
+    (subst (λ one. IsFlowAtLimit one.lower p ⊎ IsFlowAtLimit one.higher p)
+    c.index_mut.ensures.value (c.take.ensures.long e)))
+
+pub returns-in-None-clause-long : goal.returns-in-None-clause-long
+returns-in-None-clause-long c = λ e.
+    new_at_limit c.args.self.now c.args.packet.now (c.open.ensures.long e)
