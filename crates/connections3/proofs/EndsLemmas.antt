@@ -1,12 +1,12 @@
 -- The order of ends, which is that of their types.
-use Rattle.std.proofs.Common.{◌≡◌, ◌≢◌, ℕ, true, false, cond, ◌&&◌, List, refl, sym, ◌∙◌, ap, arith}
+use Rattle.std.proofs.Common.{◌≡◌, ◌≢◌, ℕ, true, false, cond, List, refl, sym, ◌∙◌, ap, arith}
 use Rattle.std.proofs.lemmas.Bool.Decides.{nat_tests}
 use Rattle.std.proofs.lemmas.Slice.Eq.{bytes_eq-Decides}
 use Rattle.std.specs.Cmp.Lexicographic.{slice_cmp, texts_ties}
 use Rattle.std.specs.Ordering.{is_eq, is_gt, nat_cmp, ordering_reverse, ordering_then}
 use Rattle.std.specs.declared.cmp.Ordering.{Ordering}
 use Rattle.std.specs.declared.cmp.Ordering.TheVariants.{Less, Equal, Greater}
-use Rattle.connections3.specs.Ends.{address_order, end_order, ends_between, other_end, same_ends, same_one, sender_between}
+use Rattle.connections3.specs.Ends.{address_order, end_order, ends_between, other_end, pair_order, same_ends, same_one, sender_between}
 use Rattle.recording3.specs.contracts.parts.EndOrd.TheImpl as end_ord
 use Rattle.connections3.specs.contracts.ends.EndPairOrd.TheImpl as pair_ord
 use Rattle.recording3.specs.contracts.parts.EndOrd.TheImpl.Laws.{total-law}
@@ -29,18 +29,18 @@ by_address (V6 a) (V6 b) p q = refl
 pub end_order_is : (a b : End) → end_order a b ≡ end_ord.ghosts.cmp a b
 end_order_is a b = by_address a.address b.address a b
 
-both_equal : (a b : Ordering) → (is_eq a && is_eq b) ≡ is_eq (ordering_then a b)
-both_equal Less b = refl
-both_equal Equal b = refl
-both_equal Greater b = refl
+pair_order_at : (a b : EndPair) → pair_order a b ≡ pair_ord.ghosts.cmp a b
+pair_order_at a b =
+    ap (λ (o : Ordering). ordering_then o (end_order a.higher b.higher))
+    (end_order_is a.lower b.lower)
+    ∙ ap (λ (o : Ordering). ordering_then (end_ord.ghosts.cmp a.lower b.lower) o)
+    (end_order_is a.higher b.higher)
+
+pub pair_order_is : pair_order ≡ pair_ord.ghosts.cmp
+pair_order_is = λ i a b. pair_order_at a b i
 
 pub same_ends_is : (a b : EndPair) → same_ends a b ≡ is_eq (pair_ord.ghosts.cmp a b)
-same_ends_is a b =
-    both_equal (end_order a.lower b.lower) (end_order a.higher b.higher)
-    ∙ (ap (λ (o : Ordering). is_eq (ordering_then o (end_order a.higher b.higher)))
-    (end_order_is a.lower b.lower)
-    ∙ ap (λ (o : Ordering). is_eq (ordering_then (end_ord.ghosts.cmp a.lower b.lower) o))
-    (end_order_is a.higher b.higher))
+same_ends_is a b = ap is_eq (pair_order_at a b)
 
 pub same_one_self : (end : OneEnd) → same_one end end ≡ true
 same_one_self Lower = refl

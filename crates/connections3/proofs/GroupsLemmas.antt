@@ -4,12 +4,13 @@ use Rattle.std.proofs.lemmas.List.Sums.{fold-append}
 use Rattle.std.specs.BTreeMap.{get, BTreeMap}
 use Rattle.std.specs.Cmp.{Equal-is, alike_right}
 use Rattle.std.specs.Ordering.{is_eq}
+use Rattle.std.specs.declared.cmp.Ordering.{Ordering}
 use Rattle.std.specs.declared.cmp.Ordering.TheVariants.{Equal}
 use Rattle.connections3.specs.Connections.{FindsRecent, ShowGroups, ShowsFlow, ShowsGroup, ShowsPackets, all_ends}
-use Rattle.connections3.specs.Ends.{same_ends}
+use Rattle.connections3.specs.Ends.{pair_order, same_ends}
 use Rattle.connections3.specs.Groups.{Group, chosen, grouped, index_of, numbers_at, recent_from, with_newer, with_packet, with_packet_at}
 use Rattle.connections3.specs.Numbers.{numbers_of}
-use Rattle.connections3.proofs.EndsLemmas.{same_ends_is}
+use Rattle.connections3.proofs.EndsLemmas.{pair_order_is, same_ends_is}
 use Rattle.connections3.specs.contracts.ends.EndPairOrd.TheImpl.{ghosts}
 use Rattle.connections3.specs.contracts.ends.EndPairOrd.TheImpl.Laws.{total-law}
 use Rattle.connections3.specs.declared.connection.Connection.{Connection}
@@ -204,6 +205,11 @@ opened_at true all ends q r e f =
     ∙ ap (λ (n : ℕ). Some (with_newer (recent_from None 0 all q) n)) (omega arith))
 opened_at false all ends q r e f = refl
 
+found : (table : BTreeMap EndPair Recent) (ends : EndPair)
+    → get ghosts.cmp table ends ≡ get pair_order table ends
+found table ends =
+    ap (λ (f : EndPair → EndPair → Ordering). get f table ends) (sym pair_order_is)
+
 pub table_opened : (m n : BTreeMap EndPair Recent) (all : List EndPair) (ends : EndPair)
     (r : Recent) → FindsRecent m all → r ≡ with_newer (get ghosts.cmp m ends) (length all)
     → ((q : EndPair) → get ghosts.cmp n q
@@ -212,11 +218,11 @@ pub table_opened : (m n : BTreeMap EndPair Recent) (all : List EndPair) (ends : 
 table_opened m n all ends r table is updates q =
     let same = same_ends ends q in
     let r_is : r ≡ with_newer (recent_from None 0 all ends) (length all) =
-    is ∙ ap (λ (o : Option Recent). with_newer o (length all)) (table ends) in
+    is ∙ ap (λ (o : Option Recent). with_newer o (length all)) (found m ends ∙ table ends) in
     let tests : is_eq (ghosts.cmp ends q) ≡ same = sym (same_ends_is ends q) in
-    updates q
+    sym (found n q) ∙ updates q
     ∙ (ap (λ (b : Bool). cond b (Some r) (get ghosts.cmp m q)) tests
-    ∙ (ap (λ (o : Option Recent). cond same (Some r) o) (table q)
+    ∙ (ap (λ (o : Option Recent). cond same (Some r) o) (found m q ∙ table q)
     ∙ (opened_at same all ends q r r_is
     (λ e. same_recent ends q ((Equal-is (ghosts.cmp ends q)).0 (tests ∙ e)) None 0 all)
     ∙ sym (recent_last None 0 all ends q))))
@@ -225,12 +231,18 @@ pub ends_count : (cs : List Connection) → length (all_ends cs) ≡ length cs
 ends_count [] = refl
 ends_count (c ∷ cs) = let e = ends_count cs in omega arith
 
+pub recent_found : (table : BTreeMap EndPair Recent) (cs : List Connection) (ends : EndPair)
+    (r : Recent) → FindsRecent table (all_ends cs) → Some r ≡ get ghosts.cmp table ends
+    → Some r ≡ recent_from None 0 (all_ends cs) ends
+recent_found table cs ends r is e = e ∙ (found table ends ∙ is ends)
+
 pub table_inside : (table : BTreeMap EndPair Recent) (cs : List Connection) (ends : EndPair)
     (r : Recent) → FindsRecent table (all_ends cs) → Some r ≡ get ghosts.cmp table ends
     → (r.newest < length cs) × (r.older < length cs)
 table_inside table cs ends r is e =
+    let all = recent_found table cs ends r is e in
     let below : AreBelow (length (all_ends cs)) (Some r) =
-    subst (AreBelow (length (all_ends cs))) (sym (e ∙ is ends)) (recent_below (all_ends cs) ends) in
+    subst (AreBelow (length (all_ends cs))) (sym all) (recent_below (all_ends cs) ends) in
     subst (λ (n : ℕ). AreBelow n (Some r)) (ends_count cs) below
 
 pub all_ends_last : (cs : List Connection) (c : Connection)

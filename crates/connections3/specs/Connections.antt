@@ -4,10 +4,9 @@ use Rattle.std.specs.BTreeMap.{get, BTreeMap}
 use Rattle.streams3.specs.Events.{Event, Sent, Acknowledged}
 use Rattle.streams3.specs.Streams.{IsLong, Shown, ShowsEvents}
 use Rattle.streams3.specs.declared.segments.Acknowledgment.{Acknowledgment}
-use Rattle.connections3.specs.Ends.{other_end, same_one}
+use Rattle.connections3.specs.Ends.{other_end, pair_order, same_one}
 use Rattle.connections3.specs.Groups.{Group, grouped, recent_from}
 use Rattle.connections3.specs.Numbers.{numbers_of}
-use Rattle.connections3.specs.contracts.ends.EndPairOrd.TheImpl.{ghosts}
 use Rattle.connections3.specs.declared.connection.Connection.{Connection}
 use Rattle.connections3.specs.declared.connection.Flow.{Flow}
 use Rattle.connections3.specs.declared.connections.Connections.TheInside.{Inside}
@@ -96,7 +95,7 @@ all_ends connections = map (λ c. c.ends) connections
 
 -- a table has the two newest connections between any two ends
 abbrev pub FindsRecent : BTreeMap EndPair Recent → List EndPair → Type 0
-FindsRecent table all = (ends : EndPair) → get ghosts.cmp table ends ≡ recent_from None 0 all ends
+FindsRecent table all = (ends : EndPair) → get pair_order table ends ≡ recent_from None 0 all ends
 
 -- what holds of all connections
 pub record IsIndexed (c : Inside) : Type 0 where

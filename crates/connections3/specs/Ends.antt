@@ -1,5 +1,5 @@
 -- The two ends of a connection.
-use Rattle.std.specs.Prelude.{Bool, true, false, cond, ◌&&◌}
+use Rattle.std.specs.Prelude.{Bool, true, false, cond}
 use Rattle.std.specs.Cmp.Lexicographic.{slice_cmp}
 use Rattle.std.specs.Ordering.{is_eq, is_gt, nat_cmp, ordering_then}
 use Rattle.std.specs.declared.cmp.Ordering.{Ordering}
@@ -33,9 +33,13 @@ ends_between source target = cond (is_gt (end_order source target))
 abbrev pub sender_between : (source target : End) → OneEnd
 sender_between source target = cond (is_gt (end_order source target)) Higher Lower
 
+-- by the lower end, then by the other
+abbrev pub pair_order : EndPair → EndPair → Ordering
+pair_order one other =
+    ordering_then (end_order one.lower other.lower) (end_order one.higher other.higher)
+
 abbrev pub same_ends : EndPair → EndPair → Bool
-same_ends one other =
-    is_eq (end_order one.lower other.lower) && is_eq (end_order one.higher other.higher)
+same_ends one other = is_eq (pair_order one other)
 
 abbrev pub other_end : OneEnd → OneEnd
 other_end Lower = Higher
