@@ -105,13 +105,14 @@ pub record Passed : Type 0 where
   pub head : FrameHead
   pub octets : List ℕ
 
--- The frames of a part, one or none. A frame's number counts from 1, and its offset is where its
--- part begins.
+-- The frames of a part, one or none. A frame's number counts from 1, its offset is where its part
+-- begins, and its octets lie in the part.
 abbrev pub frames_of : ReadingPlace → List ℕ → Content → List Passed
 frames_of p bytes (contents.Frame f) = record {
   head = record {
     number = p.frames + 1;
     offset = p.offset;
+    at = p.offset + f.begin;
     time = f.time;
     link = f.link;
     wire = f.wire;

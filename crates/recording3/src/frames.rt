@@ -25,6 +25,8 @@ pub struct FrameHead {
     pub number: u64,
     /// Where in the file its record or block begins.
     pub offset: u64,
+    /// Where in the file its octets begin, in that record or block.
+    pub at: u64,
     /// When it was recorded, in nanoseconds since 1970; 0 if that is not known.
     pub time: u64,
     /// Its link type, below 65,536.
@@ -134,6 +136,7 @@ fn hand_over<T: FrameTaker>(
     requires begin { frame.now.begin ≤ frame.now.end }
     requires end { frame.now.end ≤ length bytes.now }
     requires few { reached.now.frames < 2 ^ 63 }
+    requires near { reached.now.offset < 2 ^ 63 }
     ensures { MatchResult result
         (λ _. Extends (T.took taker.old) (T.took taker.new)
         (frames_of (place_of reached.now) bytes.now (Content.Frame frame.now)))
@@ -143,6 +146,7 @@ fn hand_over<T: FrameTaker>(
     let head = FrameHead {
         number: reached.frames + 1,
         offset: reached.offset,
+        at: reached.offset + frame.begin as u64,
         time: frame.time,
         link: frame.link,
         wire: frame.wire,

@@ -71,8 +71,12 @@ impl Tally {
         with_tcp + with_ip + others
     }
 
-    /// Counts an outcome.
-    fn count(&mut self, outcome: Result<Segment, NoSegment>) -> Result<(), Full>
+    /// Counts the outcome of a frame, what `read_segment` returns of it.
+    ///
+    /// # Errors
+    ///
+    /// `Full` if 2^64 - 1 frames were counted. The tally stays as it is then.
+    pub fn count(&mut self, outcome: Result<Segment, NoSegment>) -> Result<(), Full>
         ensures ok { OnOk result (self.new ≡ with_outcome self.old outcome) }
         ensures err { OnErr result ((self.new ≡ self.old) × (2 ^ 64 - 1 ≤ total self.old)) }
     {

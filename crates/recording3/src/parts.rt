@@ -3,7 +3,7 @@
 use thiserror::Error;
 
 /// An address of IP, its octets as they were sent.
-#[derive(Clone, Copy, Debug, PartialEq, Eq)]
+#[derive(Clone, Copy, Debug, PartialEq, Eq, PartialOrd, Ord)]
 pub enum Address {
     /// Of version 4 (RFC 791, section 3.2).
     V4([u8; 4]),
@@ -12,7 +12,7 @@ pub enum Address {
 }
 
 /// One of the two ends of a connection, a socket (RFC 9293, section 4).
-#[derive(Clone, Copy, Debug, PartialEq, Eq)]
+#[derive(Clone, Copy, Debug, PartialEq, Eq, PartialOrd, Ord)]
 pub struct End {
     /// Its address of IP.
     pub address: Address,

@@ -54,7 +54,7 @@ total_is passed t h =
     let n = total_more no_outcomes h.outcomes in
     let m = outcomes_length passed h.outcomes h.each in ap total h.counts ∙ omega arith
 
-tallied_more : (passed : List Passed) (t : Tally) (p : Passed) (o : Result Segment NoSegment)
+pub tallied_more : (passed : List Passed) (t : Tally) (p : Passed) (o : Result Segment NoSegment)
     → Tallied passed t → IsOutcome p o → Tallied (passed ++ p ∷ []) (with_outcome t o)
 tallied_more passed t p o h i =
     record {

@@ -183,6 +183,7 @@ frames_alone p bytes (contents.Frame f) size w =
       head = record {
         number = p.frames + 1;
         offset = p.offset;
+        at = p.offset + f.begin;
         time = f.time;
         link = f.link;
         wire = f.wire;

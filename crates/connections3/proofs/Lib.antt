@@ -1,0 +1,6 @@
+pub mod EndsLemmas
+pub mod NumbersLemmas
+pub mod GroupsLemmas
+pub mod ConnectionsLemmas
+pub mod FramesLemmas
+pub mod ResultLemmas

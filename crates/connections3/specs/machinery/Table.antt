@@ -1,0 +1,36 @@
+-- How connections are kept and found.
+use Rattle.std.specs.Prelude.{◌≡◌, ℕ, zero, suc, List, [], ◌∷◌, ◌++◌, Option, None, Some}
+use Rattle.streams3.specs.Events.{Event}
+use Rattle.streams3.specs.Streams.{Shown, ShowsEvents}
+use Rattle.connections3.specs.Connections.{ShowsGroup}
+use Rattle.connections3.specs.declared.connection.Connection.{Connection}
+use Rattle.connections3.specs.declared.connection.Flow.{Flow}
+use Rattle.connections3.specs.declared.ends.OneEnd.{OneEnd}
+use Rattle.connections3.specs.declared.ends.OneEnd.TheVariants.{Lower, Higher}
+use Rattle.connections3.specs.declared.numbers.UsedNumbers.{UsedNumbers}
+use Rattle.connections3.specs.declared.packets.Packet.{Packet}
+
+abbrev pub numbers_in : Option Flow → Option UsedNumbers
+numbers_in None = None
+numbers_in (Some flow) = Some flow.numbers
+
+abbrev pub flow_of : Connection → OneEnd → Option Flow
+flow_of c Lower = c.lower
+flow_of c Higher = c.higher
+
+-- as numbers_at, of connections
+abbrev pub flow_numbers_at : List Connection → (end : OneEnd) → (index : ℕ) → Option UsedNumbers
+flow_numbers_at [] end index = None
+flow_numbers_at (c ∷ connections) end zero = numbers_in (flow_of c end)
+flow_numbers_at (c ∷ connections) end (suc index) = flow_numbers_at connections end index
+
+-- a stream with more events
+abbrev pub AddsEvents : (old new : Shown) → List Event → Type 0
+AddsEvents old new more =
+    (events : List Event) → ShowsEvents old events → ShowsEvents new (events ++ more)
+
+-- a packet opened a connection behind the others
+pub record OpensConnection (old new : List Connection) (p : Packet) : Type 0 where
+  pub connection : Connection
+  pub shows : ShowsGroup connection (record { ends = p.ends; packets = p ∷ [] })
+  pub behind : new ≡ old ++ connection ∷ []
