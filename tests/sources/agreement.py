@@ -198,12 +198,15 @@ def examples_are_made_alike(tools: Tools) -> None:
 
 def pages_agree(tools: Tools) -> None:
     """The reasons have the same names in docs/FORMATS.md, the man page and tools/explain, each has
-    a row in captures.rows, and the dumps are the bytes of a NULL call and its reply in both
-    versions."""
+    a row in captures.rows and is in the file that returns it, and the dumps are the bytes of a NULL
+    call and its reply in both versions."""
     formats = (TOP / 'docs/FORMATS.md').read_text()
     reasons = re.findall(r'^\| `(\w+)` \|', formats.partition('| Reason |')[2].partition('\n\n')[0],
                          re.M)
     tools.want('reasons', len(reasons), 19)
+    tools.want('returned by', [
+        reason for reason, file in re.findall(r'^\| `(\w+)` \|.* `([\w/]+\.rt)` \|$', formats, re.M)
+        if f'Reason::{reason}' in (TOP / 'crates' / file).read_text()], reasons)
     tools.want('man page', re.findall(r'^(\w+)\|', (TOP / 'man/nfs3canon.1').read_text(), re.M),
                reasons)
     tools.want('explain', re.findall(r"'([A-Z]\w+)': ",
