@@ -4,3 +4,4 @@ pub mod GroupsLemmas
 pub mod ConnectionsLemmas
 pub mod FramesLemmas
 pub mod ResultLemmas
+pub mod LawsLemmas

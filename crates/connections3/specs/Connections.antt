@@ -86,6 +86,18 @@ IsOneAtLimit (connection ∷ connections) p =
     (IsFlowAtLimit connection.lower p ⊎ IsFlowAtLimit connection.higher p)
     ⊎ IsOneAtLimit connections p
 
+-- the streams of two ends count from the same number, if both have begun
+abbrev pub CountAlike : Option Flow → Option Flow → Type 0
+CountAlike (Some one) (Some other) = one.stream.first ≡ other.stream.first
+CountAlike (Some one) None = Unit {0}
+CountAlike None other = Unit {0}
+
+-- all streams of connections do, one by one
+abbrev pub AllCountAlike : List Connection → List Connection → Type 0
+AllCountAlike (one ∷ ones) (other ∷ others) = (CountAlike one.lower other.lower
+    × CountAlike one.higher other.higher) × AllCountAlike ones others
+AllCountAlike ones others = Unit {0}
+
 -- what contracts see of connections
 abbrev pub connections_of : Inside → List Connection
 connections_of c = c.connections.items

@@ -91,7 +91,7 @@ impl Connections {
     }
 }
 
-/// OpensConnection a connection with its first packet.
+/// Opens a connection with its first packet.
 fn open(
     alloc: Global,
     recent: &mut BTreeMap<EndPair, Recent>,

@@ -2,7 +2,7 @@
 
 use crate::asserts::{assert_same, ok, some};
 use crate::recordings::{MIXED, PCAP, read};
-use connections3::{Connections, UsedNumbers, OneEnd, Packet, PacketTaker};
+use connections3::{Connections, OneEnd, Packet, PacketTaker, UsedNumbers};
 use recording3::{Address, End, FrameHead, Segment};
 use std::alloc::Global;
 use std::process::Abort;
@@ -21,7 +21,9 @@ const SERVER: End = End {
 };
 
 const FIN: u8 = 1;
+
 const SYN: u8 = 2;
+
 const ACK: u8 = 16;
 
 // A segment of the client with so many bytes.
@@ -136,7 +138,11 @@ fn a_port_is_used_again(rt: HostRuntime) {
     let mut connections = Connections::new(rt.alloc());
     take(&rt, &mut connections, &handshake());
     // The SYN again, and one with another number.
-    take(&rt, &mut connections, &[called(99, 0, SYN, 0), called(7_000_000, 0, SYN, 0)]);
+    take(
+        &rt,
+        &mut connections,
+        &[called(99, 0, SYN, 0), called(7_000_000, 0, SYN, 0)],
+    );
     // Late segments of the first connection: one of an end that sent nothing in the second.
     let late = [called(140, 500, ACK, 10), answered(500, 140, ACK, 8)];
     take(&rt, &mut connections, &late);
