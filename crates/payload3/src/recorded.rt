@@ -5,6 +5,7 @@ ghost use Rattle.capture3.specs.Device.{Counts};
 ghost use Rattle.payload3.specs.Readings.{Allow, bytes_at};
 
 use crate::notes::Notes;
+use crate::payload::Payload;
 use capture3::DeviceFailed;
 use std::marker::Model;
 use std::os::unix::fs::FileExt;
@@ -44,6 +45,16 @@ impl<'a, F: FileExt> Recorded<'a, F> {
         }
     }
 
+    /// Adds what the reads of a payload of the same file gave. Nothing is done when it runs.
+    pub fn note_payload(&mut self, payload: &Payload<'_, F>)
+        ensures { self.new ≡ record {
+          readings = self.old.readings ++ payload.now.readings;
+          failures = self.old.failures;
+        } }
+    {
+        self.notes.note_all(payload.notes());
+    }
+
     /// Returns whether bytes that were recorded twice are the same: those of `again`, and as many
     /// where `first` lies.
     ///
@@ -59,9 +70,10 @@ impl<'a, F: FileExt> Recorded<'a, F> {
             ≡ bytes_at file pair.now.again.at pair.now.again.size))) }
         ensures count { Counts self.old.failures self.new.failures result }
     {
+        let size = pair.again.size;
         let mut done = 0;
-        'parts: while done < pair.again.size {
-            match self.same_part(pair, done)? {
+        'parts: while done < size {
+            match self.same_part(pair, done, size - done)? {
                 Some(count) => done += count,
                 None => return Ok(false),
             }
@@ -69,18 +81,17 @@ impl<'a, F: FileExt> Recorded<'a, F> {
         Ok(true)
     }
 
-    /// Returns how many bytes of a pair, after the first ones, were compared and are the same, or
-    /// none if they are not.
-    fn same_part(&mut self, pair: &Pair, done: u32) -> Result<Option<u32>, DeviceFailed>
-        requires { done < pair.now.again.size }
+    /// Returns how many bytes of a pair, at most so many after the first ones, were compared and are
+    /// the same, or none if they are not.
+    fn same_part(&mut self, pair: &Pair, done: u32, most: u32) -> Result<Option<u32>, DeviceFailed>
+        requires { 0 < most }
         ensures more { (file : List ℕ) → Allow self.new.readings file
             → Allow self.old.readings file }
-        ensures some { IfOk result (λ part. IfSome part (λ n. (0 < n)
-            × (n ≤ pair.now.again.size - done)
+        ensures some { IfOk result (λ part. IfSome part (λ n. (0 < n) × (n ≤ most)
             × ((file : List ℕ) → Allow self.new.readings file
             → bytes_at file (pair.now.first.at + done) n
             ≡ bytes_at file (pair.now.again.at + done) n))) }
-        ensures none { result ≡ Ok None → (n : ℕ) × (n ≤ pair.now.again.size - done)
+        ensures none { result ≡ Ok None → (n : ℕ) × (n ≤ most)
             × ((file : List ℕ) → Allow self.new.readings file
             → bytes_at file (pair.now.first.at + done) n
             ≢ bytes_at file (pair.now.again.at + done) n) }
@@ -88,7 +99,7 @@ impl<'a, F: FileExt> Recorded<'a, F> {
     {
         let mut one_bytes = [0; PIECE];
         let mut other_bytes = [0; PIECE];
-        let room = PIECE.min((pair.again.size - done) as usize);
+        let room = PIECE.min(most as usize);
         let one_part = &mut one_bytes[..room];
         let count = self.read(pair.first.at, done, one_part)?;
         let other_part = &mut other_bytes[..count];

@@ -1,4 +1,4 @@
-use Rattle.std.proofs.Common.{◌≡◌, ◌≤◌, ◌<◌, ◌+◌, ◌-◌, ℕ, List, Ok, Option, IfSome, false, refl, sym, subst, ap, ◌∙◌, arith}
+use Rattle.std.proofs.Common.{◌≡◌, ◌≤◌, ◌<◌, ◌+◌, ◌-◌, ℕ, List, Ok, Option, IfSome, false, refl, subst, ap, ◌∙◌, arith}
 use Rattle.std.proofs.lemmas.Bool.{iff_false}
 use Rattle.payload3.specs.Readings.{Allow, bytes_at}
 use Rattle.payload3.proofs.RecordedLemmas.{differ_later, same_more}
@@ -18,6 +18,7 @@ parts-preserved g c =
     let n = c.in-Some.count in
     record {
       more = λ file allows. c.parts.invariant.more file (c.same_part.ensures.more file allows);
+      failures = c.in_ok-count.ensures.count ∙ c.parts.invariant.failures;
       within = omega (arith, part.1, c.parts-test.true);
       same = λ file allows.
           same_more file pair.first.at pair.again.at done n

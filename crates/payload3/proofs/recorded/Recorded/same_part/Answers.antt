@@ -1,4 +1,4 @@
-use Rattle.std.proofs.Common.{ℕ, ◌≤◌, ◌+◌, ◌-◌, replicate, refl, sym, ◌∙◌, arith}
+use Rattle.std.proofs.Common.{ℕ, ◌≤◌, ◌+◌, replicate, refl, sym, ◌∙◌, arith}
 use Rattle.std.proofs.lemmas.Bool.{iff_false}
 use Rattle.std.proofs.lemmas.List.{length-take}
 use Rattle.payload3.proofs.RecordedLemmas.{both_read}
@@ -13,7 +13,7 @@ returns-then-same_front-clause-some g c =
       c.read-2.auto.buf,
       length-take {A = ℕ} c.in_ok-count.count (replicate 4096 0),
     ) in
-    let few : c.in_ok-again.again ≤ c.args.pair.now.again.size - c.args.done =
+    let few : c.in_ok-again.again ≤ c.args.most =
     omega (
       arith,
       fewer,
@@ -59,7 +59,7 @@ returns-else-same_front-clause-none g c =
       c.read-2.auto.buf,
       length-take {A = ℕ} c.in_ok-count.count (replicate 4096 0),
     ) in
-    let few : c.in_ok-again.again ≤ c.args.pair.now.again.size - c.args.done =
+    let few : c.in_ok-again.again ≤ c.args.most =
     omega (
       arith,
       fewer,
