@@ -8,6 +8,8 @@ mod captures;
 #[cfg(test)]
 mod commands;
 #[cfg(test)]
+mod conversion;
+#[cfg(test)]
 mod faults;
 #[cfg(test)]
 mod masks;

@@ -1,0 +1,5 @@
+-- Proofs on whole streams.
+pub mod SpotLemmas
+pub mod OrderedLemmas
+pub mod ContentLemmas
+pub mod EndLemmas

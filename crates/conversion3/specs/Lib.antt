@@ -1,0 +1,5 @@
+-- Which connections of a recording are whole.
+pub mod Whole
+pub mod Flaws
+pub mod Judgments
+pub mod machinery
