@@ -1,5 +1,5 @@
 -- Streams in order, and as they were recorded.
-use Rattle.std.proofs.Common.{◌≡◌, ◌≢◌, ◌≤◌, ◌<◌, ℕ, ◌+◌, ◌-◌, List, [], Option, None, Some, refl, sym, ◌∙◌, ap, subst, arith, ◌⊎◌, inl, inr}
+use Rattle.std.proofs.Common.{◌≡◌, ◌≢◌, ◌≤◌, ◌<◌, ℕ, ◌-◌, List, Option, None, Some, refl, sym, ◌∙◌, ap, subst, arith, ◌⊎◌, inl, inr}
 use Rattle.std.specs.Option.{option_or}
 use Rattle.std.proofs.lemmas.Bool.{cases_lt}
 use Rattle.streams3.specs.declared.runs.MissingBytes.{MissingBytes}
@@ -34,7 +34,7 @@ was_sent one other p same sent = (
   elim sent.0 [
     | inl later ↦ inl (later.0, later.1, λ none. later.2 (same.spots later.0 ∙ none))
     | inr marked ↦ inr (subst (λ (m : Marks). IsBefore p m.acknowledged ⊎ IsBefore p m.end)
-      same.marks marked)
+        same.marks marked)
   ],
   subst (λ (m : Marks). IsNotAfter p m.end) same.marks sent.1,
 )
@@ -191,7 +191,7 @@ mark_behind stream bytes gap none open_end None is before = absurd before
 mark_behind stream bytes gap none open_end (Some mark) is before =
     elim (cases_lt bytes.end mark.position) [
       | inl lt ↦ absurd (not_sent stream bytes gap none
-        (inr (inl (subst (IsBefore bytes.end) (sym is) lt)), open_end))
+          (inr (inl (subst (IsBefore bytes.end) (sym is) lt)), open_end))
       | inr le ↦ (mark, is, omega (arith, before, le, gap.some))
     ]
 

@@ -1,5 +1,4 @@
 use Rattle.std.proofs.Common.{◌+◌, ◌-◌, arith}
-use Rattle.streams3.specs.declared.runs.Run.{Run}
 use Rattle.streams3.specs.machinery.Log.{no_run, nth_run}
 use Rattle.conversion3.proofs.SpotLemmas.{found_at, none_more}
 use Rattle.conversion3.proofs.flaws.frame_at.Goals as goal
