@@ -17,7 +17,8 @@ use Rattle.conversion3.proofs.SpotLemmas.{has_there}
 
 -- ---- bytes at two offsets
 
-take_one : (size i : ℕ) (xs : List ℕ) → i < size → take 1 (drop i (take size xs)) ≡ take 1 (drop i xs)
+take_one : (size i : ℕ) (xs : List ℕ) → i < size
+    → take 1 (drop i (take size xs)) ≡ take 1 (drop i xs)
 take_one zero i xs lt = absurd (omega (arith, lt))
 take_one (suc size) i [] lt = refl
 take_one (suc size) zero (x ∷ xs) lt = refl
@@ -115,7 +116,8 @@ abbrev IsSamePair : (file : List ℕ) → List Run → Pair → Type 0
 IsSamePair file log pair = IsRepeat log pair × HasSameBytes file pair
 
 paired_is : (file : List ℕ) (log : List Run) (run : Run) (p : ℕ) → Has run p
-    → Found (IsSamePair file log) run p → byte_at file (spot_in run p) ≡ byte_at file (spot_of log p)
+    → Found (IsSamePair file log) run p
+    → byte_at file (spot_in run p) ≡ byte_at file (spot_of log p)
 paired_is file log run p has f =
     let there : Has f.pair.again p =
     has_there f.pair.again p (run.at + (p - run.position), run.frame)

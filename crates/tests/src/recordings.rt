@@ -15,7 +15,7 @@ use std::process::Abort;
 
 // The header and the first frame of examples/knfsd_readdir.pcap: the first segment of a kernel's
 // connection.
-const PCAP: [u8; 114] = [
+pub(crate) const PCAP: [u8; 114] = [
     0xd4, 0xc3, 0xb2, 0xa1, 2, 0, 4, 0, 0, 0, 0, 0, 0, 0, 0, 0, 0, 0, 4, 0, 1, 0, 0, 0, 0x41, 0xad,
     2, 0x6b, 0xf9, 0xbd, 0x0e, 0, 0x4a, 0, 0, 0, 0x4a, 0, 0, 0, 0x36, 0x6f, 0xa1, 0x7e, 0x5c, 0x71,
     0xa6, 0x30, 0xb5, 0x58, 0x50, 0x75, 8, 0, 0x45, 0, 0, 0x3c, 0x94, 5, 0x40, 0, 0x40, 6, 0x92,
@@ -72,7 +72,7 @@ const ETHERNET: Interface = Interface {
 // second, a Simple Packet, and a block of another type. The other has an interface that counts
 // 1,024ths of a second, and a packet. The second interface keeps 4 octets of a frame, counts
 // nanoseconds, and its times are moved by -3,600 seconds.
-const MIXED: [u8; 256] = [
+pub(crate) const MIXED: [u8; 256] = [
     0x0a, 0x0d, 0x0d, 0x0a, 0x1c, 0, 0, 0, 0x4d, 0x3c, 0x2b, 0x1a, 1, 0, 0, 0, 0xff, 0xff, 0xff,
     0xff, 0xff, 0xff, 0xff, 0xff, 0x1c, 0, 0, 0, 1, 0, 0, 0, 0x14, 0, 0, 0, 1, 0, 0, 0, 0, 0, 4, 0,
     0x14, 0, 0, 0, 1, 0, 0, 0, 0x2c, 0, 0, 0, 0x65, 0, 0, 0, 4, 0, 0, 0, 9, 0, 1, 0, 9, 0, 0, 0,
@@ -96,7 +96,7 @@ fn segment(link: u32, frame: &[u8], wire: u32) -> Result<Segment, NoSegment> {
 }
 
 // Reads a recording in pieces of so many octets. The read of a number fails, if it is not 0.
-fn read<T: FrameTaker>(
+pub(crate) fn read<T: FrameTaker>(
     alloc: Global,
     file: &[u8],
     piece: usize,
@@ -236,10 +236,12 @@ fn heads_of(alloc: Global, most: usize) -> Heads {
     }
 }
 
-fn head(number: u64, offset: u64, time: u64, link: u32, wire: u32) -> FrameHead {
+// The head of a frame whose part and octets begin at these places.
+fn head(number: u64, (offset, at): (u64, u64), time: u64, link: u32, wire: u32) -> FrameHead {
     FrameHead {
         number,
         offset,
+        at,
         time,
         link,
         wire,
@@ -268,7 +270,7 @@ fn are_passed(rt: &impl Abort, alloc: Global, file: &[u8], piece: usize, wanted:
 
 #[test]
 fn frames_of_a_pcap_are_passed(rt: HostRuntime) {
-    let wanted = [head(8, 24, 1_795_337_537_966_137_000, 1, 74)];
+    let wanted = [head(8, (24, 40), 1_795_337_537_966_137_000, 1, 74)];
     are_passed(&rt, rt.alloc(), &PCAP, 1, &wanted);
     are_passed(&rt, rt.alloc(), &PCAP, 7, &wanted);
     are_passed(&rt, rt.alloc(), &PCAP, 114, &wanted);
@@ -278,9 +280,9 @@ fn frames_of_a_pcap_are_passed(rt: HostRuntime) {
 #[test]
 fn frames_of_a_pcapng_are_passed(rt: HostRuntime) {
     let wanted = [
-        head(8, 92, 0, 101, 9),
-        head(9, 128, 0, 1, 6),
-        head(10, 220, 3_500_000_000, 276, 60),
+        head(8, (92, 120), 0, 101, 9),
+        head(9, (128, 140), 0, 1, 6),
+        head(10, (220, 248), 3_500_000_000, 276, 60),
     ];
     are_passed(&rt, rt.alloc(), &MIXED, 1, &wanted);
     are_passed(&rt, rt.alloc(), &MIXED, 7, &wanted);
