@@ -3,3 +3,4 @@ pub mod SpotLemmas
 pub mod OrderedLemmas
 pub mod ContentLemmas
 pub mod EndLemmas
+pub mod SentLemmas

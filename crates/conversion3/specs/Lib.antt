@@ -2,4 +2,5 @@
 pub mod Whole
 pub mod Flaws
 pub mod Judgments
+pub mod Sent
 pub mod machinery

@@ -4,12 +4,14 @@ use crate::asserts::{assert_same, ok};
 use crate::payloads::InMemory;
 use capture3::{Error, Side};
 use connections3::{Connection, EndPair, Flow, OneEnd, UsedNumbers};
-use conversion3::{Flaw, Judgment, StreamFlaw, judge};
+use conversion3::{Flaw, Judgment, StreamFlaw, judge, sent_runs};
 use payload3::Recorded;
 use recording3::{Address, End};
 use std::alloc::Global;
 use std::process::Abort;
-use streams3::{Acknowledgment, BEGIN, Mark, MissingBytes, Run, Stream, StreamSegment};
+use streams3::{
+    Acknowledgment, BEGIN, Mark, MissingBytes, OrderedStream, Run, Stream, StreamSegment,
+};
 
 // The client's bytes at 0, again at 4 and with another content at 8; the server's at 12.
 const FILE: &[u8] = b"CALLCALLCAL*REPLY";
@@ -109,7 +111,15 @@ fn client_flaw(rt: &impl Abort, alloc: Global, segments: &[StreamSegment]) -> Op
 
 #[test]
 fn a_connection_is_whole(rt: HostRuntime) {
-    let client = [SYN, call(0, 3), call(4, 5), StreamSegment { sequence: 104, ..FIN }];
+    let client = [
+        SYN,
+        call(0, 3),
+        call(4, 5),
+        StreamSegment {
+            sequence: 104,
+            ..FIN
+        },
+    ];
     assert_same!(rt; client_flaw(&rt, rt.alloc(), &client), None);
 }
 
@@ -144,8 +154,17 @@ fn acknowledged_bytes_are_missing(rt: HostRuntime) {
     let alloc = rt.alloc();
     let mut stream = Stream::new(alloc, 100);
     ok(&rt, stream.take(&SYN));
-    ok(&rt, stream.acknowledge(Acknowledgment { number: 108, frame: 7 }));
-    let numbers = UsedNumbers { first: 100, next: 100 };
+    ok(
+        &rt,
+        stream.acknowledge(Acknowledgment {
+            number: 108,
+            frame: 7,
+        }),
+    );
+    let numbers = UsedNumbers {
+        first: 100,
+        next: 100,
+    };
     let server = flow(&rt, alloc, &[SYN, REPLY]);
     let missing = MissingBytes {
         begin: BEGIN,
@@ -198,4 +217,26 @@ fn a_file_that_became_shorter_fails(rt: HostRuntime) {
     let client = flow(&rt, alloc, &[SYN, call(0, 3), call(4, 5)]);
     let judged = judge(alloc, &mut recorded, connection(server, client));
     assert_same!(rt; judged.err(), Some(Error::Read));
+}
+
+#[test]
+fn bytes_before_syn_are_not_sent(rt: HostRuntime) {
+    let alloc = rt.alloc();
+    let before = StreamSegment {
+        sequence: 96,
+        ..call(0, 3)
+    };
+    let mut stream = Stream::new(alloc, 100);
+    ok(&rt, stream.take(&before));
+    ok(&rt, stream.take(&SYN));
+    ok(&rt, stream.take(&call(4, 5)));
+    let ordered = ok(&rt, OrderedStream::new(stream, alloc));
+    let runs = ok(&rt, sent_runs(&ordered, alloc));
+    let wanted = [Run {
+        position: BEGIN,
+        at: 4,
+        size: 4,
+        frame: 5,
+    }];
+    assert_same!(rt; &runs[..], &wanted[..]);
 }
