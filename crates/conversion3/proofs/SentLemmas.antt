@@ -62,7 +62,8 @@ not_after stream p whole there (Some mark) is =
       | inl lt ↦ lt
       | inr le ↦ absurd (whole.within p (record {
         after = λ h.
-            let lt : p < mark.position = subst (IsNotAfter p) is h in absurd (omega (arith, lt, le));
+            let lt : p < mark.position = subst (IsNotAfter p) is h in
+            absurd (omega (arith, lt, le));
         there = there;
       }))
     ]

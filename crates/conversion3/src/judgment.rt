@@ -47,6 +47,7 @@ pub enum Judgment {
 
 /// Returns whether a connection is whole: both SYNs were recorded, no byte that was sent is missing,
 /// none came again with other content, none lies behind FIN, and each number is of its stream.
+/// Only bytes that came again are read.
 ///
 /// # Errors
 ///
