@@ -21,6 +21,11 @@ HasBytesRead file reading = bytes_at file reading.at (length reading.bytes) ≡ 
 abbrev pub Allow : List OffsetRead → (file : List ℕ) → Type 0
 Allow readings file = AllByRecursion (HasBytesRead file) readings
 
+-- What contracts see of a recording's file: what its reads gave, and how many failed, up to 2^64 - 1.
+pub record RecordedReads : Type 0 where
+  pub readings : List OffsetRead
+  pub failures : ℕ
+
 -- What contracts see of a payload: its runs, what the reads of the file gave, the bytes that were
 -- given on, how many reads failed, up to 2^64 - 1, and whether the last one that did not fail gave
 -- none.

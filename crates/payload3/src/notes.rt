@@ -33,4 +33,9 @@ impl Notes {
         ensures { self.new.readings
             ≡ self.old.readings ++ record { at = _at; bytes = _bytes.now } ∷ [] }
     {}
+
+    /// Notes all that other notes have. Nothing is done when it runs.
+    pub fn note_all(&mut self, _others: &Notes)
+        ensures { self.new.readings ≡ self.old.readings ++ _others.now.readings }
+    {}
 }

@@ -88,6 +88,15 @@ impl<'a, F: FileExt> Payload<'a, F> {
     }
 }
 
+impl<'a, F> Payload<'a, F> {
+    /// Returns what the reads of the file gave.
+    pub(crate) fn notes(&self) -> &Notes
+        ensures { result.now.readings ≡ self.now.readings }
+    {
+        &self.notes
+    }
+}
+
 impl<F: FileExt> Source for Payload<'_, F> {
     ghost observed = { λ s. record {
       left = None;

@@ -1,9 +1,11 @@
 //! The file of a recording, with what its reads gave.
 
-ghost use Rattle.std.specs.Prelude.{◌≡◌, ◌≢◌, ◌≤◌, ◌<◌, ◌+◌, ◌∷◌, ◌++◌, ◌↔◌, ℕ, [], List, Ok, None, IfOk, IfSome, IsTrue, OnErr, length, take};
+ghost use Rattle.std.specs.Prelude.{◌≡◌, ◌≢◌, ◌≤◌, ◌<◌, ◌+◌, ◌-◌, ◌∷◌, ◌++◌, ◌↔◌, ℕ, [], List, Ok, None, IfOk, IfSome, IsTrue, OnErr, length, take};
+ghost use Rattle.capture3.specs.Device.{Counts};
 ghost use Rattle.payload3.specs.Readings.{Allow, bytes_at};
 
 use crate::notes::Notes;
+use crate::payload::Payload;
 use capture3::DeviceFailed;
 use std::marker::Model;
 use std::os::unix::fs::FileExt;
@@ -12,31 +14,45 @@ use streams3::Pair;
 /// How many bytes are compared at once.
 const PIECE: usize = 4096;
 
-/// The file of a recording, with what its reads gave. Only clauses see that.
+/// The file of a recording, with what its reads gave, which only clauses see.
 #[derive(Drop)]
 pub struct Recorded<'a, F> {
     file: &'a F,
+    failures: u64,
     notes: Notes,
 }
 
 impl<'a, F> Model for Recorded<'a, F> {
-    ghost use Rattle.std.specs.Prelude.{List};
-    ghost use Rattle.payload3.specs.Readings.{OffsetRead};
+    ghost use Rattle.payload3.specs.Readings.{RecordedReads};
 
-    ghost Value = { List OffsetRead };
+    ghost Value = { RecordedReads };
 
-    ghost view = { λ s. s.notes.readings };
+    ghost view = { λ s. record {
+      readings = s.notes.readings;
+      failures = s.failures;
+    } };
 }
 
 impl<'a, F: FileExt> Recorded<'a, F> {
     /// Returns the file, of which nothing was read yet.
     pub fn new(file: &'a F) -> Recorded<'a, F>
-        ensures { result ≡ [] }
+        ensures { result ≡ record { readings = []; failures = 0 } }
     {
         Recorded {
             file,
+            failures: 0,
             notes: Notes::new(),
         }
+    }
+
+    /// Adds what the reads of a payload of the same file gave. Nothing is done when it runs.
+    pub fn note_payload(&mut self, payload: &Payload<'_, F>)
+        ensures { self.new ≡ record {
+          readings = self.old.readings ++ payload.now.readings;
+          failures = self.old.failures;
+        } }
+    {
+        self.notes.note_all(payload.notes());
     }
 
     /// Returns whether bytes that were recorded twice are the same: those of `again`, and as many
@@ -45,18 +61,19 @@ impl<'a, F: FileExt> Recorded<'a, F> {
     /// # Errors
     ///
     /// `DeviceFailed` if a read of the file fails, if the file ends before the bytes do, or if they
-    /// lie beyond 2^64.
+    /// lie beyond 2^64. It counts as a failure.
     pub fn is_same(&mut self, pair: &Pair) -> Result<bool, DeviceFailed>
-        ensures more { (file : List ℕ) → Allow self.new file → Allow self.old file }
-        ensures same { IfOk result (λ same. (file : List ℕ) → Allow self.new file
+        ensures more { (file : List ℕ) → Allow self.new.readings file
+            → Allow self.old.readings file }
+        ensures same { IfOk result (λ same. (file : List ℕ) → Allow self.new.readings file
             → (IsTrue same ↔ (bytes_at file pair.now.first.at pair.now.again.size
             ≡ bytes_at file pair.now.again.at pair.now.again.size))) }
+        ensures count { Counts self.old.failures self.new.failures result }
     {
+        let size = pair.again.size;
         let mut done = 0;
-        'parts: while done < pair.again.size {
-            let one = offset(pair.first.at, done)?;
-            let other = offset(pair.again.at, done)?;
-            match self.same_part(one, other, pair.again.size - done)? {
+        'parts: while done < size {
+            match self.same_part(pair, done, size - done)? {
                 Some(count) => done += count,
                 None => return Ok(false),
             }
@@ -64,25 +81,29 @@ impl<'a, F: FileExt> Recorded<'a, F> {
         Ok(true)
     }
 
-    /// Returns how many bytes, at most so many, were compared at two offsets and are the same, or
-    /// none if they are not.
-    fn same_part(&mut self, one: u64, other: u64, most: u32) -> Result<Option<u32>, DeviceFailed>
+    /// Returns how many bytes of a pair, at most so many after the first ones, were compared and are
+    /// the same, or none if they are not.
+    fn same_part(&mut self, pair: &Pair, done: u32, most: u32) -> Result<Option<u32>, DeviceFailed>
         requires { 0 < most }
-        ensures more { (file : List ℕ) → Allow self.new file → Allow self.old file }
+        ensures more { (file : List ℕ) → Allow self.new.readings file
+            → Allow self.old.readings file }
         ensures some { IfOk result (λ part. IfSome part (λ n. (0 < n) × (n ≤ most)
-            × ((file : List ℕ) → Allow self.new file
-            → bytes_at file one n ≡ bytes_at file other n))) }
+            × ((file : List ℕ) → Allow self.new.readings file
+            → bytes_at file (pair.now.first.at + done) n
+            ≡ bytes_at file (pair.now.again.at + done) n))) }
         ensures none { result ≡ Ok None → (n : ℕ) × (n ≤ most)
-            × ((file : List ℕ) → Allow self.new file
-            → bytes_at file one n ≢ bytes_at file other n) }
+            × ((file : List ℕ) → Allow self.new.readings file
+            → bytes_at file (pair.now.first.at + done) n
+            ≢ bytes_at file (pair.now.again.at + done) n) }
+        ensures count { Counts self.old.failures self.new.failures result }
     {
         let mut one_bytes = [0; PIECE];
         let mut other_bytes = [0; PIECE];
         let room = PIECE.min(most as usize);
         let one_part = &mut one_bytes[..room];
-        let count = self.read(one, one_part)?;
+        let count = self.read(pair.first.at, done, one_part)?;
         let other_part = &mut other_bytes[..count];
-        let again = self.read(other, other_part)?;
+        let again = self.read(pair.again.at, done, other_part)?;
         if same_front(one_part, other_part, again) {
             Ok(Some(again as u32))
         } else {
@@ -90,20 +111,25 @@ impl<'a, F: FileExt> Recorded<'a, F> {
         }
     }
 
-    /// Reads at an offset. Returns how many bytes it put at the front, which are some.
-    fn read(&mut self, at: u64, buf: &mut [u8]) -> Result<usize, DeviceFailed>
+    /// Reads so many bytes after an offset. Returns how many it put at the front, which are some.
+    fn read(&mut self, from: u64, done: u32, buf: &mut [u8]) -> Result<usize, DeviceFailed>
         ensures within { IfOk result (λ n. (0 < n) × (n ≤ length buf.new)) }
-        ensures noted { IfOk result (λ n. self.new
-            ≡ self.old ++ record { at = at; bytes = take n buf.new } ∷ []) }
-        ensures failed { OnErr result (self.new ≡ self.old) }
+        ensures noted { IfOk result (λ n. self.new.readings
+            ≡ self.old.readings ++ record { at = from + done; bytes = take n buf.new } ∷ []) }
+        ensures failed { OnErr result (self.new.readings ≡ self.old.readings) }
+        ensures count { Counts self.old.failures self.new.failures result }
     {
-        match self.file.read_at(buf, at) {
-            Ok(count) if count > 0 => {
-                self.notes.note(at, &buf[..count]);
-                Ok(count)
+        if let Some(at) = from.checked_add(done as u64) {
+            match self.file.read_at(buf, at) {
+                Ok(count) if count > 0 => {
+                    self.notes.note(at, &buf[..count]);
+                    return Ok(count);
+                }
+                _ => {}
             }
-            _ => Err(DeviceFailed),
         }
+        self.failures = self.failures.saturating_add(1);
+        Err(DeviceFailed)
     }
 }
 
@@ -114,14 +140,4 @@ fn same_front(one: &[u8], other: &[u8], count: usize) -> bool
     ensures { IsTrue result ↔ (take count one.now ≡ take count other.now) }
 {
     one[..count] == other[..count]
-}
-
-/// Returns the offset so many bytes after another.
-fn offset(at: u64, done: u32) -> Result<u64, DeviceFailed>
-    ensures { IfOk result (λ n. n ≡ at + done) }
-{
-    match at.checked_add(done as u64) {
-        Some(offset) => Ok(offset),
-        None => Err(DeviceFailed),
-    }
 }

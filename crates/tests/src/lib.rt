@@ -10,6 +10,8 @@ mod commands;
 #[cfg(test)]
 mod connections;
 #[cfg(test)]
+mod conversion;
+#[cfg(test)]
 mod faults;
 #[cfg(test)]
 mod masks;

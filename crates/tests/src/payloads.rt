@@ -9,8 +9,8 @@ use streams3::{Pair, Run};
 
 /// A file in memory.
 #[derive(Drop)]
-struct InMemory<'a> {
-    bytes: &'a [u8],
+pub(crate) struct InMemory<'a> {
+    pub bytes: &'a [u8],
 }
 
 impl FileExt for InMemory<'_> {

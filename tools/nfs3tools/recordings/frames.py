@@ -239,9 +239,9 @@ def interface_of(order: str, body: bytes) -> Interface:
         value = body[at + 4:at + 4 + size]
         if code == 0:
             break
-        if code == TIME_UNIT and len(value) == 1:
+        if code == TIME_UNIT and size == len(value) == 1:
             units = 1 << (value[0] & 0x7f) if value[0] & 0x80 else 10 ** value[0]
-        if code == TIME_OFFSET and len(value) == 8:
+        if code == TIME_OFFSET and size == len(value) == 8:
             offset = struct.unpack(order + 'q', value)[0] * NANOSECONDS
         at += 4 + size + -size % 4
     return Interface(link, kept, units, offset)

@@ -1,4 +1,4 @@
-use Rattle.std.proofs.Common.{◌≡◌, ◌≤◌, ◌<◌, ◌-◌, ℕ, List, Ok, Option, IfSome, false, refl, sym, subst, ap, ◌∙◌, arith}
+use Rattle.std.proofs.Common.{◌≡◌, ◌≤◌, ◌<◌, ◌+◌, ◌-◌, ℕ, List, Ok, Option, IfSome, false, refl, subst, ap, ◌∙◌, arith}
 use Rattle.std.proofs.lemmas.Bool.{iff_false}
 use Rattle.payload3.specs.Readings.{Allow, bytes_at}
 use Rattle.payload3.proofs.RecordedLemmas.{differ_later, same_more}
@@ -12,18 +12,18 @@ parts-preserved g c =
     subst
     (λ (found : Option ℕ).
     IfSome found (λ n. (0 < n) × (n ≤ pair.again.size - done)
-    × ((file : List ℕ) → Allow c.same_part.new.self file
-    → bytes_at file c.in_ok-one.one n ≡ bytes_at file c.in_ok-other.other n)))
+    × ((file : List ℕ) → Allow c.same_part.new.self.readings file
+    → bytes_at file (pair.first.at + done) n ≡ bytes_at file (pair.again.at + done) n)))
     c.in-Some.is c.in_ok-count.ensures.some in
     let n = c.in-Some.count in
     record {
       more = λ file allows. c.parts.invariant.more file (c.same_part.ensures.more file allows);
+      failures = c.in_ok-count.ensures.count ∙ c.parts.invariant.failures;
       within = omega (arith, part.1, c.parts-test.true);
       same = λ file allows.
           same_more file pair.first.at pair.again.at done n
           (c.parts.invariant.same file (c.same_part.ensures.more file allows))
-          (ap (λ (at : ℕ). bytes_at file at n) (sym c.in_ok-one.ensures) ∙ part.2 file allows
-          ∙ ap (λ (at : ℕ). bytes_at file at n) c.in_ok-other.ensures);
+          (part.2 file allows);
     }
 
 pub returns-in_err-count-clause-more : goal.returns-in_err-count-clause-more
@@ -42,9 +42,7 @@ returns-in-None-clause-same g c = λ file allows.
     let later =
     differ_later file pair.first.at pair.again.at done none.0 pair.again.size
     (omega (arith, none.1, c.parts-test.true))
-    (λ same. none.2 file allows
-    (ap (λ (at : ℕ). bytes_at file at none.0) c.in_ok-one.ensures ∙ same
-    ∙ ap (λ (at : ℕ). bytes_at file at none.0) (sym c.in_ok-other.ensures))) in (
+    (none.2 file allows) in (
       (λ is. absurd (iff_false {b = false} ((λ e. e), (λ e. e)) refl is)),
       (λ same. absurd (later same)),
     )

@@ -1,4 +1,4 @@
-use Rattle.std.proofs.Common.{ℕ, ◌≤◌, replicate, refl, sym, ◌∙◌, arith}
+use Rattle.std.proofs.Common.{ℕ, ◌≤◌, ◌+◌, replicate, refl, sym, ◌∙◌, arith}
 use Rattle.std.proofs.lemmas.Bool.{iff_false}
 use Rattle.std.proofs.lemmas.List.{length-take}
 use Rattle.payload3.proofs.RecordedLemmas.{both_read}
@@ -26,8 +26,8 @@ returns-then-same_front-clause-some g c =
       few,
       λ file allows.
           let both =
-          both_read file c.args.self.now c.read.new.self c.read-2.new.self c.read.new.buf
-          c.read-2.new.buf c.args.one c.args.other c.in_ok-count.count c.in_ok-again.again
+          both_read file c.args.self.now.readings c.read.new.self.readings c.read-2.new.self.readings c.read.new.buf
+          c.read-2.new.buf (c.args.pair.now.first.at + c.args.done) (c.args.pair.now.again.at + c.args.done) c.in_ok-count.count c.in_ok-again.again
           c.in_ok-count.ensures.noted c.in_ok-again.ensures.noted fewer
           c.in_ok-count.ensures.within.1 c.in_ok-again.ensures.within.1 allows in
           both.first ∙ c.if-same_front.ensures.0 refl ∙ sym both.second,
@@ -44,8 +44,8 @@ returns-else-same_front-clause-more g c =
     ) in
     λ file allows.
     let both =
-    both_read file c.args.self.now c.read.new.self c.read-2.new.self c.read.new.buf c.read-2.new.buf
-    c.args.one c.args.other c.in_ok-count.count c.in_ok-again.again c.in_ok-count.ensures.noted
+    both_read file c.args.self.now.readings c.read.new.self.readings c.read-2.new.self.readings c.read.new.buf c.read-2.new.buf
+    (c.args.pair.now.first.at + c.args.done) (c.args.pair.now.again.at + c.args.done) c.in_ok-count.count c.in_ok-again.again c.in_ok-count.ensures.noted
     c.in_ok-again.ensures.noted fewer c.in_ok-count.ensures.within.1
     c.in_ok-again.ensures.within.1 allows in
     both.before
@@ -73,8 +73,8 @@ returns-else-same_front-clause-none g c =
       few,
       λ file allows same.
           let both =
-          both_read file c.args.self.now c.read.new.self c.read-2.new.self c.read.new.buf
-          c.read-2.new.buf c.args.one c.args.other c.in_ok-count.count c.in_ok-again.again
+          both_read file c.args.self.now.readings c.read.new.self.readings c.read-2.new.self.readings c.read.new.buf
+          c.read-2.new.buf (c.args.pair.now.first.at + c.args.done) (c.args.pair.now.again.at + c.args.done) c.in_ok-count.count c.in_ok-again.again
           c.in_ok-count.ensures.noted c.in_ok-again.ensures.noted fewer
           c.in_ok-count.ensures.within.1 c.in_ok-again.ensures.within.1 allows in
           iff_false c.if-same_front.ensures refl (sym both.first ∙ same ∙ both.second),
