@@ -21,7 +21,8 @@ HasBytesRead file reading = bytes_at file reading.at (length reading.bytes) ≡ 
 abbrev pub Allow : List OffsetRead → (file : List ℕ) → Type 0
 Allow readings file = AllByRecursion (HasBytesRead file) readings
 
--- What contracts see of a recording's file: what its reads gave, and how many failed, up to 2^64 - 1.
+-- What contracts see of a recording's file: what its reads gave, and how many failed, up to
+-- 2^64 - 1.
 pub record RecordedReads : Type 0 where
   pub readings : List OffsetRead
   pub failures : ℕ

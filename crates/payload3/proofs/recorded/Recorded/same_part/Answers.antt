@@ -26,10 +26,12 @@ returns-then-same_front-clause-some g c =
       few,
       λ file allows.
           let both =
-          both_read file c.args.self.now.readings c.read.new.self.readings c.read-2.new.self.readings c.read.new.buf
-          c.read-2.new.buf (c.args.pair.now.first.at + c.args.done) (c.args.pair.now.again.at + c.args.done) c.in_ok-count.count c.in_ok-again.again
-          c.in_ok-count.ensures.noted c.in_ok-again.ensures.noted fewer
-          c.in_ok-count.ensures.within.1 c.in_ok-again.ensures.within.1 allows in
+          both_read file c.args.self.now.readings c.read.new.self.readings
+          c.read-2.new.self.readings c.read.new.buf c.read-2.new.buf
+          (c.args.pair.now.first.at + c.args.done) (c.args.pair.now.again.at + c.args.done)
+          c.in_ok-count.count c.in_ok-again.again c.in_ok-count.ensures.noted
+          c.in_ok-again.ensures.noted fewer c.in_ok-count.ensures.within.1
+          c.in_ok-again.ensures.within.1 allows in
           both.first ∙ c.if-same_front.ensures.0 refl ∙ sym both.second,
     )
 
@@ -44,8 +46,10 @@ returns-else-same_front-clause-more g c =
     ) in
     λ file allows.
     let both =
-    both_read file c.args.self.now.readings c.read.new.self.readings c.read-2.new.self.readings c.read.new.buf c.read-2.new.buf
-    (c.args.pair.now.first.at + c.args.done) (c.args.pair.now.again.at + c.args.done) c.in_ok-count.count c.in_ok-again.again c.in_ok-count.ensures.noted
+    both_read file c.args.self.now.readings c.read.new.self.readings
+    c.read-2.new.self.readings c.read.new.buf c.read-2.new.buf
+    (c.args.pair.now.first.at + c.args.done) (c.args.pair.now.again.at + c.args.done)
+    c.in_ok-count.count c.in_ok-again.again c.in_ok-count.ensures.noted
     c.in_ok-again.ensures.noted fewer c.in_ok-count.ensures.within.1
     c.in_ok-again.ensures.within.1 allows in
     both.before
@@ -73,9 +77,11 @@ returns-else-same_front-clause-none g c =
       few,
       λ file allows same.
           let both =
-          both_read file c.args.self.now.readings c.read.new.self.readings c.read-2.new.self.readings c.read.new.buf
-          c.read-2.new.buf (c.args.pair.now.first.at + c.args.done) (c.args.pair.now.again.at + c.args.done) c.in_ok-count.count c.in_ok-again.again
-          c.in_ok-count.ensures.noted c.in_ok-again.ensures.noted fewer
-          c.in_ok-count.ensures.within.1 c.in_ok-again.ensures.within.1 allows in
+          both_read file c.args.self.now.readings c.read.new.self.readings
+          c.read-2.new.self.readings c.read.new.buf c.read-2.new.buf
+          (c.args.pair.now.first.at + c.args.done) (c.args.pair.now.again.at + c.args.done)
+          c.in_ok-count.count c.in_ok-again.again c.in_ok-count.ensures.noted
+          c.in_ok-again.ensures.noted fewer c.in_ok-count.ensures.within.1
+          c.in_ok-again.ensures.within.1 allows in
           iff_false c.if-same_front.ensures refl (sym both.first ∙ same ∙ both.second),
     )
