@@ -164,7 +164,8 @@ def call_text(one: KeptExchange, width: int = 0) -> str:
         words.append(f'(sent {len(one.again) + 1} times)')
     if one.earlier:
         words.append(f'(again, as {one.earlier})')
-    return ' '.join(words)
+    # (an empty path is none in a sentence)
+    return ' '.join(words if width else filter(None, words))
 
 
 class Kept:
