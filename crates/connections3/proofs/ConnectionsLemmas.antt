@@ -125,18 +125,21 @@ pub flow_sent : (flow new : Flow) (packets : List Packet) (p : Packet)
     → new.numbers ≡ with_numbers (Some flow.numbers) p
     → AddsEvents flow.stream new.stream (Sent p.segment ∷ shown_by p.cut)
     → ShowsFlow (Some flow) p.from packets → ShowsFlow (Some new) p.from (packets ++ p ∷ [])
-flow_sent flow new packets p n adds (m, shows) =
+flow_sent flow new packets p n adds (m, first, shows) =
     let numbers : numbers_of p.from (packets ++ p ∷ []) ≡ Some new.numbers =
     own_numbers packets p
     ∙ (ap (λ (o : Option UsedNumbers). Some (with_numbers o p)) m
-    ∙ ap (λ (x : UsedNumbers). Some x) (sym n)) in
-    (numbers, subst (ShowsEvents new.stream) (sym (own_events packets p)) (adds _ shows))
+    ∙ ap (λ (x : UsedNumbers). Some x) (sym n)) in (
+      numbers,
+      adds.0 ∙ (first ∙ sym (ap (λ (x : UsedNumbers). x.first) n)),
+      subst (ShowsEvents new.stream) (sym (own_events packets p)) (adds.1 _ shows),
+    )
 
 pub flow_begun : (new : Flow) (packets : List Packet) (p : Packet)
-    → new.numbers ≡ with_numbers None p
+    → new.numbers ≡ with_numbers None p → new.stream.first ≡ new.numbers.first
     → ShowsEvents new.stream (Sent p.segment ∷ shown_by p.cut)
     → ShowsFlow None p.from packets → ShowsFlow (Some new) p.from (packets ++ p ∷ [])
-flow_begun new packets p n shows m =
+flow_begun new packets p n first shows m =
     let numbers : numbers_of p.from (packets ++ p ∷ []) ≡ Some new.numbers =
     own_numbers packets p
     ∙ (ap (λ (o : Option UsedNumbers). Some (with_numbers o p)) m
@@ -145,14 +148,14 @@ flow_begun new packets p n shows m =
     own_events packets p
     ∙ ap (λ (e : List Event). e ++ (Sent p.segment ∷ shown_by p.cut))
     (no_events packets p.from m) in
-    (numbers, subst (ShowsEvents new.stream) (sym events) shows)
+    (numbers, first, subst (ShowsEvents new.stream) (sym events) shows)
 
 pub flow_answered : (flow new : Flow) (packets : List Packet) (p : Packet)
     → new.numbers ≡ flow.numbers
     → AddsEvents flow.stream new.stream (shown_by p.acknowledgment)
     → ShowsFlow (Some flow) (other_end p.from) packets
     → ShowsFlow (Some new) (other_end p.from) (packets ++ p ∷ [])
-flow_answered flow new packets p n adds (m, shows) =
+flow_answered flow new packets p n adds (m, first, shows) =
     let end = other_end p.from in
     let events : events_of end (packets ++ p ∷ [])
     ≡ events_of end packets ++ shown_by p.acknowledgment =
@@ -160,8 +163,11 @@ flow_answered flow new packets p n adds (m, shows) =
     ∙ ap (λ (o : Option UsedNumbers). events_of end packets
     ++ cond (is_some o) (shown_by p.acknowledgment) []) m in
     let numbers : numbers_of end (packets ++ p ∷ []) ≡ Some new.numbers =
-    other_numbers packets p ∙ (m ∙ ap (λ (x : UsedNumbers). Some x) (sym n)) in
-    (numbers, subst (ShowsEvents new.stream) (sym events) (adds _ shows))
+    other_numbers packets p ∙ (m ∙ ap (λ (x : UsedNumbers). Some x) (sym n)) in (
+      numbers,
+      adds.0 ∙ (first ∙ sym (ap (λ (x : UsedNumbers). x.first) n)),
+      subst (ShowsEvents new.stream) (sym events) (adds.1 _ shows),
+    )
 
 pub flow_not_begun : (packets : List Packet) (p : Packet)
     → ShowsFlow None (other_end p.from) packets

@@ -43,11 +43,13 @@ events_from begun end (p ∷ packets) = cond (same_one p.from end)
 abbrev pub events_of : (end : OneEnd) → List Packet → List Event
 events_of end packets = events_from false end packets
 
--- The stream of an end shows exactly what packets say of it. An end that sent none has no stream.
+-- The stream of an end counts from its first number, and shows exactly what packets say of it. An
+-- end that sent none has no stream.
 abbrev pub ShowsFlow : Option Flow → (end : OneEnd) → List Packet → Type 0
 ShowsFlow None end packets = numbers_of end packets ≡ None
 ShowsFlow (Some flow) end packets =
-    (numbers_of end packets ≡ Some flow.numbers) × ShowsEvents flow.stream (events_of end packets)
+    (numbers_of end packets ≡ Some flow.numbers) × (flow.stream.first ≡ flow.numbers.first)
+    × ShowsEvents flow.stream (events_of end packets)
 
 -- a connection shows exactly these packets
 pub record ShowsGroup (connection : Connection) (group : Group) : Type 0 where
@@ -85,18 +87,6 @@ IsOneAtLimit [] p = IsFlowAtLimit None p
 IsOneAtLimit (connection ∷ connections) p =
     (IsFlowAtLimit connection.lower p ⊎ IsFlowAtLimit connection.higher p)
     ⊎ IsOneAtLimit connections p
-
--- the streams of two ends count from the same number, if both have begun
-abbrev pub CountAlike : Option Flow → Option Flow → Type 0
-CountAlike (Some one) (Some other) = one.stream.first ≡ other.stream.first
-CountAlike (Some one) None = Unit {0}
-CountAlike None other = Unit {0}
-
--- all streams of connections do, one by one
-abbrev pub AllCountAlike : List Connection → List Connection → Type 0
-AllCountAlike (one ∷ ones) (other ∷ others) = (CountAlike one.lower other.lower
-    × CountAlike one.higher other.higher) × AllCountAlike ones others
-AllCountAlike ones others = Unit {0}
 
 -- what contracts see of connections
 abbrev pub connections_of : Inside → List Connection

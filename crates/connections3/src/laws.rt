@@ -1,7 +1,7 @@
 //! What the definitions of connections say of any ends and packets.
 
 ghost use Rattle.std.specs.Prelude.{◌≡◌, ◌≢◌, List};
-ghost use Rattle.connections3.specs.Connections.{AllCountAlike, ShowsPackets};
+ghost use Rattle.connections3.specs.Connections.{ShowsPackets};
 ghost use Rattle.connections3.specs.Ends.{ends_between, other_end, sender_between};
 ghost use Rattle.connections3.specs.declared.connection.Connection.{Connection};
 ghost use Rattle.connections3.specs.declared.packets.Packet.{Packet};
@@ -14,9 +14,8 @@ pub fn both_directions()
         → sender_between one other ≡ other_end (sender_between other one) }
 {}
 
-/// Packets say one thing of connections, if their streams count from the same numbers.
+/// Packets say one thing of connections.
 pub fn one_recording()
     ensures { (ones others : List Connection) (packets : List Packet)
-        → ShowsPackets ones packets → ShowsPackets others packets
-        → AllCountAlike ones others → ones ≡ others }
+        → ShowsPackets ones packets → ShowsPackets others packets → ones ≡ others }
 {}

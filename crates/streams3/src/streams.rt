@@ -89,6 +89,7 @@ impl Stream {
             → ShowsEvents self.new (events ++ Sent segment.now ∷ [])) }
         ensures err { OnErr result (self.new ≡ self.old) }
         ensures long { (result ≡ Err Refused.Long) ↔ IsLong self.old segment.now.at }
+        ensures first { self.new.first ≡ self.old.first }
     {
         if is_long(self.top, segment.at, self.marks.strays) {
             return Err(Refused::Long);
@@ -114,6 +115,7 @@ impl Stream {
             → ShowsEvents self.new (events ++ Acknowledged acknowledgment ∷ [])) }
         ensures err { OnErr result (self.new ≡ self.old) }
         ensures long { (result ≡ Err Refused.Long) ↔ IsLong self.old 0 }
+        ensures first { self.new.first ≡ self.old.first }
         ensures memory { result ≢ Err Refused.Memory }
     {
         if is_long(self.top, 0, self.marks.strays) {

@@ -24,10 +24,10 @@ flow_numbers_at [] end index = None
 flow_numbers_at (c ∷ connections) end zero = numbers_in (flow_of c end)
 flow_numbers_at (c ∷ connections) end (suc index) = flow_numbers_at connections end index
 
--- a stream with more events
+-- a stream with more events, which counts from the same number
 abbrev pub AddsEvents : (old new : Shown) → List Event → Type 0
-AddsEvents old new more =
-    (events : List Event) → ShowsEvents old events → ShowsEvents new (events ++ more)
+AddsEvents old new more = (new.first ≡ old.first)
+    × ((events : List Event) → ShowsEvents old events → ShowsEvents new (events ++ more))
 
 -- a packet opened a connection behind the others
 pub record OpensConnection (old new : List Connection) (p : Packet) : Type 0 where

@@ -1,4 +1,4 @@
-use Rattle.std.proofs.Common.{[], subst}
+use Rattle.std.proofs.Common.{◌∙◌, [], subst}
 use Rattle.connections3.specs.Connections.{ShowsFlow}
 use Rattle.connections3.proofs.ConnectionsLemmas.{flow_begun, flow_sent}
 use Rattle.connections3.proofs.connection.take_sent.Goals as goal
@@ -21,5 +21,6 @@ returns-in_ok-take_segment-in-None-clause-ok c = λ packets h.
       stream = c.take_segment-in-None.new.stream;
       numbers = c.with_packet-numbers.result;
     }) packets p c.with_packet-numbers.ensures
-    (c.in_ok-take_segment-in-None.ensures.ok [] c.new-stream.ensures.shows)
+    (c.in_ok-take_segment-in-None.ensures.ok.0 ∙ c.new-stream.ensures.first)
+    (c.in_ok-take_segment-in-None.ensures.ok.1 [] c.new-stream.ensures.shows)
     (subst (λ f. ShowsFlow f p.from packets) c.in-None.is h)
