@@ -1,4 +1,4 @@
--- The two ends of a connection.
+-- The two ends of a connection, its sockets (RFC 9293, section 4).
 use Rattle.std.specs.Prelude.{Bool, true, false, cond}
 use Rattle.std.specs.Cmp.Lexicographic.{slice_cmp}
 use Rattle.std.specs.Ordering.{is_eq, is_gt, nat_cmp, ordering_then}

@@ -1,4 +1,5 @@
--- Which packets of a recording are of one connection.
+-- Which packets of a recording are of one connection: those between two sockets, up to a SYN that
+-- begins another (RFC 9293, section 3.5).
 use Rattle.std.specs.Prelude.{ℕ, zero, suc, ◌+◌, cond, ◌&&◌, not, List, [], ◌∷◌, ◌++◌, length, map, fold, Option, None, Some}
 use Rattle.streams3.specs.Events.{first_number}
 use Rattle.connections3.specs.Ends.{same_ends}
