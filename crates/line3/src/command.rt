@@ -1,13 +1,13 @@
 //! The command line.
 
 ghost use Rattle.std.specs.Prelude.{◌≡◌, ◌≤◌, ◌∷◌, ℕ, List, [], IfErr, IfOk, OnOk, codes, length, map, string_bytes, true};
-ghost use Rattle.clap.specs.Words.{app_of, fault_of, is_simple_and_free, kind_of};
+ghost use Rattle.clap.specs.Words.{HasMatchesOf, app_of, fault_of, is_simple_and_free, kind_of};
 ghost use Rattle.line3.specs.Grammar.{app};
 ghost use Rattle.line3.specs.Asked.{AreRefused, Asks, IsLine, IsRefusedBy, IsUsage, without_end};
 
 use crate::asked::{Job, LineFault};
 use crate::grammar::command;
-use clap::Command;
+use clap::{ArgMatches, Command};
 use clap::error::ErrorKind;
 use std::alloc::{AllocError, Global};
 
@@ -55,8 +55,29 @@ pub fn try_words<'a>(
     ensures refused { IfErr result
         (IsRefusedBy (app_of command.entry) (map string_bytes words.entry.now)) }
 {
+    let _matches = try_matches(alloc, command, words)?;
+    Ok(())
+}
+
+/// Returns what clap finds in these words as a line of `command`.
+///
+/// # Errors
+///
+/// As `try_words`.
+pub fn try_matches<'a>(
+    alloc: Global,
+    command: Command<'a>,
+    words: &'a [String],
+) -> Result<ArgMatches<'a>, LineFault>
+    ensures found { IfOk result
+        (HasMatchesOf (app_of command.entry) (map string_bytes words.entry.now)) }
+    ensures accepted { is_simple_and_free (app_of command.entry) ≡ true → OnOk result
+        (fault_of (app_of command.entry) (map string_bytes words.entry.now) ≡ []) }
+    ensures refused { IfErr result
+        (IsRefusedBy (app_of command.entry) (map string_bytes words.entry.now)) }
+{
     match command.try_get_matches_from(words) {
-        Ok(_matches) => Ok(()),
+        Ok(matches) => Ok(matches),
         Err(error) => Err(line_fault_of(alloc, error)),
     }
 }

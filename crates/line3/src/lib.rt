@@ -7,5 +7,5 @@ mod command;
 mod grammar;
 
 pub use asked::{Job, LineFault};
-pub use command::{job, take_end, try_words, usage};
+pub use command::{job, take_end, try_matches, try_words, usage};
 pub use grammar::file;

@@ -1,4 +1,4 @@
-use Rattle.line3.proofs.command.try_words.Goals as goal
+use Rattle.line3.proofs.command.try_matches.Goals as goal
 
 pub returns-in-Err-clause-refused : goal.returns-in-Err-clause-refused
 returns-in-Err-clause-refused c = (
