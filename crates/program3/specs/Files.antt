@@ -36,6 +36,12 @@ abbrev pub FailsToOpenStream : (stream : List ℕ) → Outcome → Type 0
 FailsToOpenStream stream outcome = IsOfName stream outcome
     ⊎ (outcome ≡ outcomes.Line lines.SameName) ⊎ (outcome ≡ outcomes.Packed (Err errors.Memory))
 
+-- the recording or the output could not be opened or made, or the recording is no regular file, or
+-- they are one file; or memory ran out
+abbrev pub FailsToOpenRecording : (recording output : List ℕ) → Outcome → Type 0
+FailsToOpenRecording recording output outcome = IsOfName recording outcome
+    ⊎ (outcome ≡ outcomes.Irregular) ⊎ FailsToOpenStream output outcome
+
 -- the bytes that were gathered for a writer are written, and what came of the job stays, or a write
 -- failed
 abbrev pub WritesOut : {C : Type 0} → Result C Error → Option (List ℕ) → Result C Error

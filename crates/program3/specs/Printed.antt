@@ -18,7 +18,7 @@ use Rattle.canon3.specs.declared.comparison.verdict.Which.TheVariants.{First, Se
 use Rattle.line3.specs.declared.asked.LineFault.{LineFault}
 use Rattle.line3.specs.declared.asked.LineFault.TheVariants as lines
 use Rattle.program3.specs.declared.outcome.Outcome.{Outcome}
-use Rattle.program3.specs.declared.outcome.Outcome.TheVariants.{Counted, Masked, Listed, Compared, Packed, Unopened, Line}
+use Rattle.program3.specs.declared.outcome.Outcome.TheVariants.{Counted, Masked, Listed, Compared, Packed, Unopened, Irregular, Told, Line}
 use Rattle.program3.specs.declared.outcome.Report.{Report}
 
 -- the byte that ends a line
@@ -130,4 +130,7 @@ PrintsOutcome (Compared (Err error)) =
 PrintsOutcome (Packed (Ok done)) = Prints 0 [] []
 PrintsOutcome (Packed (Err error)) = PrintsError error
 PrintsOutcome (Unopened name) = Prints 3 [] (unopened_of (string_bytes name))
+PrintsOutcome Irregular =
+    Prints 3 [] (codes "the recording is no regular file: write it into one first" ++ newline)
+PrintsOutcome (Told report) = Prints report.status report.out.items report.err.items
 PrintsOutcome (Line fault) = PrintsLineFault fault

@@ -2,7 +2,7 @@
 
 ghost use Rattle.std.specs.Prelude.{◌≡◌, ◌∷◌, ℕ, List, Option, IfErr, IfOk, OnErr, OnOk};
 ghost use Rattle.canon3.specs.WriteErrors.{IsOfWriting};
-ghost use Rattle.program3.specs.Files.{FailsToOpenStream, FailsToOpen, IsNew, WrittenFile};
+ghost use Rattle.program3.specs.Files.{FailsToOpen, FailsToOpenRecording, FailsToOpenStream, IsNew, WrittenFile};
 ghost use Rattle.program3.specs.Readings.{IsOpened};
 
 use crate::outcome::Outcome;
@@ -10,6 +10,7 @@ use crate::reading::Opened;
 use capture3::Error;
 use std::io;
 use std::io::{Read, Write};
+use std::os::unix::fs::FileExt;
 
 /// A file that is written, and the place where it will stand once it is whole.
 #[derive(Drop)]
@@ -25,6 +26,9 @@ pub struct Made<W, P> {
 /// once they are written.
 pub trait Files {
     type Input: Read + Drop;
+
+    // A file that is read by offsets.
+    type Recording: FileExt + Drop;
 
     type Output: Write + Drop;
     // A written file whose bytes are safe.
@@ -65,6 +69,23 @@ pub trait Files {
             (λ both. IsOpened Self.Input.remaining (holds self.now) input.now both.0) }
         ensures made { IfOk result (λ both. IsNew Self.Output.contents name_of both.1 output.now) }
         ensures failed { IfErr result (FailsToOpen input.now output.now) };
+
+    /// Opens a regular file that is read by offsets, and then makes the output.
+    ///
+    /// # Errors
+    ///
+    /// Nothing is left behind.
+    /// - `Outcome::Unopened` with the name of the file that cannot be opened or made.
+    /// - `Outcome::Irregular` if the recording is no regular file.
+    /// - `Outcome::Line(LineFault::SameName)` if the output is the recording, also under another name.
+    /// - `Outcome::Packed(Err(Error::Memory))` if memory ran out.
+    fn open_recording(
+        &self,
+        recording: &str,
+        output: &str,
+    ) -> Result<(Self::Recording, Made<Self::Output, Self::Place>), Outcome>
+        ensures made { IfOk result (λ both. IsNew Self.Output.contents name_of both.1 output.now) }
+        ensures failed { IfErr result (FailsToOpenRecording recording.now output.now) };
 
     /// Makes the output, which none of the streams is.
     ///

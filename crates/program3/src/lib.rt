@@ -14,6 +14,7 @@ mod system;
 pub use files::{Files, Made};
 pub use hashing::{SecretHasher, hashers};
 pub use input::arguments::words;
+pub use input::from_start::FromStart;
 pub use input::opening::{OpenError, counting_failure, open_failure, open_file};
 pub use input::retried::Retried;
 pub use outcome::{Ended, Outcome, Report};

@@ -21,6 +21,10 @@ pub enum Outcome {
     Packed(Result<(), captures::Error>),
     /// A file of this name could not be opened or made.
     Unopened(String),
+    /// A file that is read by offsets is no regular file, such as a pipe.
+    Irregular,
+    /// The program made the report itself.
+    Told(Report),
     /// The command line is refused.
     Line(LineFault),
 }

@@ -17,7 +17,7 @@ use canon3::Traced;
 use capture3::Error;
 use line3::LineFault;
 use std::alloc::Global;
-use std::fs::File;
+use std::fs::{File, Metadata};
 use std::{fs, io};
 
 /// A file whose bytes are safe on the disk. Nothing is written to it from now on.
@@ -42,6 +42,19 @@ impl<'a> System<'a> {
             rt,
             finished: Vec::new(rt.alloc()),
         }
+    }
+
+    /// Makes the output, or returns `None` if it is the input of which the system says `input`. `own` is
+    /// the program's standard output, as it was before the input was opened.
+    fn make_beside(
+        &self,
+        own: io::Result<Option<FileIdentity>>,
+        input: &Metadata,
+        output: &str,
+    ) -> Result<Option<Made<Traced<File>, OutputPlace>>, OpenError>
+        ensures { IfOk result (λ found. IfSome found (λ made. IsMade made output.now)) }
+    {
+        OutputPlace::make(self.rt, output, own?, &[FileIdentity::of(input)])
     }
 
     /// Makes the output of a packing, or returns `None` if it is one of the streams. One that is
@@ -76,6 +89,8 @@ impl<'a> System<'a> {
 impl Files for System<'_> {
     type Input = Retried<File>;
 
+    type Recording = Retried<File>;
+
     type Output = Traced<File>;
 
     type Safe = SafeFile;
@@ -109,14 +124,31 @@ impl Files for System<'_> {
             Ok(opened) => opened,
             Err(error) => return Err(counting_failure(alloc, input, error)),
         };
-        let made = match own {
-            Ok(own) => OutputPlace::make(self.rt, output, own, &[FileIdentity::of(&read)]),
-            Err(error) => Err(OpenError::from(error)),
-        };
-        match made {
+        match self.make_beside(own, &read, output) {
             Ok(Some(made)) => Ok((Opened::new(input, Retried { reader }), made)),
             Ok(None) => Err(Outcome::Line(LineFault::SameName)),
             Err(error) => Err(counting_failure(alloc, output, error)),
+        }
+    }
+
+    fn open_recording(
+        &self,
+        recording: &str,
+        output: &str,
+    ) -> Result<(Retried<File>, Made<Traced<File>, OutputPlace>), Outcome> {
+        let alloc = self.rt.alloc();
+        let own = FileIdentity::of_standard_output(self.rt);
+        let (reader, data) = match open_file(self.rt, recording) {
+            Ok(opened) => opened,
+            Err(error) => return Err(packing_failure(alloc, recording, error)),
+        };
+        if !data.is_file() {
+            return Err(Outcome::Irregular);
+        }
+        match self.make_beside(own, &data, output) {
+            Ok(Some(made)) => Ok((Retried { reader }, made)),
+            Ok(None) => Err(Outcome::Line(LineFault::SameName)),
+            Err(error) => Err(packing_failure(alloc, output, error)),
         }
     }
 

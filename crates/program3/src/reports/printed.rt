@@ -13,6 +13,8 @@ use std::alloc::{AllocError, Global};
 /// The status of an ending that the outside brought about: a file, a device, or memory.
 pub const OUTSIDE: u8 = 3;
 
+const IRREGULAR: &str = "the recording is no regular file: write it into one first\n";
+
 /// Returns the lines and the exit status of an outcome: 0 for a job that is done, 1 for captures that differ,
 /// 2 for a refused capture, 3 for a file, a device or memory that failed, and 4 for a refused command line.
 /// A fault of one of two captures has `first: ` or `second: ` before it. After the counts of a masked capture
@@ -37,6 +39,8 @@ pub fn report(alloc: Global, outcome: &Outcome) -> Result<Report, AllocError>
         Outcome::Packed(Ok(())) => output_report(alloc, 0, String::new(alloc)),
         Outcome::Packed(Err(error)) => failure_report(alloc, "", error),
         Outcome::Unopened(name) => open_failure_report(alloc, name.as_str()),
+        Outcome::Irregular => error_report(alloc, OUTSIDE, String::from_str(alloc, IRREGULAR)?),
+        Outcome::Told(report) => copy_of(alloc, report),
         Outcome::Line(fault) => line_fault_report(alloc, fault),
     }
 }
@@ -56,6 +60,22 @@ pub fn on_standard_error(alloc: Global, report: Report) -> Result<Report, AllocE
         status,
         out: Vec::new(alloc),
         err: text,
+    })
+}
+
+/// A report that the program made itself.
+fn copy_of(alloc: Global, report: &Report) -> Result<Report, AllocError>
+    ensures { IfOk result
+        (Prints report.now.status report.now.out.items report.now.err.items) }
+{
+    let mut out = Vec::new(alloc);
+    out.extend_from_slice(&report.out)?;
+    let mut err = Vec::new(alloc);
+    err.extend_from_slice(&report.err)?;
+    Ok(Report {
+        status: report.status,
+        out,
+        err,
     })
 }
 
