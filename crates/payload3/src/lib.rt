@@ -7,4 +7,4 @@ mod payload;
 mod recorded;
 
 pub use payload::Payload;
-pub use recorded::Recorded;
+pub use recorded::{Reads, Recorded};

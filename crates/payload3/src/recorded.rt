@@ -149,6 +149,36 @@ impl<'a, F: FileExt> Recorded<'a, F> {
     }
 }
 
+impl<'a, F> Recorded<'a, F> {
+    /// Keeps what the reads of the file gave, without the file.
+    pub fn into_reads(self) -> Reads
+        ensures { result ≡ self }
+    {
+        Reads {
+            failures: self.failures,
+            notes: self.notes,
+        }
+    }
+}
+
+/// What the reads of a recording's file gave, without the file. Only clauses see it.
+#[derive(Drop)]
+pub struct Reads {
+    failures: u64,
+    notes: Notes,
+}
+
+impl Model for Reads {
+    ghost use Rattle.payload3.specs.Readings.{RecordedReads};
+
+    ghost Value = { RecordedReads };
+
+    ghost view = { λ s. record {
+      readings = s.notes.readings;
+      failures = s.failures;
+    } };
+}
+
 /// Returns whether the first bytes of two slices are the same.
 fn same_front(one: &[u8], other: &[u8], count: usize) -> bool
     requires one { count ≤ length one.now }

@@ -25,6 +25,6 @@ pub use output::rights::permissions;
 pub use output::writing::{WRITTEN_AT_ONCE, write_out};
 pub use reading::{Closed, Opened, Readings};
 pub use reports::ending::{Exit, print_ended, report_ended};
-pub use reports::printed::{on_standard_error, report};
+pub use reports::printed::{on_standard_error, report, side_name};
 pub use rewriting::{Rewriting, finish_file, run_rewriting, write_form};
 pub use system::System;

@@ -1,13 +1,15 @@
 //! The command line.
 
-ghost use Rattle.std.specs.Prelude.{◌≡◌, [], IfErr, IfOk, OnOk, Some, map, string_bytes};
-ghost use Rattle.clap.specs.Words.{fault_of};
+ghost use Rattle.std.specs.Prelude.{◌≡◌, [], ℕ, List, IfErr, IfOk, OnOk, codes, map, string_bytes};
+ghost use Rattle.clap.specs.Words.{fault_of, found_of, rows_of};
 ghost use Rattle.nfs3streams.specs.Grammar.{streams_app};
-ghost use Rattle.nfs3streams.specs.StreamsLine.{AreStreamsWordsRefused, AsksForStreams};
+ghost use Rattle.nfs3streams.specs.Ports.{AreAllPorts};
+ghost use Rattle.nfs3streams.specs.StreamsLine.{AreStreamsWordsRefused, AsksForStreams, IsJobIn, IsRefusedIn, IsUsageUnless, values_named};
 
 use crate::line::asked::StreamsJob;
 use crate::line::grammar::command;
 use crate::line::ports::ports_named;
+use clap::ArgMatches;
 use line3::{LineFault, try_matches, usage};
 use std::alloc::Global;
 
@@ -27,18 +29,43 @@ pub fn streams_job<'a>(alloc: Global, words: &'a [String]) -> Result<StreamsJob<
         Ok(command) => command,
         Err(_) => return Err(LineFault::Memory),
     };
-    let matches = try_matches(alloc, command, words)?;
-    let (Some(recording), Some(output)) = (matches.get_str("RECORDING"), matches.get_str("OUT"))
-    else {
-        return Err(usage(alloc));
+    match try_matches(alloc, command, words) {
+        Ok(matches) => job_found(alloc, &matches),
+        Err(fault) => Err(fault),
+    }
+}
+
+/// Returns the job of what clap found.
+fn job_found<'a>(alloc: Global, matches: &ArgMatches<'a>) -> Result<StreamsJob<'a>, LineFault>
+    ensures asked { IfOk result (IsJobIn (rows_of (found_of matches.now))) }
+    ensures refused { IfErr result (IsRefusedIn (rows_of (found_of matches.now))) }
+{
+    let (recording, output) = match (matches.get_str("RECORDING"), matches.get_str("OUT")) {
+        (Some(recording), Some(output)) => (recording, output),
+        _ => return Err(usage(alloc)),
     };
     if recording == output {
         return Err(LineFault::SameName);
     }
-    let ports = ports_named(alloc, matches.get_strs("PORT").unwrap_or(&[]))?;
-    Ok(StreamsJob {
-        recording,
-        output,
-        ports,
-    })
+    match ports_found(alloc, matches) {
+        Ok(ports) => Ok(StreamsJob {
+            recording,
+            output,
+            ports,
+        }),
+        Err(fault) => Err(fault),
+    }
+}
+
+/// Returns the ports of what clap found.
+fn ports_found(alloc: Global, matches: &ArgMatches<'_>) -> Result<Vec<u16>, LineFault>
+    ensures ok { IfOk result (λ ports. AreAllPorts
+        (values_named (codes "PORT") (rows_of (found_of matches.now))) ports.items) }
+    ensures err { IfErr result (IsUsageUnless ((ports : List ℕ) × AreAllPorts
+        (values_named (codes "PORT") (rows_of (found_of matches.now))) ports)) }
+{
+    match matches.get_strs("PORT") {
+        Some(words) => ports_named(alloc, words),
+        None => Ok(Vec::new(alloc)),
+    }
 }

@@ -218,7 +218,8 @@ fn line_of(alloc: Global, fault: &Fault) -> Result<String, AllocError>
     }
 }
 
-fn side_name(side: Side) -> &'static str
+/// Returns the name of a side.
+pub fn side_name(side: Side) -> &'static str
     ensures { result.now ≡ side_of side }
 {
     match side {
