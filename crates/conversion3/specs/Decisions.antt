@@ -1,6 +1,6 @@
 -- What is said of each connection.
 use Rattle.std.specs.Prelude.{◌≡◌, ℕ, List, Option, None, Some}
-use Rattle.canon3.specs.Renaming.{Pairwise}
+use Rattle.std.specs.List.{AllZip}
 use Rattle.connections3.specs.declared.connection.Connection.{Connection}
 use Rattle.connections3.specs.declared.connection.Flow.{Flow}
 use Rattle.streams3.specs.Order.{IsMissing, Ordered}
@@ -39,7 +39,7 @@ IsDecided file ports c (Flawed flaw) = IsJudgedIn file ports c × HasFirstFlaw f
 
 abbrev pub AreDecided : (file ports : List ℕ) → List Connection → List Decision → Type 0
 AreDecided file ports connections decisions =
-    Pairwise (IsDecided file ports) connections decisions
+    AllZip (IsDecided file ports) connections decisions
 
 -- so of any connections that these are in order
 abbrev pub AreDecidedIn : (file ports : List ℕ) → List OrderedConnection → List Decision → Type 0

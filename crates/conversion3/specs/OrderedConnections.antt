@@ -1,6 +1,6 @@
 -- Connections whose streams are in order.
 use Rattle.std.specs.Prelude.{◌≡◌, List, Option, None, Some}
-use Rattle.canon3.specs.Renaming.{Pairwise}
+use Rattle.std.specs.List.{AllZip}
 use Rattle.connections3.specs.declared.connection.Connection.{Connection}
 use Rattle.connections3.specs.declared.connection.Flow.{Flow}
 use Rattle.streams3.specs.Order.{IsOrderOf}
@@ -24,4 +24,4 @@ pub record IsOrderedConnection (c : Connection) (ordered : OrderedConnection) : 
 
 -- so one by one
 abbrev pub AreOrdered : List Connection → List OrderedConnection → Type 0
-AreOrdered connections ordered = Pairwise IsOrderedConnection connections ordered
+AreOrdered connections ordered = AllZip IsOrderedConnection connections ordered

@@ -1,6 +1,6 @@
 -- What is packed of connections.
 use Rattle.std.specs.Prelude.{◌≡◌, ◌⊎◌, ℕ, List, [], ◌∷◌, ◌++◌, Option, Some, Err}
-use Rattle.canon3.specs.Renaming.{Pairwise}
+use Rattle.std.specs.List.{AllZip}
 use Rattle.capture3.specs.SidedChunks.{Streams}
 use Rattle.capture3.specs.declared.fault.Error.{Error}
 use Rattle.capture3.specs.declared.fault.Error.TheVariants as errors
@@ -28,7 +28,7 @@ whole_of (c ∷ connections) (Flawed flaw ∷ decisions) = whole_of connections 
 -- the streams are exactly what was sent on the connections that are whole, one by one
 abbrev pub AreSent : (file : List ℕ) → List Connection → List Decision → List Streams → Type 0
 AreSent file connections decisions pairs =
-    Pairwise (HasSent file) (whole_of connections decisions) pairs
+    AllZip (HasSent file) (whole_of connections decisions) pairs
 
 -- So in each file that the reads allow, of any connections that these are in order, if the decisions
 -- are right.

@@ -118,5 +118,5 @@ fn has_call_words<F: FileExt>(
     payload.gives();
     recorded.note_payload(&payload);
     let count = filled?;
-    Ok(count == HEAD_SIZE && head[8..HEAD_SIZE] == CALL_WORDS)
+    Ok(count == HEAD_SIZE && head[8..HEAD_SIZE] == CALL_WORDS[..])
 }
