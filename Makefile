@@ -17,7 +17,7 @@ VERSION := $(shell sed -nE 's/^\#\# ([0-9.]+).*/\1/p' CHANGELOG.md | head -n 1)
 NAME = nfs3canon-$(VERSION)-linux-x86_64
 TREE = $(BUILD)/$(NAME)
 ROOT = $(DESTDIR)$(PREFIX)
-PROGRAMS = nfs3canon nfs3mask
+PROGRAMS = nfs3canon nfs3mask nfs3streams
 TOOLS = $(basename $(notdir $(wildcard tools/man/*.1)))
 
 tree:

@@ -43,7 +43,8 @@ TOP = Path(__file__).resolve().parent.parent
 # since tests/faults/memory.py runs what is built of it.
 TRIED = 'tests'
 # What the tests of tests/ run, by crates.
-BUILT = {'nfs3canon': 'nfs3canon', 'nfs3mask': 'nfs3mask', 'memory_tests': 'memory_tests_tests'}
+BUILT = {'nfs3canon': 'nfs3canon', 'nfs3mask': 'nfs3mask', 'nfs3streams': 'nfs3streams',
+         'memory_tests': 'memory_tests_tests'}
 PROVED = re.compile(r'^rt: (\w+) (?:proved$|is kept: )')
 TRIED_COUNTS = re.compile(r'^test result: .*?(\d+) passed; (\d+) failed', re.MULTILINE)
 SECONDS = 1.0  # how often a task that waits for memory looks again

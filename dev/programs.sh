@@ -1,6 +1,6 @@
 # What the launchers and dev/dist know of the programs. It is sourced; `top` is the top of the repository.
 
-programs='nfs3canon nfs3mask'
+programs='nfs3canon nfs3mask nfs3streams'
 shipped=$top/dist/MADE-OF
 
 # Prints the libraries that a program uses, each after those that it uses itself.

@@ -7,7 +7,7 @@
 # Whether a command line, after the program's name, is of a command that writes a file.
 is_writing() {
   case $1-${2-} in
-    nfs3canon-canon | nfs3canon-pack | nfs3mask-?*) return 0 ;;
+    nfs3canon-canon | nfs3canon-pack | nfs3mask-?* | nfs3streams-?*) return 0 ;;
     *) return 1 ;;
   esac
 }

@@ -24,7 +24,7 @@ from tests.shared.running import Answer, Runs, ended, try_all, words_of
 TOP = pathlib.Path(__file__).resolve().parents[2]
 # what the examples' page says of this capture
 NULL = 'ok connections=1 calls=1 replies=1 handles=0\n'
-PROGRAMS = ('nfs3canon', 'nfs3mask')
+PROGRAMS = ('nfs3canon', 'nfs3mask', 'nfs3streams')
 
 
 class Clone(Runs):
@@ -55,6 +55,7 @@ def the_first_answer(clone: Clone) -> None:
                (0, NULL, ''))
     clone.want('seconds', time.monotonic() - begun < 2, True)
     clone.want('mask', clone.command('./nfs3mask', 'examples/null.nfs3cap', 'masked')[0], 0)
+    clone.want('streams', clone.command('./nfs3streams', 'examples/bad_bool.pcap', 'streams')[0], 0)
     for name in PROGRAMS:
         found = clone.read(f'crates/{name}/out/{name}') or b''
         clone.want(name, hashlib.sha256(found).hexdigest(), checksums()[name])

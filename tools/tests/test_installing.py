@@ -16,7 +16,7 @@ from tests.shared.running import Answer, Runs, begin, ended, pipe_of, program_na
 from ..nfs3tools.comparison.values.classes import CLASSES_BY_NAME
 from .scripts import FIRST, SECOND, TOP, packed, stream, sums
 
-PROGRAMS = ('nfs3canon', 'nfs3mask')
+PROGRAMS = ('nfs3canon', 'nfs3mask', 'nfs3streams')
 TOOLS = ('from-pcap', 'where', 'verdicts', 'calls', 'procedures', 'meaning', 'compare', 'explain',
          'cut')
 NULL, OK = str(TOP / 'examples/null.nfs3cap'), 'ok connections=1 calls=1 replies=1 handles=0'

@@ -1,2 +1,5 @@
+mod CaptureLemmas
+mod ConversionLemmas
 mod LineLemmas
 mod PortsLemmas
+mod PrintedLemmas

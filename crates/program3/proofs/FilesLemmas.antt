@@ -223,4 +223,6 @@ module _ (IsSummaryOf : List ℕ → Summary → Type 0) (form : List Entry → 
   rewrites_none (outcomes.Compared came) fails = (fails, none)
   rewrites_none (outcomes.Packed came) fails = (fails, none)
   rewrites_none (outcomes.Unopened text) fails = (fails, none)
+  rewrites_none outcomes.Irregular fails = (fails, none)
+  rewrites_none (outcomes.Told report) fails = (fails, none)
   rewrites_none (outcomes.Line fault) fails = (fails, none)

@@ -39,6 +39,10 @@ escaped bytes = flat_map escaped_byte bytes
 abbrev pub unopened_of : List ℕ → List ℕ
 unopened_of name = concat (codes "open failed: " ∷ escaped name ∷ newline ∷ [])
 
+-- the line that tells a recording that cannot be read by offsets
+abbrev pub irregular_line : List ℕ
+irregular_line = codes "the recording is no regular file: write it into one first" ++ newline
+
 -- the line that tells the counts
 abbrev pub counts_of : Summary → List ℕ
 counts_of s =
@@ -130,7 +134,6 @@ PrintsOutcome (Compared (Err error)) =
 PrintsOutcome (Packed (Ok done)) = Prints 0 [] []
 PrintsOutcome (Packed (Err error)) = PrintsError error
 PrintsOutcome (Unopened name) = Prints 3 [] (unopened_of (string_bytes name))
-PrintsOutcome Irregular =
-    Prints 3 [] (codes "the recording is no regular file: write it into one first" ++ newline)
+PrintsOutcome Irregular = Prints 3 [] irregular_line
 PrintsOutcome (Told report) = Prints report.status report.out.items report.err.items
 PrintsOutcome (Line fault) = PrintsLineFault fault

@@ -42,12 +42,7 @@ fn push_ports(alloc: Global, ports: &mut Vec<u16>, word: &str) -> Result<(), Lin
 }
 
 /// Appends the port that a part of a word names.
-fn push_port(
-    alloc: Global,
-    ports: &mut Vec<u16>,
-    part: &str,
-    word: &str,
-) -> Result<(), LineFault>
+fn push_port(alloc: Global, ports: &mut Vec<u16>, part: &str, word: &str) -> Result<(), LineFault>
     ensures ok { OnOk result ((port : ℕ) × IsPort part.now port
         × (ports.new.items ≡ ports.old.items ++ port ∷ [])) }
     ensures err { IfErr result (IsUsageUnless ((port : ℕ) × IsPort part.now port)) }

@@ -1,7 +1,7 @@
 //! What the program prints of an outcome.
 
 ghost use Rattle.std.specs.Prelude.{◌≡◌, ◌++◌, [], IfOk, OnOk, string_bytes};
-ghost use Rattle.program3.specs.Printed.{Prints, PrintsLineFault, PrintsOutcome, PrintsVerdict, counts_of, differing_at, ended_of, error_line, escaped, escaped_byte, fault_of, mask_line, prefix_of, side_of, status_of, unopened_of};
+ghost use Rattle.program3.specs.Printed.{Prints, PrintsLineFault, PrintsOutcome, PrintsVerdict, counts_of, differing_at, ended_of, error_line, escaped, escaped_byte, fault_of, irregular_line, mask_line, prefix_of, side_of, status_of, unopened_of};
 
 use crate::outcome::{Outcome, Report};
 use canon3::{Summary, Verdict, Which};
@@ -12,8 +12,6 @@ use std::alloc::{AllocError, Global};
 
 /// The status of an ending that the outside brought about: a file, a device, or memory.
 pub const OUTSIDE: u8 = 3;
-
-const IRREGULAR: &str = "the recording is no regular file: write it into one first\n";
 
 /// Returns the lines and the exit status of an outcome: 0 for a job that is done, 1 for captures that differ,
 /// 2 for a refused capture, 3 for a file, a device or memory that failed, and 4 for a refused command line.
@@ -39,7 +37,7 @@ pub fn report(alloc: Global, outcome: &Outcome) -> Result<Report, AllocError>
         Outcome::Packed(Ok(())) => output_report(alloc, 0, String::new(alloc)),
         Outcome::Packed(Err(error)) => failure_report(alloc, "", error),
         Outcome::Unopened(name) => open_failure_report(alloc, name.as_str()),
-        Outcome::Irregular => error_report(alloc, OUTSIDE, String::from_str(alloc, IRREGULAR)?),
+        Outcome::Irregular => irregular_report(alloc),
         Outcome::Told(report) => copy_of(alloc, report),
         Outcome::Line(fault) => line_fault_report(alloc, fault),
     }
@@ -252,6 +250,16 @@ fn open_failure_report(alloc: Global, name: &str) -> Result<Report, AllocError>
         out: Vec::new(alloc),
         err,
     })
+}
+
+fn irregular_report(alloc: Global) -> Result<Report, AllocError>
+    ensures { IfOk result (Prints 3 [] irregular_line) }
+{
+    let line = String::from_str(
+        alloc,
+        "the recording is no regular file: write it into one first\n",
+    )?;
+    error_report(alloc, OUTSIDE, line)
 }
 
 fn push_escaped(out: &mut Vec<u8>, bytes: &[u8]) -> Result<(), AllocError>

@@ -17,17 +17,16 @@ pub loop-first-preserved : goal.loop-first-preserved
 loop-first-preserved c =
     let (named, before, all) = c.loop-first.invariant.1 in
     let cut = c.in-Some.ensures.byte (omega arith) (λ w o found. found) in
-    let (port, is, more) = c.in_ok-push_port.ensures.ok in
-    (
+    let (port, is, more) = c.in_ok-push_port.ensures.ok in (
       search rules,
       (
         named ++ port ∷ [],
         named_more c.args.word.now c.loop-first.rest.now c.in-Some.first.now
-        c.in-Some.behind.now named port before
-        (cut_first c.loop-first.rest.now c.in-Some.first.now c.in-Some.behind.now cut.0 cut.1
-        cut.2) is,
+            c.in-Some.behind.now named port before
+            (cut_first c.loop-first.rest.now c.in-Some.first.now c.in-Some.behind.now cut.0 cut.1
+            cut.2) is,
         more ∙ ap (λ l. l ++ port ∷ []) all
-        ∙ append_assoc c.args.ports.now.items named (port ∷ []),
+            ∙ append_assoc c.args.ports.now.items named (port ∷ []),
       ),
     )
 
@@ -51,9 +50,9 @@ returns-clause-ok c =
     (λ last. (
       named ++ last.0 ∷ [],
       named_all c.args.word.now c.loop-first.rest.now named last.0 before
-      (cut_none c.loop-first.rest.now none) last.1,
+          (cut_none c.loop-first.rest.now none) last.1,
       last.2 ∙ ap (λ l. l ++ last.0 ∷ []) all
-      ∙ append_assoc c.args.ports.now.items named (last.0 ∷ []),
+          ∙ append_assoc c.args.ports.now.items named (last.0 ∷ []),
     )) c.push_port-2.ensures.ok
 
 pub returns-clause-err : goal.returns-clause-err

@@ -1,0 +1,78 @@
+-- What is written of a capture.
+use Rattle.std.proofs.Common.{◌≡◌, ◌≢◌, ◌⊎◌, ◌∙◌, ℕ, List, [], Option, None, Some, Result, Ok, Err, IfErr, OnOk, inl, inr, refl, sym, ap, subst}
+use Rattle.std.specs.Io.KnownBytes.{Appends, Keeps}
+use Rattle.capture3.specs.Entries.{CountsReading}
+use Rattle.capture3.specs.SidedChunks.{Streams}
+use Rattle.capture3.specs.declared.fault.Error.{Error}
+use Rattle.capture3.specs.declared.fault.Error.TheVariants as errors
+use Rattle.packing3.specs.Packing.{HasWrittenCapture}
+use Rattle.program3.specs.Files.{WritesOut}
+use Rattle.nfs3streams.specs.Conversion.{IsCaptureOf}
+use Rattle.nfs3streams.specs.machinery.Converting.{CountsFailure}
+
+-- a write that failed is no success
+pub out_ok : (came now : Result (Unit {0}) Error) (gathered written : Option (List ℕ))
+    → (done : Unit {0}) → now ≡ Ok done → (came ≡ Err errors.Write → now ≡ came)
+    → (came ≢ Err errors.Write → WritesOut came gathered now written)
+    → (came ≡ Ok done) × Keeps gathered written
+out_ok (Ok x) now gathered written done is stays out =
+    elim (out (λ e. absurd (cc))) [
+      | inl failed ↦ absurd (cc)
+      | inr kept ↦ (cc, kept.1)
+    ]
+out_ok (Err errors.Write) now gathered written done is stays out = let e = stays refl in absurd (cc)
+out_ok (Err errors.Read) now gathered written done is stays out =
+    elim (out (λ e. absurd (cc))) [
+      | inl failed ↦ absurd (cc)
+      | inr kept ↦ let e = kept.0 in absurd (cc)
+    ]
+out_ok (Err errors.Memory) now gathered written done is stays out =
+    elim (out (λ e. absurd (cc))) [
+      | inl failed ↦ absurd (cc)
+      | inr kept ↦ let e = kept.0 in absurd (cc)
+    ]
+out_ok (Err (errors.Refused fault)) now gathered written done is stays out =
+    elim (out (λ e. absurd (cc))) [
+      | inl failed ↦ absurd (cc)
+      | inr kept ↦ let e = kept.0 in absurd (cc)
+    ]
+
+-- a failed read of a result that a write may have changed
+pub out_failed : (came now : Result (Unit {0}) Error) (gathered written : Option (List ℕ))
+    (error : Error) (old new : ℕ) → now ≡ Err error → (came ≡ Err errors.Write → now ≡ came)
+    → (came ≢ Err errors.Write → WritesOut came gathered now written)
+    → CountsReading old new came → CountsFailure (old, new) error
+out_failed came now gathered written errors.Write old new is stays out counts = tt
+out_failed came now gathered written errors.Memory old new is stays out counts = tt
+out_failed came now gathered written (errors.Refused fault) old new is stays out counts = tt
+out_failed (Err errors.Read) now gathered written errors.Read old new is stays out counts =
+    λ none. rw (counts, none) refl
+out_failed (Err errors.Write) now gathered written errors.Read old new is stays out counts =
+    let e = stays refl in absurd (cc)
+out_failed (Err errors.Memory) now gathered written errors.Read old new is stays out counts =
+    elim (out (λ e. absurd (cc))) [
+      | inl failed ↦ absurd (cc)
+      | inr kept ↦ let e = kept.0 in absurd (cc)
+    ]
+out_failed (Err (errors.Refused fault)) now gathered written errors.Read old new is stays out counts =
+    elim (out (λ e. absurd (cc))) [
+      | inl failed ↦ absurd (cc)
+      | inr kept ↦ let e = kept.0 in absurd (cc)
+    ]
+out_failed (Ok x) now gathered written errors.Read old new is stays out counts =
+    elim (out (λ e. absurd (cc))) [
+      | inl failed ↦ absurd (cc)
+      | inr kept ↦ let e = kept.0 in absurd (cc)
+    ]
+
+-- the capture is all that an empty writer has
+pub capture_of : (old new out : Option (List ℕ)) (pairs : List Streams) → old ≡ Some []
+    → HasWrittenCapture old new pairs → Keeps new out → IsCaptureOf out pairs
+capture_of (Some xs) (Some ys) (Some zs) pairs none has keeps = record {
+  capture = has.file;
+  is = let e : xs ≡ [] = cc in ap Some (keeps ∙ rw e at has.appended);
+  of = has.capture;
+}
+capture_of (Some xs) (Some ys) None pairs none has keeps = absurd keeps
+capture_of (Some xs) None out pairs none has keeps = absurd has.appended
+capture_of None new out pairs none has keeps = absurd (cc)

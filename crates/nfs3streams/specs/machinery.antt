@@ -1,0 +1,2 @@
+-- What clauses inside the crate and proofs name, and no reader of a public clause has to believe.
+pub mod Converting

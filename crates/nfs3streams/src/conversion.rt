@@ -1,0 +1,92 @@
+//! A recording that is converted into a capture.
+
+ghost use Rattle.std.specs.Prelude.{◌≡◌, ◌⊎◌, ℕ, List, [], Some, IfErr, IfOk};
+ghost use Rattle.capture3.specs.Observed.{GavePrefix};
+ghost use Rattle.payload3.specs.Readings.{Allow};
+ghost use Rattle.program3.specs.Readings.{BeginsWithReads};
+ghost use Rattle.recording3.specs.Places.{Passed};
+ghost use Rattle.nfs3streams.specs.Conversion.{HasFrames};
+ghost use Rattle.nfs3streams.specs.Streams.{EndsFrames, StopsBy, StopsWith, reading_of};
+ghost use Rattle.nfs3streams.specs.machinery.Converting.{ConvertsTo, CountsFailure};
+
+use crate::capture::write_capture;
+use crate::connections::read_connections;
+use crate::decided::decide;
+use crate::line::asked::StreamsJob;
+use capture3::Source;
+use payload3::{Reads, Recorded};
+use program3::{Closed, FromStart, Opened, Outcome, Report};
+use std::alloc::Global;
+use std::io::Write;
+use std::os::unix::fs::FileExt;
+
+/// What the reads of a recording gave, which only clauses see.
+#[derive(Drop)]
+pub struct RecordingReads {
+    start: Closed,
+    others: Reads,
+}
+
+/// What came of a conversion: the report and the file that was written, or the outcome if there is none.
+#[derive(Drop)]
+pub struct Converted<W: Drop> {
+    pub came: Result<(Report, W), Outcome>,
+    pub reads: RecordingReads,
+}
+
+/// Reads a recording, and writes the capture of the connections that a job chooses and that are whole.
+pub fn convert<F: FileExt, W: Write + Drop>(
+    alloc: Global,
+    job: &StreamsJob<'_>,
+    recording: &F,
+    output: W,
+) -> Converted<W>
+    ensures named { (reading_of result.reads).start.name ≡ job.now.recording.now }
+    ensures converts { W.contents output ≡ Some [] → IfOk result.came (λ done. ConvertsTo
+        (BeginsWithReads (reading_of result.reads).start)
+        (Allow (reading_of result.reads).others.readings)
+        job.now.ports.items done.0 (W.contents done.1)) }
+    ensures stops { IfErr result.came (StopsWith (EndsFrames (reading_of result.reads))
+        (StopsBy (reading_of result.reads))) }
+{
+    let mut opened = Opened::new(job.recording, FromStart::new(recording));
+    let mut recorded = Recorded::new(recording);
+    let came = convert_read(alloc, &mut opened.source, &mut recorded, &job.ports, output);
+    let reads = RecordingReads {
+        start: opened.close(),
+        others: recorded.into_reads(),
+    };
+    Converted { came, reads }
+}
+
+/// Reads a recording from its start, and the payloads that are written where they lie.
+fn convert_read<R: Source, F: FileExt, W: Write + Drop>(
+    alloc: Global,
+    source: &mut R,
+    recorded: &mut Recorded<'_, F>,
+    ports: &[u16],
+    output: W,
+) -> Result<(Report, W), Outcome>
+    ensures converts { W.contents output ≡ Some [] → IfOk result (λ done. ConvertsTo
+        (λ file. GavePrefix (R.observed source.old) (R.observed source.new) file)
+        (Allow recorded.new.readings) ports.now done.0 (W.contents done.1)) }
+    ensures stops { IfErr result (StopsWith
+        (λ end. (file : List ℕ)
+        → GavePrefix (R.observed source.old) (R.observed source.new) file
+        → (frames : List Passed) × HasFrames file frames end)
+        (λ error. CountsFailure (R.failures source.old, R.failures source.new) error
+        ⊎ CountsFailure (recorded.old.failures, recorded.new.failures) error)) }
+{
+    let read = match read_connections(alloc, source) {
+        Ok(read) => read,
+        Err(outcome) => return Err(outcome),
+    };
+    let decided = match decide(alloc, recorded, ports, read) {
+        Ok(decided) => decided,
+        Err(error) => return Err(Outcome::Packed(Err(error))),
+    };
+    match write_capture(alloc, recorded, &decided, output) {
+        Ok(output) => Ok((decided.report, output)),
+        Err(error) => Err(Outcome::Packed(Err(error))),
+    }
+}
