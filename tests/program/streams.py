@@ -13,7 +13,7 @@ import sys
 from collections.abc import Callable, Iterator
 
 sys.path.insert(0, str(pathlib.Path(__file__).resolve().parents[2]))
-from tests.shared.running import Runs, program_named, try_all
+from tests.shared.running import Runs, ended, try_tests
 
 TOP = pathlib.Path(__file__).resolve().parents[2]
 CLIENT, SERVER = ('192.0.2.7', 700), ('192.0.2.1', 2049)
@@ -238,7 +238,8 @@ def as_from_pcap(folder: Folder) -> None:
     """OUT has what `tools/from_pcap` has of the connections that are whole."""
     for path in recordings():
         status, out, error = folder.run('nfs3streams', str(path), 'out')
-        other = folder.command(str(TOP / 'tools/from_pcap'), str(path), 'other')
+        other = ended([str(TOP / 'tools/from_pcap'), str(path), 'other'],
+                      folder.folder).text()
         mine, others = pairs_of(folder.read('out') or b''), pairs_of(folder.read('other') or b'')
         folder.want(path.name, (status in (0, 2), error, other[0]), (True, '', 0))
         if status == 0:
@@ -254,4 +255,4 @@ TESTS: tuple[Callable[[Folder], None], ...] = (
     damaged_recordings, files_that_are_refused, lines_that_are_refused, as_from_pcap)
 
 if __name__ == '__main__':
-    try_all(TESTS, Folder)
+    try_tests(__doc__, Folder, TESTS)

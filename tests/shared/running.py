@@ -18,6 +18,8 @@ from typing import IO, NamedTuple, NoReturn, TypeVar, TypedDict, Unpack
 
 TOP = pathlib.Path(__file__).resolve().parents[2]
 BUILT = TOP / 'crates/nfs3canon/out/nfs3canon'
+# The programs beside it, whose names begin a line that is of one of them.
+OTHERS = ('nfs3mask', 'nfs3streams')
 LIMIT = 60  # the seconds that a run may take if nothing else is said
 
 Answer = tuple[int, str, str]  # the status and both outputs of a run
@@ -128,7 +130,7 @@ class Runs:
             return file.read()
 
     def words(self, *words: str) -> list[str]:
-        """The command line of the program, or of nfs3mask if the words begin with it."""
+        """The command line of the program, or of another one if the words begin with its name."""
         program, rest = command_of(self.program, words)
         return [program, *rest]
 
@@ -212,8 +214,8 @@ def program_named(name: str, program: str | pathlib.Path = BUILT) -> str:
 def command_of(program: str, words: Sequence[str]) -> tuple[str, Sequence[str]]:
     """The path and the words of a command line that begins with the name of a program, or has the
     words of nfs3canon."""
-    return (program_named(words[0], program), words[1:]) if words and words[0] == 'nfs3mask' else (
-        program, words)
+    is_other = bool(words) and words[0] in OTHERS
+    return (program_named(words[0], program), words[1:]) if is_other else (program, words)
 
 
 def words_of(text: str | None, program: str | pathlib.Path | None = None) -> Words:

@@ -152,7 +152,7 @@ impl<'a, F: FileExt> Recorded<'a, F> {
 impl<'a, F> Recorded<'a, F> {
     /// Keeps what the reads of the file gave, without the file.
     pub fn into_reads(self) -> Reads
-        ensures { result ≡ self }
+        ensures { result ≡ self.entry }
     {
         Reads {
             failures: self.failures,
