@@ -19,7 +19,7 @@ other lines:
                                          is there before, too
     run WORD ..                          the command line without the program's name; `\\xHH` is a
     byte
-    mask WORD ..                         the same of nfs3mask
+    mask WORD .., streams WORD ..        the same of nfs3mask, or nfs3streams
     stdin NAME                           where standard input comes from
     stdout NAME, stdout >> NAME, stdout closed-pipe
                                          where standard output goes
@@ -52,6 +52,8 @@ from tests.shared.running import (
 from tests.shared.texts import bytes_of, capture_of, mixed_of
 
 HERE = pathlib.Path(__file__).resolve().parent
+# the keys of lines that run another program than nfs3canon
+OTHERS = {'mask': 'nfs3mask', 'streams': 'nfs3streams'}
 TIMEOUT = 20
 Found = dict[str, tuple[str, bytes | str | int]]
 
@@ -112,8 +114,8 @@ class Case:
 
     def add_run(self, key: str, value: str) -> bool:
         """A line that says what is run, and where its input and output are; else false."""
-        if key in ('run', 'mask'):
-            self.name_of_program = 'nfs3mask' if key == 'mask' else ''
+        if key in ('run', *OTHERS):
+            self.name_of_program = OTHERS.get(key, '')
             self.args = [text_of(word) for word in value.split()]
         elif key == 'stdin':
             self.stdin = value

@@ -71,7 +71,8 @@ def here(line: str, tools: Tools) -> str:
     for word, local in {'/tmp/': tools.folder + '/',
                         'crates/nfs3canon/out/nfs3canon': tools.program,
                         './nfs3canon': tools.program,
-                        './nfs3mask': program_named('nfs3mask', tools.program)}.items():
+                        './nfs3mask': program_named('nfs3mask', tools.program),
+                        './nfs3streams': program_named('nfs3streams', tools.program)}.items():
         line = line.replace(word, local)
     return re.sub(r'^tools/(verdicts|compare|calls|procedures) ',
                   r'tools/\1 --program %s ' % tools.program, line)
@@ -254,7 +255,8 @@ def what_is_believed(tools: Tools) -> None:
                       (TOP / 'docs/PROOFS.md').read_text(), re.M)
     tools.want('calls', rows, ['nfs3canon::answer_line', 'canon3::check', 'canon3::canon',
                                'canon3::same', 'listing3::show', 'masking3::mask',
-                               'packing3::Packing', 'nfs3mask::answer_line'])
+                               'packing3::Packing', 'nfs3mask::answer_line',
+                               'nfs3streams::answer_line'])
     counted = believed(tools, '--count', *rows)
     tools.want('counts', (counted[0], counted[1] in (TOP / 'docs/PROOFS.md').read_text(),
                           counted[2]), (0, True, ''))

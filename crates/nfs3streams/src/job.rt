@@ -1,15 +1,16 @@
 //! What the job does with files.
 
-ghost use Rattle.std.specs.Prelude.{◌≡◌, None, Some, map, string_bytes};
-ghost use Rattle.program3.specs.Files.{IsNew};
+ghost use Rattle.std.specs.Prelude.{◌≡◌, IfErr, IfOk, None, map, string_bytes};
+ghost use Rattle.program3.specs.Files.{FinishesNone, IsNew};
 ghost use Rattle.program3.specs.declared.outcome.Outcome.TheVariants as outcomes;
 ghost use Rattle.nfs3streams.specs.Streams.{AnswersStreamsJob, AnswersStreamsLine, streams_run};
+ghost use Rattle.nfs3streams.specs.machinery.Converting.{FinishesFile};
 
-use crate::conversion::{RecordingReads, convert};
+use crate::conversion::{Converted, RecordingReads, convert};
 use crate::line::asked::StreamsJob;
 use crate::line::command::streams_job;
 use line3::LineFault;
-use program3::{Ended, Files, Made, Outcome, finish_file};
+use program3::{Ended, Files, Made, Outcome, Report, finish_file};
 use std::alloc::Global;
 
 /// What came of a command line: the end, and what was read of the recording.
@@ -70,8 +71,26 @@ fn keep_capture<F: Files>(
 {
     let is_aside = files.is_standard_output(&made.place);
     let Made { file, place } = made;
-    let converted = convert(alloc, job, recording, file);
-    let outcome = match converted.came {
+    let Converted { came, reads } = convert(alloc, job, recording, file);
+    let outcome = finish_capture(files, place, came);
+    StreamsAnswer {
+        ended: Ended { outcome, is_aside },
+        reads: Some(reads),
+    }
+}
+
+/// Gives the capture its name if it is whole, and removes it otherwise.
+fn finish_capture<F: Files>(
+    files: &mut F,
+    place: F::Place,
+    came: Result<(Report, F::Output), Outcome>,
+) -> Outcome
+    ensures whole { IfOk came (λ done. FinishesFile (F.name_of place, F.Output.contents done.1)
+        (F.finished files.old, F.finished files.new) done.0 result) }
+    ensures stopped { IfErr came (λ outcome. (result ≡ outcome)
+        × FinishesNone (F.finished files.old, F.finished files.new)) }
+{
+    match came {
         Ok((report, file)) => match finish_file(files, file, place) {
             Ok(()) => Outcome::Told(report),
             Err(error) => Outcome::Packed(Err(error)),
@@ -80,9 +99,5 @@ fn keep_capture<F: Files>(
             files.remove(place);
             outcome
         }
-    };
-    StreamsAnswer {
-        ended: Ended { outcome, is_aside },
-        reads: Some(converted.reads),
     }
 }

@@ -1,5 +1,5 @@
 -- How a recording is converted, step by step.
-use Rattle.std.specs.Prelude.{◌≡◌, ◌⊎◌, ℕ, List, Option, Err, ⊤, codes}
+use Rattle.std.specs.Prelude.{◌≡◌, ◌⊎◌, ℕ, List, ◌∷◌, Option, Err}
 use Rattle.capture3.specs.Observed.{Observed}
 use Rattle.capture3.specs.SidedChunks.{Streams}
 use Rattle.capture3.specs.declared.fault.Error.{Error}
@@ -10,6 +10,8 @@ use Rattle.conversion3.specs.OrderedConnections.{AreOrdered}
 use Rattle.conversion3.specs.Packing.{AreSentIn}
 use Rattle.packing3.specs.Packing.{HasWrittenCapture}
 use Rattle.payload3.specs.Readings.{Allow, OffsetRead}
+use Rattle.canon3.specs.WriteErrors.{IsOfWriting}
+use Rattle.program3.specs.Files.{FinishesNone, WrittenFile}
 use Rattle.program3.specs.declared.outcome.Outcome.{Outcome}
 use Rattle.program3.specs.declared.outcome.Outcome.TheVariants as outcomes
 use Rattle.program3.specs.declared.outcome.Report.{Report}
@@ -82,3 +84,15 @@ pub record ConvertsTo (Gives Allows : List ℕ → Type 0) (ports : List ℕ) (r
   pub prints : PrintsFindings found report
   pub capture : IsCaptureOf written pairs
   pub is : (file : List ℕ) → Gives file → Allows file → IsConversion file ports found pairs
+
+-- ---- the file
+
+-- the file was finished under the name, and the report is told; or it was not, and an error of
+-- writing is
+abbrev pub FinishesFile : (List ℕ × Option (List ℕ)) → List WrittenFile × List WrittenFile
+    → Report → Outcome → Type 0
+FinishesFile file finished report outcome =
+    ((outcome ≡ outcomes.Told report)
+    × (finished.1 ≡ record { name = file.0; bytes = file.1 } ∷ finished.0))
+    ⊎ ((error : Error) × (outcome ≡ outcomes.Packed (Err error)) × IsOfWriting error
+    × FinishesNone finished)
