@@ -6,7 +6,7 @@ use Rattle.std.specs.Cmp.{Equal-is, alike_right}
 use Rattle.std.specs.Ordering.{is_eq}
 use Rattle.std.specs.declared.cmp.Ordering.{Ordering}
 use Rattle.std.specs.declared.cmp.Ordering.TheVariants.{Equal}
-use Rattle.connections3.specs.Connections.{FindsRecent, ShowGroups, ShowsFlow, ShowsGroup, ShowsPackets, all_ends}
+use Rattle.connections3.specs.Connections.{FindsRecent, ShowGroups, ShowsFlow, ShowsGroup, ShowsPackets, all_ends, flow_of}
 use Rattle.connections3.specs.Ends.{pair_order, same_ends}
 use Rattle.connections3.specs.Groups.{Group, chosen, grouped, index_of, numbers_at, recent_from, with_newer, with_packet, with_packet_at}
 use Rattle.connections3.specs.Numbers.{numbers_of}
@@ -21,7 +21,7 @@ use Rattle.connections3.specs.declared.ends.OneEnd.{OneEnd}
 use Rattle.connections3.specs.declared.ends.OneEnd.TheVariants.{Lower, Higher}
 use Rattle.connections3.specs.declared.numbers.UsedNumbers.{UsedNumbers}
 use Rattle.connections3.specs.declared.packets.Packet.{Packet}
-use Rattle.connections3.specs.machinery.Table.{OpensConnection, flow_numbers_at, flow_of, numbers_in}
+use Rattle.connections3.specs.machinery.Table.{OpensConnection, flow_numbers_at, numbers_in}
 
 pub groups_last : (packets : List Packet) (p : Packet)
     → grouped (packets ++ p ∷ []) ≡ with_packet (grouped packets) p

@@ -51,6 +51,11 @@ ShowsFlow (Some flow) end packets =
     (numbers_of end packets ≡ Some flow.numbers) × (flow.stream.first ≡ flow.numbers.first)
     × ShowsEvents flow.stream (events_of end packets)
 
+-- what an end sent
+abbrev pub flow_of : Connection → OneEnd → Option Flow
+flow_of c Lower = c.lower
+flow_of c Higher = c.higher
+
 -- a connection shows exactly these packets
 pub record ShowsGroup (connection : Connection) (group : Group) : Type 0 where
   pub ends : connection.ends ≡ group.ends

@@ -83,10 +83,9 @@ fn client_by(found: Option<OneEnd>, packet: &Packet) -> Option<OneEnd>
     if found.is_some() || !packet.segment.syn {
         return found;
     }
-    match (packet.from, packet.acknowledgment) {
-        (from, None) => Some(from),
-        (OneEnd::Lower, Some(_)) => Some(OneEnd::Higher),
-        (OneEnd::Higher, Some(_)) => Some(OneEnd::Lower),
+    match packet.acknowledgment {
+        None => Some(packet.from),
+        Some(_) => Some(packet.from.other()),
     }
 }
 

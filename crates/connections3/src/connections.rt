@@ -1,14 +1,14 @@
 //! All connections of a recording.
 
 ghost use Rattle.std.specs.Prelude.{◌≡◌, ◌<◌, List, [], ◌∷◌, ◌++◌, None, Some, Err, IfSome, OnOk, OnErr, length, unwrap_or};
-ghost use Rattle.connections3.specs.Connections.{FindsRecent, IsFlowAtLimit, IsOneAtLimit, ShowsPackets, all_ends};
+ghost use Rattle.connections3.specs.Connections.{FindsRecent, IsFlowAtLimit, IsOneAtLimit, ShowsPackets, all_ends, flow_of};
 ghost use Rattle.connections3.specs.Groups.{chosen, recent_from, with_newer};
-ghost use Rattle.connections3.specs.machinery.Table.{OpensConnection, flow_numbers_at, flow_of, numbers_in};
+ghost use Rattle.connections3.specs.machinery.Table.{OpensConnection, flow_numbers_at, numbers_in};
 ghost use Rattle.connections3.specs.declared.packets.Packet.{Packet};
 
 use crate::connection::{Connection, Flow};
 use crate::ends::{EndPair, OneEnd};
-use crate::numbers::{UsedNumbers, begins_another, first_number, is_nearer};
+use crate::numbers::{UsedNumbers, begins_another, is_nearer};
 use crate::packets::Packet;
 use std::alloc::Global;
 use std::collections::BTreeMap;
@@ -163,7 +163,7 @@ fn choose(recent: Recent, connections: &[Connection], packet: &Packet) -> Option
         return Some(recent.newest);
     }
     let older = numbers_at(connections, packet.from, recent.older);
-    if is_nearer(older, newer, first_number(packet)) {
+    if is_nearer(older, newer, packet.segment.first_number()) {
         Some(recent.older)
     } else {
         Some(recent.newest)

@@ -1,7 +1,7 @@
 //! The two ends of a connection.
 
 ghost use Rattle.std.specs.Prelude.{◌≡◌};
-ghost use Rattle.connections3.specs.Ends.{ends_between, sender_between};
+ghost use Rattle.connections3.specs.Ends.{ends_between, other_end, sender_between};
 
 use recording3::End;
 
@@ -21,6 +21,18 @@ pub enum OneEnd {
     Lower,
     /// The higher.
     Higher,
+}
+
+impl OneEnd {
+    /// Returns the other one.
+    pub fn other(self) -> OneEnd
+        ensures { result ≡ other_end self }
+    {
+        match self {
+            OneEnd::Lower => OneEnd::Higher,
+            OneEnd::Higher => OneEnd::Lower,
+        }
+    }
 }
 
 /// Returns both ends of a segment, and which of them sent it.

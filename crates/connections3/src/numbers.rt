@@ -2,10 +2,8 @@
 
 ghost use Rattle.std.specs.Prelude.{◌≡◌};
 ghost use Rattle.connections3.specs.Numbers.{begins_another, distance, is_nearer, number_behind, with_numbers};
-ghost use Rattle.streams3.specs.Events.{first_number};
 
 use crate::packets::Packet;
-use streams3::StreamSegment;
 
 /// The largest window (RFC 7323, section 2.3).
 const WINDOW: u32 = 0x4000_0000;
@@ -19,19 +17,6 @@ pub struct UsedNumbers {
     pub next: u32,
 }
 
-/// Returns the number of a packet's first byte. SYN takes a number.
-#[inline(always)]
-pub fn first_number(packet: &Packet) -> u32
-    ensures { result ≡ first_number packet.now.segment }
-{
-    let StreamSegment { sequence, syn, .. } = packet.segment;
-    if syn {
-        sequence.wrapping_add(1)
-    } else {
-        sequence
-    }
-}
-
 /// Returns the number behind a packet's payload.
 #[inline(always)]
 fn number_behind(packet: &Packet) -> u32
@@ -39,7 +24,10 @@ fn number_behind(packet: &Packet) -> u32
 {
     match packet.cut {
         Some(mark) => mark.number,
-        None => first_number(packet).wrapping_add(packet.segment.size),
+        None => packet
+            .segment
+            .first_number()
+            .wrapping_add(packet.segment.size),
     }
 }
 
@@ -51,7 +39,7 @@ pub fn with_packet(numbers: Option<UsedNumbers>, packet: &Packet) -> UsedNumbers
     let behind = number_behind(packet);
     match numbers {
         None => UsedNumbers {
-            first: first_number(packet),
+            first: packet.segment.first_number(),
             next: behind,
         },
         Some(UsedNumbers { first, next }) => UsedNumbers {
@@ -71,7 +59,7 @@ pub fn begins_another(newest: Option<UsedNumbers>, packet: &Packet) -> bool
     ensures { result ≡ begins_another newest packet.now }
 {
     match newest {
-        Some(numbers) => packet.segment.syn && first_number(packet) != numbers.first,
+        Some(numbers) => packet.segment.syn && packet.segment.first_number() != numbers.first,
         None => false,
     }
 }

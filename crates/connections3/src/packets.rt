@@ -75,24 +75,16 @@ fn has_flag(flags: u8, bit: u8) -> bool
 fn cut_of(segment: &StreamSegment, missing: usize) -> Option<Acknowledgment>
     ensures { result ≡ cut_of segment.now missing }
 {
-    let StreamSegment {
-        sequence,
-        size,
-        frame,
-        syn,
-        ..
-    } = *segment;
     if missing == 0 {
         return None;
     }
-    let syn = if syn { 1 } else { 0 };
     let missing = (missing % 0x1_0000_0000) as u32;
     Some(Acknowledgment {
-        number: sequence
-            .wrapping_add(syn)
-            .wrapping_add(size)
+        number: segment
+            .first_number()
+            .wrapping_add(segment.size)
             .wrapping_add(missing),
-        frame,
+        frame: segment.frame,
     })
 }
 

@@ -3,11 +3,11 @@ use Rattle.std.specs.Prelude.{◌≡◌, ℕ, List, [], Option, None, Some}
 use Rattle.std.specs.List.{All}
 use Rattle.capture3.specs.declared.fault.Side.{Side}
 use Rattle.capture3.specs.declared.fault.Side.TheVariants.{Client, Server}
+use Rattle.connections3.specs.Connections.{flow_of}
 use Rattle.connections3.specs.Ends.{other_end}
 use Rattle.connections3.specs.declared.connection.Connection.{Connection}
 use Rattle.connections3.specs.declared.connection.Flow.{Flow}
 use Rattle.connections3.specs.declared.ends.OneEnd.{OneEnd}
-use Rattle.connections3.specs.declared.ends.OneEnd.TheVariants.{Lower, Higher}
 use Rattle.payload3.specs.Readings.{bytes_at}
 use Rattle.streams3.specs.declared.runs.Run.{Run}
 use Rattle.streams3.specs.Order.{IsWholeStream, Ordered}
@@ -39,15 +39,11 @@ abbrev pub IsWholeFlow : (file : List ℕ) → Option Flow → Type 0
 IsWholeFlow file None = ⊥
 IsWholeFlow file (Some flow) = IsWholeStreamIn file flow.stream
 
-abbrev pub flow_at : Connection → OneEnd → Option Flow
-flow_at c Lower = c.lower
-flow_at c Higher = c.higher
-
 -- what the client sent, or the other end; none if it is not known which end is the client
 abbrev pub flow_by : Option OneEnd → Connection → Side → Option Flow
 flow_by None c side = None
-flow_by (Some client) c Client = flow_at c client
-flow_by (Some client) c Server = flow_at c (other_end client)
+flow_by (Some client) c Client = flow_of c client
+flow_by (Some client) c Server = flow_of c (other_end client)
 
 abbrev pub side_flow : Connection → Side → Option Flow
 side_flow c side = flow_by c.client c side

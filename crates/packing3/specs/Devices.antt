@@ -1,8 +1,13 @@
--- The two sources of a pair, before a call that adds it and after the call.
-use Rattle.std.specs.Prelude.{◌≡◌, ◌⊎◌, ℕ, Result}
+-- What reads of sources gave, and the two sources of a pair, before a call that adds it and after
+-- the call.
+use Rattle.std.specs.Prelude.{◌≡◌, ◌⊎◌, ◌<◌, ℕ, List, Result, length}
 use Rattle.capture3.specs.declared.fault.Error.{Error}
 use Rattle.capture3.specs.Entries.{CountsReading}
-use Rattle.capture3.specs.Observed.{Observed}
+use Rattle.capture3.specs.Observed.{Gave, Observed}
+
+-- fewer bytes than this were given
+abbrev pub GaveFewer : (old new : Observed) → ℕ → Type 0
+GaveFewer old new n = (bytes : List ℕ) × Gave old new bytes × (length bytes < n)
 
 -- what is observed of them
 pub record Sources : Type 0 where

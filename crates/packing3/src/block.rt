@@ -3,7 +3,7 @@
 ghost use Rattle.std.specs.Prelude.{◌≡◌, ◌≤◌, ◌<◌, length, take, vec_len, IfOk, OnErr};
 ghost use Rattle.capture3.specs.Observed.{Gave, IsSpent};
 ghost use Rattle.capture3.specs.Device.{Counts};
-ghost use Rattle.packing3.specs.machinery.Streaming.{GaveFewer};
+ghost use Rattle.packing3.specs.Devices.{GaveFewer};
 
 use capture3::{DeviceFailed, Source};
 use std::alloc::{AllocError, Global};
@@ -17,7 +17,11 @@ pub(crate) fn zeros(alloc: Global, count: usize) -> Result<Vec<u8>, AllocError>
 
 /// Fills the block by as many reads as it takes, and returns how many bytes were read: fewer than
 /// the block has only if none are left.
-pub(crate) fn fill<R: Source>(source: &mut R, block: &mut [u8]) -> Result<usize, DeviceFailed>
+///
+/// # Errors
+///
+/// `DeviceFailed` if a read failed. The bytes that were read before it are in the block.
+pub fn fill<R: Source>(source: &mut R, block: &mut [u8]) -> Result<usize, DeviceFailed>
     ensures size { length block.new ≡ length block.old }
     ensures within { IfOk result (λ n. n ≤ length block.new) }
     ensures bytes { IfOk result

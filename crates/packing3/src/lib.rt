@@ -7,4 +7,5 @@ pub mod laws;
 mod packing;
 mod stream;
 
+pub use block::fill;
 pub use packing::Packing;

@@ -1,13 +1,13 @@
 -- The bytes of runs, run by run.
-use Rattle.std.proofs.Common.{◌≡◌, ℕ, zero, suc, ◌+◌, ◌-◌, ◌<◌, ◌≤◌, List, [], ◌∷◌, ◌++◌, length, take, drop, slice_index_or, refl, sym, subst, ap, ap₂, ◌∙◌, Bool, false, append_assoc, arith}
-use Rattle.std.proofs.lemmas.Bool.{iff_false}
-use Rattle.std.proofs.lemmas.List.{drop-drop, drop_all, take-append-drop}
+use Rattle.std.proofs.Common.{◌≡◌, ℕ, zero, suc, ◌+◌, ◌-◌, ◌<◌, ◌≤◌, List, [], ◌∷◌, ◌++◌, length, take, drop, slice_index_or, refl, sym, subst, ap, ap₂, ◌∙◌, Bool, false, append_assoc, arith, inl, inr}
+use Rattle.std.proofs.lemmas.Bool.{cases_lt, iff_false}
+use Rattle.std.proofs.lemmas.List.{drop-drop, drop_all, length-drop, length-take, take-append-drop, take_all, take_more}
 use Rattle.std.proofs.Math.Seq.{take-append-add}
 use Rattle.streams3.specs.declared.runs.Run.{Run}
-use Rattle.streams3.specs.Content.{content_of}
+use Rattle.streams3.specs.Content.{AreIn, content_of}
 use Rattle.payload3.specs.declared.parts.RunPart.{RunPart}
 use Rattle.payload3.specs.Readings.{Allow, HasBytesRead, OffsetRead}
-use Rattle.payload3.specs.Standing.{StandsInRuns, payload_left}
+use Rattle.payload3.specs.Standing.{AreInSoFar, StandsInRuns, payload_left}
 
 next_run : (i : ℕ) (runs : List Run) (none : Run) → i < length runs
     → drop i runs ≡ slice_index_or runs i none ∷ drop (suc i) runs
@@ -31,6 +31,61 @@ begins_run file runs part none empty more =
     next_run part.begun runs none more
     ∙ ap (λ (k : ℕ). run ∷ drop k runs) next in
     sym (rw (empty, all) refl)
+
+-- ---- runs that lie in the file
+
+are_in_more : (file : List ℕ) (runs : List Run) (run : Run) → AreIn file runs
+    → (0 < run.size → run.at + run.size ≤ length file) → AreIn file (runs ++ run ∷ [])
+are_in_more file [] run within last = (last, tt)
+are_in_more file (one ∷ runs) run within last =
+    (within.0, are_in_more file runs run within.1 last)
+
+-- a run is begun
+pub begins_within : (file : List ℕ) (runs : List Run) (part : RunPart) (none : Run)
+    → part.left ≡ 0 → part.begun < length runs → AreInSoFar file runs part
+    → AreInSoFar file runs (record {
+      begun = part.begun + 1;
+      at = (slice_index_or runs part.begun none).at;
+      left = (slice_index_or runs part.begun none).size;
+    })
+begins_within file runs part none empty more within last =
+    subst (AreIn file) (sym (take_more runs part.begun none more))
+    (are_in_more file (take part.begun runs) (slice_index_or runs part.begun none)
+    (within (λ some. absurd (omega (arith, some, empty)))) last)
+
+-- some bytes of it were read
+read_within : (file bytes : List ℕ) (runs : List Run) (part : RunPart) (n : ℕ)
+    → take (length bytes) (drop part.at file) ≡ bytes → length bytes ≡ n → 0 < n
+    → AreInSoFar file runs part
+    → AreInSoFar file runs (record {
+      begun = part.begun;
+      at = part.at + n;
+      left = part.left - n;
+    })
+read_within file bytes runs part n are size some within last =
+    within (λ left.
+    elim (cases_lt n part.left) [
+      | inl fewer ↦
+          let end : part.at + n + (part.left - n) ≤ length file = last (omega (arith, fewer)) in
+          omega (arith, end, fewer)
+      | inr all ↦
+          omega (
+            arith,
+            all,
+            some,
+            size,
+            ap length are,
+            length-take (length bytes) (drop part.at file),
+            length-drop part.at file,
+          )
+    ])
+
+-- all runs were begun, and nothing is left
+pub all_within : (file : List ℕ) (runs : List Run) (part : RunPart) → part.left ≡ 0
+    → length runs ≤ part.begun → AreInSoFar file runs part → AreIn file runs
+all_within file runs part empty all within =
+    subst (AreIn file) (take_all part.begun runs all)
+    (within (λ some. absurd (omega (arith, some, empty))))
 
 -- nothing is left after the last run
 pub nothing_left : (file : List ℕ) (runs : List Run) (part : RunPart) → part.left ≡ 0
@@ -82,8 +137,9 @@ pub stands_more : (runs : List Run) (before after : List OffsetRead) (given more
       is_spent = is_spent;
     }) old
     → ((file : List ℕ) → payload_left file runs part ≡ payload_left file runs old)
+    → ((file : List ℕ) → AreInSoFar file runs old → AreInSoFar file runs part)
     → after ≡ before ++ record { at = part.at; bytes = bytes } ∷ [] → more ≡ given ++ bytes
-    → length bytes ≡ n → n ≤ part.left
+    → length bytes ≡ n → 0 < n → n ≤ part.left
     → StandsInRuns (record {
       runs = runs;
       readings = after;
@@ -91,8 +147,8 @@ pub stands_more : (runs : List Run) (before after : List OffsetRead) (given more
       failures = failures;
       is_spent = false;
     }) (record { begun = part.begun; at = part.at + n; left = part.left - n })
-stands_more runs before after given more bytes failures n is_spent old part stands same noted all
-    size few = record {
+stands_more runs before after given more bytes failures n is_spent old part stands same further
+    noted all size some few = record {
       first = λ file allows.
           let both =
           allow_both file before (record { at = part.at; bytes = bytes })
@@ -112,5 +168,11 @@ stands_more runs before after given more bytes failures n is_spent old part stan
             at = part.at + length bytes;
             left = part.left - length bytes;
           })) (sym all) step);
+      within = λ file allows.
+          let both =
+          allow_both file before (record { at = part.at; bytes = bytes })
+          (subst (λ (readings : List OffsetRead). Allow readings file) noted allows) in
+          read_within file bytes runs part n both.1 size some
+          (further file (stands.within file both.0));
       spent = λ is. absurd (iff_false {b = false} ((λ e. e), (λ e. e)) refl is);
     }

@@ -2,7 +2,7 @@
 use Rattle.std.specs.Prelude.{◌≡◌, ℕ, Bool, true, List, [], ◌++◌, length, take, drop}
 use Rattle.std.specs.List.{AllByRecursion}
 use Rattle.streams3.specs.declared.runs.Run.{Run}
-use Rattle.streams3.specs.Content.{content_of}
+use Rattle.streams3.specs.Content.{AreIn, content_of}
 
 -- a read at an offset of the file gave these bytes
 pub record OffsetRead : Type 0 where
@@ -42,9 +42,10 @@ pub record PayloadReads : Type 0 where
 abbrev pub LeavesPayload : PayloadReads → (file left : List ℕ) → Type 0
 LeavesPayload reads file left = content_of file reads.runs ≡ reads.given ++ left
 
--- In each file that the reads allow, the bytes given are the first of the runs' bytes, and all of
--- them if the last read gave none.
+-- In each file that the reads allow, the bytes given are the first of the runs' bytes. If the last
+-- read gave none, they are all of them, and the runs lie in the file.
 pub record GivesPayload (reads : PayloadReads) (file : List ℕ) : Type 0 where
   pub left : List ℕ
   pub first : LeavesPayload reads file left
   pub all : reads.is_spent ≡ true → left ≡ []
+  pub within : reads.is_spent ≡ true → AreIn file reads.runs

@@ -1,7 +1,7 @@
 //! Where the next bytes of a payload lie.
 
 ghost use Rattle.std.specs.Prelude.{◌≡◌, ◌≤◌, ◌<◌, ℕ, List, length};
-ghost use Rattle.payload3.specs.Standing.{payload_left};
+ghost use Rattle.payload3.specs.Standing.{AreInSoFar, payload_left};
 
 use streams3::Run;
 
@@ -17,6 +17,8 @@ pub struct RunPart {
 pub(crate) fn next_part(runs: &[Run], mut part: RunPart) -> RunPart
     ensures same { (file : List ℕ)
         → payload_left file runs.now result ≡ payload_left file runs.now part }
+    ensures within { (file : List ℕ) → AreInSoFar file runs.now part
+        → AreInSoFar file runs.now result }
     ensures stays { part.left ≡ 0 → length runs.now ≤ part.begun → result ≡ part }
     ensures none { result.left ≡ 0 → length runs.now ≤ result.begun }
 {

@@ -78,8 +78,9 @@ impl<'a, F: FileExt> Payload<'a, F> {
         }
     }
 
-    /// Says what was given: in any file that the reads allow the first bytes of the runs, and all of
-    /// them if the last read gave none. Nothing is done when it runs.
+    /// Says what was given: in any file that the reads allow the first bytes of the runs. If the
+    /// last read gave none, it was all of them, and the runs lie in the file. Nothing is done when it
+    /// runs.
     pub fn gives(&self)
         ensures { (file : List ℕ) → Allow self.now.readings file → GivesPayload self.now file }
     {
@@ -94,6 +95,13 @@ impl<'a, F> Payload<'a, F> {
         ensures { result.now.readings ≡ self.now.readings }
     {
         &self.notes
+    }
+
+    /// Returns how many reads failed.
+    pub(crate) fn failures(&self) -> u64
+        ensures { result ≡ self.now.failures }
+    {
+        self.failures
     }
 }
 

@@ -1,6 +1,6 @@
 //! The file of a recording, with what its reads gave.
 
-ghost use Rattle.std.specs.Prelude.{◌≡◌, ◌≢◌, ◌≤◌, ◌<◌, ◌+◌, ◌-◌, ◌∷◌, ◌++◌, ◌↔◌, ℕ, [], List, Ok, None, IfOk, IfSome, IsTrue, OnErr, length, take};
+ghost use Rattle.std.specs.Prelude.{◌≡◌, ◌≢◌, ◌≤◌, ◌<◌, ◌+◌, ◌-◌, ◌^◌, ◌∷◌, ◌++◌, ◌↔◌, ℕ, [], List, Ok, None, false, IfOk, IfSome, IsTrue, OnErr, length, min, take};
 ghost use Rattle.capture3.specs.Device.{Counts};
 ghost use Rattle.payload3.specs.Readings.{Allow, bytes_at};
 
@@ -9,7 +9,7 @@ use crate::payload::Payload;
 use capture3::DeviceFailed;
 use std::marker::Model;
 use std::os::unix::fs::FileExt;
-use streams3::Pair;
+use streams3::{Pair, Run};
 
 /// How many bytes are compared at once.
 const PIECE: usize = 4096;
@@ -45,14 +45,30 @@ impl<'a, F: FileExt> Recorded<'a, F> {
         }
     }
 
-    /// Adds what the reads of a payload of the same file gave. Nothing is done when it runs.
+    /// Returns the bytes of these runs in the file, of which none was given yet.
+    pub fn payload<'r>(&self, runs: &'r [Run]) -> Payload<'r, F>
+    where
+        'a: 'r,
+        ensures { result ≡ record {
+          runs = runs.now;
+          readings = [];
+          given = [];
+          failures = 0;
+          is_spent = false;
+        } }
+    {
+        Payload::new(self.file, runs)
+    }
+
+    /// Adds what the reads of a payload of the same file gave, and how many failed.
     pub fn note_payload(&mut self, payload: &Payload<'_, F>)
         ensures { self.new ≡ record {
           readings = self.old.readings ++ payload.now.readings;
-          failures = self.old.failures;
+          failures = min (self.old.failures + payload.now.failures) (2 ^ 64 - 1);
         } }
     {
         self.notes.note_all(payload.notes());
+        self.failures = self.failures.saturating_add(payload.failures());
     }
 
     /// Returns whether bytes that were recorded twice are the same: those of `again`, and as many

@@ -11,7 +11,7 @@ use Rattle.streams3.specs.Runs.{HasBytes, Lie, or_else, spot_in, spot_of}
 use Rattle.streams3.specs.machinery.Log.{end_at, no_run, part_of, nth_run}
 use Rattle.streams3.specs.machinery.Parting.{AreParted, IsOneOf}
 use Rattle.streams3.specs.machinery.Repeating.{AddsRepeats, AddsRepeat, AreAgain, Repeats}
-use Rattle.streams3.proofs.RunsLemmas.{or_none_right, shown, part_spot, beyond_next, earlier, has_after, has_before, has_it, later, lie_sound, shown, spot_at}
+use Rattle.streams3.proofs.RunsLemmas.{cases_has, or_none_right, shown, part_spot, beyond_next, earlier, has_it, later, lie_sound, shown, spot_at}
 
 -- ---- lists
 
@@ -35,17 +35,6 @@ paired_right [] ys run p h = h
 paired_right (x ∷ xs) ys run p h = inr (paired_right xs ys run p h)
 
 -- ---- where a byte lies
-
--- a byte that is there is in a run
-cases_has : (r : Run) (p : ℕ) → Has r p ⊎ (spot_in r p ≡ None)
-cases_has r p =
-    elim (cases_lt p r.position) [
-      | inl h ↦ inr (has_before r p h)
-      | inr h ↦ elim (cases_lt p (r.position + r.size)) [
-        | inl k ↦ inl (h, k)
-        | inr k ↦ inr (has_after r p k)
-      ]
-    ]
 
 pub record IsIn (rs : List Run) (p : ℕ) : Type 0 where
   pub index : ℕ

@@ -1,7 +1,8 @@
 -- Runs: where they have bytes, and those in order.
 use Rattle.std.proofs.Common.{◌≡◌, ◌≢◌, ◌≤◌, ◌<◌, ℕ, zero, suc, ◌+◌, ◌-◌, ◌^◌, Bool, cond, nat_le, nat_lt, List, [], ◌∷◌, ◌++◌, Option, None, Some, length, get_or, take, drop, refl, sym, ◌∙◌, ap, ap₂, subst, add-one, arith, take-append-drop, ◌⊎◌, inl, inr}
-use Rattle.std.proofs.lemmas.Bool.{le-leb, lt-ltb, lt-leb, le-ltb, and_left, and_right, and_from}
+use Rattle.std.proofs.lemmas.Bool.{cases_lt, le-leb, lt-ltb, lt-leb, le-ltb, and_left, and_right, and_from}
 use Rattle.streams3.specs.declared.runs.Run.{Run}
+use Rattle.streams3.specs.Repeats.{Has}
 use Rattle.streams3.specs.Runs.{HasBytes, Lie, spot_in, or_else, spot_of}
 use Rattle.streams3.specs.Runs.{AreSound}
 use Rattle.streams3.specs.machinery.Log.{end_at, no_run, part_of, nth_run}
@@ -25,6 +26,17 @@ has_after r p le =
     ap (λ (b : Bool). cond b (Some (r.at + (p - r.position), r.frame)) None)
     (and_right (nat_le r.position p) (nat_lt p (r.position + r.size))
     (le-ltb p (r.position + r.size) le))
+
+-- a byte is in a run, or not
+pub cases_has : (r : Run) (p : ℕ) → Has r p ⊎ (spot_in r p ≡ None)
+cases_has r p =
+    elim (cases_lt p r.position) [
+      | inl h ↦ inr (has_before r p h)
+      | inr h ↦ elim (cases_lt p (r.position + r.size)) [
+        | inl k ↦ inl (h, k)
+        | inr k ↦ inr (has_after r p k)
+      ]
+    ]
 
 pub or_none : (o : Option (ℕ × ℕ)) → or_else o None ≡ o
 or_none None = refl

@@ -8,10 +8,10 @@ abbrev pub content_of : (file : List ℕ) → List Run → List ℕ
 content_of file [] = []
 content_of file (run ∷ runs) = take run.size (drop run.at file) ++ content_of file runs
 
--- the runs lie in a file
+-- the runs lie in a file; one without bytes may lie anywhere
 abbrev pub AreIn : (file : List ℕ) → List Run → Type 0
 AreIn file [] = Unit {0}
-AreIn file (run ∷ runs) = (run.at + run.size ≤ length file) × AreIn file runs
+AreIn file (run ∷ runs) = (0 < run.size → run.at + run.size ≤ length file) × AreIn file runs
 
 -- The bytes of a stream from one position up to another: each is that of the file where the first
 -- payload that has it has it.

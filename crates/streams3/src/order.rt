@@ -64,6 +64,17 @@ impl OrderedStream {
         self.marks
     }
 
+    /// Returns the position at which the stream begins. If no SYN was recorded, it is `BEGIN`, from
+    /// which the stream counts.
+    pub fn begin(&self) -> u64
+        ensures { result ≡ begin_of self.now.marks.begin }
+    {
+        match self.marks.begin {
+            Some(mark) => mark.position,
+            None => BEGIN,
+        }
+    }
+
     /// Returns where the bytes lie, in the order of their positions.
     pub fn runs(&self) -> &[Run]
         ensures { result.now ≡ self.now.runs }
@@ -102,7 +113,7 @@ impl OrderedStream {
         ensures { MatchOption result ((p : ℕ) → IsMissing self.now p → ⊥)
             (AreFirstMissing self.now) }
     {
-        self.gap(begin_of(self.marks.begin), self.end_of_sent())
+        self.gap(self.begin(), self.end_of_sent())
     }
 
     /// Returns the first byte that lies behind FIN, and its frame.
@@ -136,15 +147,5 @@ impl OrderedStream {
             (None, Some(acknowledged)) => acknowledged.position.max(last),
             (None, None) => last,
         }
-    }
-}
-
-/// Returns the position at which a stream begins.
-fn begin_of(begin: Option<Mark>) -> u64
-    ensures { result ≡ begin_of begin }
-{
-    match begin {
-        Some(mark) => mark.position,
-        None => BEGIN,
     }
 }

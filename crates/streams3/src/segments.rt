@@ -1,5 +1,8 @@
 //! Segments of TCP (RFC 9293, section 3.1), and what they say of a stream beside its bytes.
 
+ghost use Rattle.std.specs.Prelude.{◌≡◌};
+ghost use Rattle.streams3.specs.Events.{first_number};
+
 /// What one end sent.
 #[derive(Clone, Copy, Debug, PartialEq, Eq, Drop)]
 pub struct StreamSegment {
@@ -17,6 +20,21 @@ pub struct StreamSegment {
     pub fin: bool,
     /// Whether RST is set.
     pub rst: bool,
+}
+
+impl StreamSegment {
+    /// Returns the number of the first byte. SYN takes a number.
+    #[inline(always)]
+    pub fn first_number(&self) -> u32
+        ensures { result ≡ first_number self.now }
+    {
+        let StreamSegment { sequence, syn, .. } = *self;
+        if syn {
+            sequence.wrapping_add(1)
+        } else {
+            sequence
+        }
+    }
 }
 
 /// What the other end acknowledged.

@@ -1,7 +1,7 @@
 //! What one end of a connection sent.
 
 ghost use Rattle.std.specs.Prelude.{◌≡◌, ◌≤◌, ◌<◌, ◌+◌, ◌^◌, ℕ, List, [], ◌∷◌, ◌++◌, Bool, cond, ◌↔◌, ◌≢◌, false, IsTrue, Ok, Err, IfErr, IfOk, OnOk, OnErr, length, ◌⊎◌};
-ghost use Rattle.streams3.specs.Events.{Acknowledged, AcknowledgedAt, Event, Sent, SentAt, Stray, has_payload, first_number, payload_of};
+ghost use Rattle.streams3.specs.Events.{Acknowledged, AcknowledgedAt, Event, Sent, SentAt, Stray, has_payload, payload_of};
 ghost use Rattle.streams3.specs.Runs.{top_of};
 ghost use Rattle.streams3.specs.Runs.{AreSound};
 ghost use Rattle.streams3.specs.Streams.{IsLong, ShowsEvents, higher, lower};
@@ -94,7 +94,7 @@ impl Stream {
         if is_long(self.top, segment.at, self.marks.strays) {
             return Err(Refused::Long);
         }
-        match position_of(self.first, self.top, first_number(segment)) {
+        match position_of(self.first, self.top, segment.first_number()) {
             None => note_stray(&mut self.marks, segment.frame),
             Some(position) => {
                 self.top = log_payload(&mut self.log, self.top, segment, position)?;
@@ -137,19 +137,6 @@ fn is_long(top: u64, at: u64, strays: u64) -> bool
     ensures no { result ≡ false → (top ≤ 2 ^ 62) × (at ≤ 2 ^ 62) × (strays ≤ 2 ^ 62) }
 {
     top > LIMIT || at > LIMIT || strays > LIMIT
-}
-
-/// Returns the number of a segment's first byte.
-#[inline(always)]
-fn first_number(segment: &StreamSegment) -> u32
-    ensures { result ≡ first_number segment.now }
-{
-    let StreamSegment { sequence, syn, .. } = *segment;
-    if syn {
-        sequence.wrapping_add(1)
-    } else {
-        sequence
-    }
 }
 
 /// Returns whether a segment has bytes of the stream. One that keeps a connection alive has none.

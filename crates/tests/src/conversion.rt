@@ -1,10 +1,17 @@
-//! Connections that are whole, and one for each reason why others are not.
+//! Connections that are whole, one for each reason why others are not, which are chosen, and the
+//! capture of those that are whole.
 
-use crate::asserts::{assert_same, ok};
+use crate::asserts::{assert_same, ok, some};
 use crate::payloads::InMemory;
-use capture3::{Error, Side};
+use crate::samples::NULL;
+use canon3::MemSink;
+use capture3::{DeviceFailed, Error, Side};
 use connections3::{Connection, EndPair, Flow, OneEnd, UsedNumbers};
-use conversion3::{Flaw, Judgment, StreamFlaw, judge, sent_runs};
+use conversion3::{
+    Decision, Flaw, OrderedConnection, StreamFlaw, decide_all, judge, order_all, pack_whole,
+    sent_runs,
+};
+use packing3::Packing;
 use payload3::Recorded;
 use recording3::{Address, End};
 use std::alloc::Global;
@@ -74,17 +81,37 @@ fn end(port: u16) -> End {
     }
 }
 
-// A connection whose higher end is the client.
-fn connection(lower: Option<Flow>, higher: Option<Flow>) -> Connection {
+// A connection of the server's port, whose higher end is the client.
+fn connection_of(port: u16, server: Option<Flow>, client: Option<Flow>) -> Connection {
     Connection {
         ends: EndPair {
-            lower: end(850),
-            higher: end(2049),
+            lower: end(port),
+            higher: end(50_000),
         },
         client: Some(OneEnd::Higher),
-        lower,
-        higher,
+        lower: server,
+        higher: client,
     }
+}
+
+// Connections in order.
+fn ordered<const N: usize>(
+    rt: &impl Abort,
+    alloc: Global,
+    connections: [Connection; N],
+) -> Vec<OrderedConnection> {
+    let connections = ok(rt, Vec::from_array(alloc, connections));
+    ok(rt, order_all(alloc, connections))
+}
+
+// A connection in order.
+fn connection(
+    rt: &impl Abort,
+    alloc: Global,
+    server: Option<Flow>,
+    client: Option<Flow>,
+) -> Vec<OrderedConnection> {
+    ordered(rt, alloc, [connection_of(2049, server, client)])
 }
 
 // What is wrong first with a connection.
@@ -96,10 +123,8 @@ fn flaw_of(
 ) -> Option<Flaw> {
     let file = InMemory { bytes: FILE };
     let mut recorded = Recorded::new(&file);
-    match ok(rt, judge(alloc, &mut recorded, connection(server, client))) {
-        Judgment::Whole(_) => None,
-        Judgment::Flawed(flaw) => Some(flaw),
-    }
+    let all = connection(rt, alloc, server, client);
+    ok(rt, judge(&mut recorded, some(rt, all.first())))
 }
 
 // What is wrong with a client that sent these segments, if the server's stream is whole.
@@ -215,8 +240,11 @@ fn a_file_that_became_shorter_fails(rt: HostRuntime) {
     let mut recorded = Recorded::new(&file);
     let server = flow(&rt, alloc, &[SYN, REPLY]);
     let client = flow(&rt, alloc, &[SYN, call(0, 3), call(4, 5)]);
-    let judged = judge(alloc, &mut recorded, connection(server, client));
-    assert_same!(rt; judged.err(), Some(Error::Read));
+    let all = connection(&rt, alloc, server, client);
+    let judged = judge(&mut recorded, some(&rt, all.first()));
+    assert_same!(rt; judged.err(), Some(DeviceFailed));
+    let decided = decide_all(alloc, &mut recorded, &[], &all);
+    assert_same!(rt; decided.err(), Some(Error::Read));
 }
 
 #[test]
@@ -239,4 +267,133 @@ fn bytes_before_syn_are_not_sent(rt: HostRuntime) {
         frame: 5,
     }];
     assert_same!(rt; &runs[..], &wanted[..]);
+}
+
+// The call of `NULL`, and its reply.
+const NULL_CALL: StreamSegment = StreamSegment {
+    size: 44,
+    at: 16,
+    ..NOTHING
+};
+
+const NULL_REPLY: StreamSegment = StreamSegment {
+    size: 28,
+    at: 68,
+    ..NOTHING
+};
+
+// What is said of a connection of the server's port on which these segments were sent.
+fn decision(
+    rt: &impl Abort,
+    alloc: Global,
+    ports: &[u16],
+    port: u16,
+    client: &[StreamSegment],
+) -> Option<Decision> {
+    let server = flow(rt, alloc, &[SYN, NULL_REPLY]);
+    let client = flow(rt, alloc, client);
+    let all = ordered(rt, alloc, [connection_of(port, server, client)]);
+    let file = InMemory { bytes: &NULL };
+    let mut recorded = Recorded::new(&file);
+    let decisions = ok(rt, decide_all(alloc, &mut recorded, ports, &all));
+    decisions.first().copied()
+}
+
+#[test]
+fn usual_ports_are_chosen(rt: HostRuntime) {
+    let alloc = rt.alloc();
+    for port in [2049, 20048, 111] {
+        let said = decision(&rt, alloc, &[], port, &[SYN, NULL_REPLY]);
+        assert_same!(rt; said, Some(Decision::Whole));
+    }
+    let said = decision(&rt, alloc, &[], 80, &[SYN, NULL_REPLY]);
+    assert_same!(rt; said, Some(Decision::NotChosen));
+}
+
+#[test]
+fn calls_are_chosen_on_any_port(rt: HostRuntime) {
+    let alloc = rt.alloc();
+    let said = decision(&rt, alloc, &[], 80, &[SYN, NULL_CALL]);
+    assert_same!(rt; said, Some(Decision::Whole));
+    let rest = StreamSegment {
+        sequence: 110,
+        size: 34,
+        at: 26,
+        ..NOTHING
+    };
+    let first = StreamSegment {
+        size: 10,
+        ..NULL_CALL
+    };
+    let said = decision(&rt, alloc, &[], 80, &[SYN, rest, first]);
+    assert_same!(rt; said, Some(Decision::Whole));
+    let cut = StreamSegment {
+        size: 15,
+        ..NULL_CALL
+    };
+    let said = decision(&rt, alloc, &[], 80, &[SYN, cut]);
+    assert_same!(rt; said, Some(Decision::NotChosen));
+    let said = decision(&rt, alloc, &[], 80, &[NULL_CALL]);
+    assert_same!(rt; said, Some(Decision::NotChosen));
+}
+
+#[test]
+fn named_ports_alone_are_chosen(rt: HostRuntime) {
+    let alloc = rt.alloc();
+    let said = decision(&rt, alloc, &[80, 2050], 2050, &[SYN, NULL_CALL]);
+    assert_same!(rt; said, Some(Decision::Whole));
+    let said = decision(&rt, alloc, &[80, 50_000], 2050, &[SYN, NULL_CALL]);
+    assert_same!(rt; said, Some(Decision::Whole));
+    let said = decision(&rt, alloc, &[80], 2049, &[SYN, NULL_CALL]);
+    assert_same!(rt; said, Some(Decision::NotChosen));
+}
+
+#[test]
+fn a_connection_without_bytes_is_empty(rt: HostRuntime) {
+    let alloc = rt.alloc();
+    let refused = flow(&rt, alloc, &[SYN]);
+    let closed = [flow(&rt, alloc, &[SYN, FIN]), flow(&rt, alloc, &[SYN, FIN])];
+    let [server, client] = closed;
+    let all = ordered(
+        &rt,
+        alloc,
+        [
+            connection_of(2049, None, refused),
+            connection_of(2049, server, client),
+        ],
+    );
+    let file = InMemory { bytes: FILE };
+    let mut recorded = Recorded::new(&file);
+    let decisions = ok(&rt, decide_all(alloc, &mut recorded, &[], &all));
+    assert_same!(rt; &decisions[..], &[Decision::Empty, Decision::Empty][..]);
+}
+
+#[test]
+fn whole_connections_are_packed(rt: HostRuntime) {
+    let alloc = rt.alloc();
+    let broken = connection_of(
+        2049,
+        flow(&rt, alloc, &[NULL_REPLY]),
+        flow(&rt, alloc, &[SYN, NULL_CALL]),
+    );
+    let whole = connection_of(
+        2049,
+        flow(&rt, alloc, &[SYN, NULL_REPLY]),
+        flow(&rt, alloc, &[SYN, NULL_CALL]),
+    );
+    let all = ordered(&rt, alloc, [broken, whole]);
+    let file = InMemory { bytes: &NULL };
+    let mut recorded = Recorded::new(&file);
+    let decisions = ok(&rt, decide_all(alloc, &mut recorded, &[], &all));
+    let flaw = Flaw {
+        side: Side::Server,
+        kind: StreamFlaw::NoSyn,
+    };
+    assert_same!(rt; &decisions[..], &[Decision::Flawed(flaw), Decision::Whole][..]);
+    let sink = ok(&rt, MemSink::new(alloc, 999, 1_000_000, 0));
+    let mut packing = some(&rt, Packing::start(alloc, sink).ok());
+    let packed = pack_whole(alloc, &mut recorded, &all, &decisions, &mut packing);
+    ok(&rt, packed);
+    ok(&rt, packing.finish());
+    assert_same!(rt; packing.sink().bytes(), NULL.as_slice());
 }

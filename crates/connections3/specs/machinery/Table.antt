@@ -2,21 +2,16 @@
 use Rattle.std.specs.Prelude.{◌≡◌, ℕ, zero, suc, List, [], ◌∷◌, ◌++◌, Option, None, Some}
 use Rattle.streams3.specs.Events.{Event}
 use Rattle.streams3.specs.Streams.{Shown, ShowsEvents}
-use Rattle.connections3.specs.Connections.{ShowsGroup}
+use Rattle.connections3.specs.Connections.{ShowsGroup, flow_of}
 use Rattle.connections3.specs.declared.connection.Connection.{Connection}
 use Rattle.connections3.specs.declared.connection.Flow.{Flow}
 use Rattle.connections3.specs.declared.ends.OneEnd.{OneEnd}
-use Rattle.connections3.specs.declared.ends.OneEnd.TheVariants.{Lower, Higher}
 use Rattle.connections3.specs.declared.numbers.UsedNumbers.{UsedNumbers}
 use Rattle.connections3.specs.declared.packets.Packet.{Packet}
 
 abbrev pub numbers_in : Option Flow → Option UsedNumbers
 numbers_in None = None
 numbers_in (Some flow) = Some flow.numbers
-
-abbrev pub flow_of : Connection → OneEnd → Option Flow
-flow_of c Lower = c.lower
-flow_of c Higher = c.higher
 
 -- as numbers_at, of connections
 abbrev pub flow_numbers_at : List Connection → (end : OneEnd) → (index : ℕ) → Option UsedNumbers

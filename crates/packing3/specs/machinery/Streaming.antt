@@ -11,10 +11,6 @@ use Rattle.packing3.specs.Devices.{Sources}
 use Rattle.packing3.specs.Packed.{IsPackedConnection, IsPackedStream, full_size}
 use Rattle.packing3.specs.Stopped.{Explains}
 
--- fewer bytes than this were given
-abbrev pub GaveFewer : (old new : Observed) → ℕ → Type 0
-GaveFewer old new n = (bytes : List ℕ) × Gave old new bytes × (length bytes < n)
-
 -- the last chunk: none, or some bytes
 abbrev pub last_chunk : List ℕ → List (List ℕ)
 last_chunk [] = []

@@ -1,5 +1,6 @@
 use Rattle.std.proofs.Common.{◌∙◌, ap, sym}
-use Rattle.connections3.specs.machinery.Table.{flow_of, numbers_in}
+use Rattle.connections3.specs.Connections.{flow_of}
+use Rattle.connections3.specs.machinery.Table.{numbers_in}
 use Rattle.connections3.proofs.GroupsLemmas.{numbers_there}
 use Rattle.connections3.proofs.connections.numbers_at.Goals as goal
 

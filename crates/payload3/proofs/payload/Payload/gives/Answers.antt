@@ -1,4 +1,4 @@
-use Rattle.payload3.proofs.PartsLemmas.{nothing_left}
+use Rattle.payload3.proofs.PartsLemmas.{all_within, nothing_left}
 use Rattle.payload3.specs.Standing.{payload_left}
 use Rattle.payload3.proofs.payload.Payload.gives.Goals as goal
 
@@ -13,4 +13,8 @@ returns g c =
       all = λ spent.
           let end = c.self.invariant.spent spent in
           nothing_left file inside.runs.now inside.part end.0 end.1;
+      within = λ spent.
+          let end = c.self.invariant.spent spent in
+          all_within file inside.runs.now inside.part end.0 end.1
+          (c.self.invariant.within file allows);
     })

@@ -1,5 +1,5 @@
-use Rattle.std.proofs.Common.{◌∙◌, Option, None, Some, MatchOption, ap, subst}
-use Rattle.streams3.specs.Order.{HasNoGap, IsGap, Ordered, begin_of}
+use Rattle.std.proofs.Common.{Option, None, Some, MatchOption, subst}
+use Rattle.streams3.specs.Order.{HasNoGap, IsGap}
 use Rattle.streams3.proofs.OrderLemmas.{IsLimit, first_missing, none_missing}
 use Rattle.streams3.proofs.order.OrderedStream.missing.Goals as goal
 
@@ -13,8 +13,7 @@ returns c =
     let stream = c.args.self.now in
     let limit = c.end_of_sent.result in
     let is : IsLimit stream limit = c.end_of_sent.ensures in
-    let e = c.begin_of.ensures ∙ ap (λ (s : Ordered). begin_of s.marks.begin) c.self.view_is in
     match_map c.gap.result
-    (λ none. none_missing stream limit is (subst (λ n. HasNoGap stream.runs n limit) e none))
+    (λ none. none_missing stream limit is (subst (λ n. HasNoGap stream.runs n limit) c.begin.ensures none))
     (λ g some. first_missing stream limit g is
-    (subst (λ n. IsGap stream.runs n limit g.begin g.end) e some)) c.gap.ensures
+    (subst (λ n. IsGap stream.runs n limit g.begin g.end) c.begin.ensures some)) c.gap.ensures
