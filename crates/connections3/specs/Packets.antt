@@ -1,5 +1,5 @@
 -- What is taken of the segments that frames carry.
-use Rattle.std.specs.Prelude.{◌<◌, ℕ, ◌+◌, ◌-◌, ◌/◌, ◌%◌, ◌^◌, Bool, cond, ◌&&◌, not, nat_eq, Option, None, Some}
+use Rattle.std.specs.Prelude.{◌<◌, ℕ, ◌+◌, ◌-◌, ◌/◌, ◌%◌, ◌^◌, Bool, cond, ◌&&◌, ◌||◌, nat_eq, Option, None, Some}
 use Rattle.recording3.specs.declared.frames.FrameHead.{FrameHead}
 use Rattle.recording3.specs.declared.parts.Segment.{Segment}
 use Rattle.streams3.specs.Events.{first_number}
@@ -12,11 +12,16 @@ use Rattle.connections3.specs.declared.packets.Packet.{Packet}
 abbrev pub has_flag : (flags bit : ℕ) → Bool
 has_flag flags bit = nat_eq (flags / bit % 2) 1
 
+-- How much is recorded of a payload. A segment with RST has none: its bytes say why, and are not of
+-- the stream (RFC 1122, section 4.2.2.12).
+abbrev pub payload_size : Segment → ℕ
+payload_size s = cond (has_flag s.flags 4) 0 (s.end - s.begin)
+
 -- the segment with what is recorded of its payload; FIN stands behind all of it
 abbrev pub segment_of : FrameHead → Segment → StreamSegment
 segment_of head s = record {
   sequence = s.sequence;
-  size = s.end - s.begin;
+  size = payload_size s;
   at = head.at + s.begin;
   frame = head.number;
   syn = has_flag s.flags 2;
@@ -26,14 +31,14 @@ segment_of head s = record {
 
 -- the number behind a payload of which some is missing
 abbrev pub cut_of : StreamSegment → (missing : ℕ) → Option Acknowledgment
-cut_of s missing = cond (nat_eq missing 0) None (Some (record {
+cut_of s missing = cond (nat_eq missing 0 || s.rst) None (Some (record {
   number = (first_number s + s.size + missing) % 2 ^ 32;
   frame = s.frame;
 }))
 
 -- what a segment acknowledges
 abbrev pub acknowledgment_of : Segment → (frame : ℕ) → Option Acknowledgment
-acknowledgment_of s frame = cond (has_flag s.flags 16 && not (has_flag s.flags 4))
+acknowledgment_of s frame = cond (has_flag s.flags 16)
     (Some (record { number = s.acknowledged; frame = frame })) None
 
 abbrev pub packet_of : FrameHead → Segment → Packet

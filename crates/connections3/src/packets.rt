@@ -14,11 +14,12 @@ pub struct Packet {
     pub ends: EndPair,
     /// Which of them sent it.
     pub from: OneEnd,
-    /// The segment with what is recorded of its payload. FIN counts only if that is all.
+    /// The segment with what is recorded of its payload. FIN counts only if that is all. With RST it
+    /// has none: its bytes are not of the stream (RFC 1122, section 4.2.2.12).
     pub segment: StreamSegment,
     /// The number behind the payload, if that is cut: the bytes before it were sent.
     pub cut: Option<Acknowledgment>,
-    /// What it acknowledges, if ACK is set and RST is not.
+    /// What it acknowledges, if ACK is set.
     pub acknowledgment: Option<Acknowledgment>,
 }
 
@@ -33,14 +34,15 @@ impl Packet {
         let size = u32::try_from(segment.end.saturating_sub(segment.begin)).ok()?;
         let at = head.at.checked_add(segment.begin as u64)?;
         let (ends, from) = ends_between(segment.source, segment.target);
+        let rst = has_flag(segment.flags, RST);
         let sent = StreamSegment {
             sequence: segment.sequence,
-            size,
+            size: if rst { 0 } else { size },
             at,
             frame,
             syn: has_flag(segment.flags, SYN),
             fin: has_flag(segment.flags, FIN) && segment.missing == 0,
-            rst: has_flag(segment.flags, RST),
+            rst,
         };
         Some(Packet {
             ends,
@@ -75,7 +77,7 @@ fn has_flag(flags: u8, bit: u8) -> bool
 fn cut_of(segment: &StreamSegment, missing: usize) -> Option<Acknowledgment>
     ensures { result ≡ cut_of segment.now missing }
 {
-    if missing == 0 {
+    if missing == 0 || segment.rst {
         return None;
     }
     let missing = (missing % 0x1_0000_0000) as u32;
@@ -93,7 +95,7 @@ fn cut_of(segment: &StreamSegment, missing: usize) -> Option<Acknowledgment>
 fn acknowledgment_of(segment: &Segment, frame: u32) -> Option<Acknowledgment>
     ensures { result ≡ acknowledgment_of segment.now frame }
 {
-    if !has_flag(segment.flags, ACK) || has_flag(segment.flags, RST) {
+    if !has_flag(segment.flags, ACK) {
         return None;
     }
     Some(Acknowledgment {

@@ -13,12 +13,14 @@ use Rattle.recording3.specs.declared.parts.Start.{Start}
 use Rattle.recording3.specs.declared.parts.NoSegment.{NoSegment}
 use Rattle.recording3.specs.declared.parts.NoSegment.TheVariants.{UnknownLink, Cut, NotIp}
 
--- the numbers of the link types
+-- The numbers of the link types. That of raw IP is 101; 12 and 14 are what it has on some systems,
+-- 228 and 229 are IPv4 and IPv6 alone.
 abbrev pub link_of : ℕ → Option Link
 link_of number =
-    if number == 0 then Some Loopback else
+    if number == 0 || number == 108 then Some Loopback else
     (if number == 1 then Some Ethernet else
-    (if number == 101 then Some Raw else
+    (if number == 12 || (number == 14 || (number == 101 || (number == 228 || number == 229)))
+    then Some Raw else
     (if number == 113 then Some Cooked else
     (if number == 276 then Some Cooked2 else None))))
 
@@ -122,7 +124,7 @@ NoUntyped size frame = When (length frame < size) Cut Never
 
 -- where a datagram begins behind the header of a link layer
 abbrev pub HasStart : Link → List ℕ → Start → Type 0
--- DLT_NULL: four octets of a protocol family in the byte order of the machine that recorded
+-- DLT_NULL, LINKTYPE_LOOP: four octets of a protocol family, in either byte order
 HasStart Loopback = IsUntyped 4
 -- two addresses of six octets each, and the type (IEEE 802.3)
 HasStart Ethernet = IsTyped 12 14

@@ -10,11 +10,11 @@ use crate::parts::{IpVersion, NoSegment, Start};
 /// The link types that are read.
 #[derive(Clone, Copy)]
 pub enum Link {
-    /// Of BSD's loopback (0).
+    /// Of BSD's loopback (0, and 108 as OpenBSD has it).
     Loopback,
     /// Of Ethernet (1).
     Ethernet,
-    /// None: the frame is a datagram (101).
+    /// None: the frame is a datagram (101, 12, 14, 228, 229).
     Raw,
     /// Of Linux, where it records several links (113).
     Cooked,
@@ -49,9 +49,9 @@ fn link_of(number: u32) -> Option<Link>
     ensures { result ≡ link_of number }
 {
     match number {
-        0 => Some(Link::Loopback),
+        0 | 108 => Some(Link::Loopback),
         1 => Some(Link::Ethernet),
-        101 => Some(Link::Raw),
+        12 | 14 | 101 | 228 | 229 => Some(Link::Raw),
         113 => Some(Link::Cooked),
         276 => Some(Link::Cooked2),
         _ => None,
