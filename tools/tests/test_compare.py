@@ -205,10 +205,10 @@ def entries_of_one_name(place: Comparisons) -> None:
         listed = [messages.entry(fileid, name, 0) for fileid, name in entries]
         return ([call(1, NFS, 3, 16, fh(b'folder') + hyper(0) + bytes(8) + word(512))],
                 [success(1, ok(messages.entries(None, bytes(8), listed, is_end=True)))])
-    heading = 'NFSPROC3_READDIR reply: connection 1 server record 1 | connection 1 server record 1'
+    heading = 'READDIR reply: connection 1 server record 1 | connection 1 server record 1'
     def wants(what: str, name: str, *lines: str) -> None:
         place.wants(what, 1, [heading, *lines,
-                              f'fields that differ, and how often: {name} of NFSPROC3_READDIR 1',
+                              f'fields that differ, and how often: {name} of READDIR 1',
                               f'1 of 1 call matched; {name} in 1 reply'], '--mask', 'none')
     place.put_both(run((1, b'a'), (2, b'b')), run((1, b'a'), (2, b'b'), (2, b'b')))
     wants('once more', 'entry.name', '  + entry.name="b"')
@@ -251,9 +251,9 @@ def one_bit_of_many_calls(place: Comparisons) -> None:
                                               'b')
     where = 'connection 1 server record 20002'
     place.want('finding', (status, lines[3:]), (1, [
-        f'NFSPROC3_GETATTR reply ?/name1: {where} | {where}', '  - obj.mode=0644 (420)',
+        f'GETATTR reply ?/name1: {where} | {where}', '  - obj.mode=0644 (420)',
         '  + obj.mode=0645 (421)',
-        'fields that differ, and how often: obj.mode of NFSPROC3_GETATTR 1',
+        'fields that differ, and how often: obj.mode of GETATTR 1',
         '30,000 of 30,000 calls matched; obj.mode in 1 reply']))
     place.want(f'{seconds} seconds', seconds < 8, True)
     place.want(f'{memory} bytes', memory < 250e6, True)
@@ -299,13 +299,13 @@ def folders_far_down(place: Comparisons) -> None:
     place.put_both(chain(0o755), chain(0o700))
     status, out, _, memory = measured(place, 'compare', '--program', place.program, '--all', 'a',
                                       'b')
-    headings = [line for line in out if line.startswith('NFSPROC3')]
+    headings = [line for line in out if line.startswith('LOOKUP')]
     place.want('findings', (status, len(headings)), (1, 2_000))
     place.want(f'{memory} bytes', memory < 120e6, True)
     name, last = '0000' + 'd' * 240, '1999' + 'd' * 240
-    place.want('the first', headings[0], f'NFSPROC3_LOOKUP reply ?/{name}: connection 1 server '
+    place.want('the first', headings[0], f'LOOKUP reply ?/{name}: connection 1 server '
                'record 1 | connection 1 server record 1')
-    path = headings[-1].removeprefix('NFSPROC3_LOOKUP reply ').partition(':')[0]
+    path = headings[-1].removeprefix('LOOKUP reply ').partition(':')[0]
     place.want('the last', (path.startswith(f'?/{name}/ .. /'), path.endswith(f'/{last}'),
                             len(path) <= 1_024), (True, True, True))
 
@@ -413,8 +413,8 @@ def entries_that_fit_nothing_are_named(place: Comparisons) -> None:
     """What was accepted and does not differ any more is printed, and changes no status."""
     place.put_both(run(1, 1), run(1, 1))
     accepts(place, NLINK, ONLY)
-    gone = ['0 accepted', 'no longer found: NFSPROC3_GETATTR ?/f1 obj.nlink first=1 second=2',
-            'no longer found: NFSPROC3_SETATTR ?/f0 only in the second run set.mode=416']
+    gone = ['0 accepted', 'no longer found: GETATTR ?/f1 obj.nlink first=1 second=2',
+            'no longer found: SETATTR ?/f0 only in the second run set.mode=416']
     place.want('same', compared(place, '--accept', 'known'),
                (0, 'same: 4 calls in 1 connection', gone))
 
@@ -580,7 +580,7 @@ def all_forms_say_the_same(place: Comparisons) -> None:
         page = place.read('x.html').decode()
         place.want('page', (f'<p class=accepted>{accepted} accepted</p>' in page,
                             page.count('<p class=accepted>no longer found: ')), (True, gone))
-        place.want('folded', page.count('accepted: NFSPROC3_GETATTR reply ?/f1'), accepted)
+        place.want('folded', page.count('accepted: GETATTR reply ?/f1'), accepted)
     place.compare('--json', 'x.json', 'a', 'b')
     place.want('without a file', place.json('x.json')['accepted'], None)
 

@@ -198,7 +198,7 @@ def what_is_left_out_is_listed(place: Comparisons) -> None:
     said = compared(place, [FOLDER, BEFORE, NEW, ROOT], [FOLDER, NEW, AFTER, ROOT],
                     '--order', 'any', '--html', 'out.html', '--junit', 'out.xml')
     why = 'CREATE ?/w/z at connection 2 client record 1 of the second run'
-    line = ('left out: 1 NFSPROC3_READDIR ?/w, explained by order: connection 1 client record 2 '
+    line = ('left out: 1 READDIR ?/w, explained by order: connection 1 client record 2 '
             f'(frame 9) | connection 1 client record 2 (frame 11), by {why}')
     place.want('printed', said.lines[1:3], [
         'same in another order, 1 answer explained by order: 3 calls; left out: 1 READDIR '

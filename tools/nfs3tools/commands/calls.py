@@ -32,7 +32,7 @@ from ..recordings.selection import count, plural
 from ..reporting.messages import add_recordings, allowed_of, command_of, parser_of
 from ..reporting.rows import add_forms, form_of
 from ..shared.layouts import BY_NUMBER
-from ..shared.printed import escaped, printable
+from ..shared.printed import escaped, near, printable
 from ..shared.screens import Colour, Screen, screen_of
 from .verdicts import Judge, judge_of
 
@@ -224,7 +224,8 @@ def procedure_names(word: str) -> frozenset[str]:
     words = (name.strip() for name in word.upper().split(','))
     names = frozenset(LAST_NAMES.get(name) or name.rpartition(' ')[2] for name in words)
     for name in names - {*LAST_NAMES.values()}:
-        raise argparse.ArgumentTypeError(f'no procedure: {name}')
+        meant = near(name, LAST_NAMES.values()) or ' (as in WRITE,COMMIT)'
+        raise argparse.ArgumentTypeError(f'no procedure: {name}{meant}')
     return names
 
 
@@ -234,7 +235,8 @@ def address(word: str) -> str:
         found = ipaddress.ip_address(word.strip('[]'))
         return f'[{found}]' if found.version == 6 else str(found)
     except ValueError:
-        raise argparse.ArgumentTypeError(f'no address: {word}') from None
+        raise argparse.ArgumentTypeError(
+            f'no address: {word} (as in 192.0.2.7 or 2001:db8::7)') from None
 
 
 def user_id(word: str) -> int:

@@ -14,7 +14,6 @@ from __future__ import annotations
 
 import argparse
 import contextlib
-import difflib
 import json
 import os
 import sys
@@ -46,7 +45,7 @@ from ..reporting.messages import add_recordings, allowed_of, command_of, parser_
 from ..reporting.rows import add_forms, form_of
 from ..shared.names import as_called
 from ..shared.outputs import Refused, is_read_from, writing
-from ..shared.printed import escaped, printable
+from ..shared.printed import escaped, near, printable
 from ..shared.screens import Colour, Screen, Styled, screen_of, table_lines
 from .calls import call_time, tell_verdicts
 from .verdicts import judge_of
@@ -60,7 +59,6 @@ RuleAndServer = tuple[str, str]  # a rule and a server, either of which may be a
 FINDING_HEADS = ('rule', 'section', 'by', 'server', 'found', 'first')
 FINDING_NUMBERS = range(4, 5)  # columns that are set to the right
 SHOWN_FINDINGS = 200  # of a recording
-LIKENESS = 0.4  # how much of a word is that of one near it
 
 
 class AcceptedRules(NamedTuple):
@@ -306,8 +304,7 @@ def rule_names(word: str) -> frozenset[str]:
 def rule_name(name: str) -> str:
     """The name of a rule. Raises `ArgumentTypeError` for any other, with those that are near."""
     if name not in RULES:
-        near = difflib.get_close_matches(name, RULES, cutoff=LIKENESS)
-        meant = f'; near it: {", ".join(near)}' if near else ', see the manual page'
+        meant = near(name, RULES) or ', see the manual page'
         raise argparse.ArgumentTypeError(f'no rule: {name}{meant}')
     return name
 

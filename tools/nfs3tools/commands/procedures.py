@@ -21,6 +21,7 @@ import typing
 from collections import Counter
 from collections.abc import Iterator, Sequence
 
+from ..exchanges.in_words import short
 from ..judgement.tallies import (
     Tallies, Tally, milliseconds, procedures_in_order, sum_of, tallies_of)
 from ..judgement.verdict import (
@@ -131,7 +132,7 @@ def counted(judge: Judge, recording: str, chosen: argparse.Namespace) -> Counted
 
 def tally_row(name: str, tally: Tally, is_named: bool, screen: Screen) -> Styled:
     """A row. The longest latency is named by its recording, or not."""
-    cells = [name, *number_texts(numbers_of(tally), screen), longest_of(tally, is_named),
+    cells = [short(name), *number_texts(numbers_of(tally), screen), longest_of(tally, is_named),
              ', '.join(f'{error} {screen.number(number)}'
                        for error, number in most_first(tally.errors)) or '-']
     return Styled(cells, Colour.RED if tally.errors else None)
@@ -232,9 +233,9 @@ def cells_beside(name: str, first: Tally, second: Tally, screen: Screen) -> list
     errors = (f'{error} ' + both_cells(*(screen.number(tally.errors[error])
                                          for tally in (first, second)))
               for error, _ in most_first(first.errors + second.errors))
-    return [name, *(both_cells(here, there, percent_change(number, other) * (at >= SIZES_FROM))
-                    for at, (here, there, number, other) in enumerate(numbers)),
-            ', '.join(errors) or '-']
+    changes = (both_cells(here, there, percent_change(number, other) * (at >= SIZES_FROM))
+               for at, (here, there, number, other) in enumerate(numbers))
+    return [short(name), *changes, ', '.join(errors) or '-']
 
 
 def both_cells(first: str, second: str, change: str = '') -> str:

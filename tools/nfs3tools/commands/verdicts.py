@@ -31,7 +31,7 @@ from ..judgement.verdict import (
 from ..pages.judged import Seen, judged_page, seen_in, table_of, verdicts_in
 from ..recordings.coverage import Allowed, Covered, named_calls
 from ..recordings.parts import files_in, files_of
-from ..recordings.selection import Options
+from ..recordings.selection import Options, count
 from ..recordings.taken import NotTaken, Taken, take
 from ..reporting.junit import Suite
 from ..reporting.messages import (
@@ -97,8 +97,19 @@ class Judge(typing.NamedTuple):
         elif taken.damage:
             verdicts.append(error_verdict(recording, taken.damage))
         elif not taken.connections and taken.is_recording:
-            verdicts.append(error_verdict(recording, taken.nothing))
+            verdicts.append(error_verdict(recording, self.nothing_in(recording, taken)))
         return [Verdict(recording, 'note', said=note) for note in taken.notes] + verdicts
+
+    def nothing_in(self, recording: str, taken: Taken) -> str:
+        """Returns why there is no connection: if ports were chosen, which ones there are."""
+        if not self.options.ports or not all(map(os.path.isfile, files_of(recording))):
+            return taken.nothing
+        with take(recording, self.options._replace(ports=frozenset())) as whole:
+            ends = [one.ends for one in whole.covered() if one.ends]
+            ports = sorted({one.server_port or 0 for one in whole.connections})
+        none, known = ', '.join(map(str, sorted(self.options.ports))), ', '.join(map(str, ports))
+        there = f'; servers have {known}' if ports else ''
+        return f'none of {count(len(ends), "connection")} has port {none}{there}'
 
     def of_container(self, recording: str, others: list[Verdict]) -> list[Verdict]:
         """The verdict on a capture that is not whole, unless one of its connections has it."""

@@ -350,7 +350,7 @@ class ComparedContent:
             + telling.frames_text(call) for call, number in zip(calls, own) if call)
         yield (f'<details class="row{" told" if mark != "=" else ""}" '
                f'id=r{self.anchors[both_places(*calls)]}>'
-               f'<summary><b class=mark>{mark}</b> {next(filter(None, calls)).procedure}'
+               f'<summary><b class=mark>{mark}</b> {short(next(filter(None, calls)).procedure)}'
                f'{f" {code(row.path)}" if row.path else ""} '
                f'<span class=quiet>{places}</span>{said}</summary>')
         yield from chain.from_iterable(starmap(self.message, messages))

@@ -247,7 +247,7 @@ def port_numbers(word: str) -> frozenset[int]:
     """The ports that a word names, as `2049,20048`."""
     ports = frozenset(int(port) for port in word.split(',') if port.isascii() and port.isdigit())
     if len(word.split(',')) != len(ports) or not all(0 < port < 1 << 16 for port in ports):
-        raise argparse.ArgumentTypeError(f'no ports: {word}')
+        raise argparse.ArgumentTypeError(f'no ports: {word} (as in 2049,20048)')
     return ports
 
 

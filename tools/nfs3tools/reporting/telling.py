@@ -148,8 +148,8 @@ def messages_text(findings: Sequence[Finding], of_call: str = ' call') -> str:
         return (f'{number:,} messages have values that are equal in both runs, '
                 'and that correspond to others elsewhere')
     if number == 1:
-        return f'{message.procedure}{of_call if message.is_call else " reply"}'
-    return f'{number:,} {"calls" if message.is_call else "replies"} of {message.procedure}'
+        return f'{short(message.procedure)}{of_call if message.is_call else " reply"}'
+    return f'{number:,} {"calls" if message.is_call else "replies"} of {short(message.procedure)}'
 
 
 def only_in(finding: Finding) -> str:
@@ -231,15 +231,15 @@ def silent_line(some: Sequence[Finding]) -> str:
     whom = '' if call.first and call.second else f' of the {call.run} run'
     kind = f', {WHY_LEFT_OUT[call.kind]}' if call.kind in WHY_LEFT_OUT else ''
     why = f', {"by " * (call.kind == "explained")}{call.remark}' if call.remark else ''
-    return (f'left out{whom}: {len(some):,} {call.message.procedure}{path}{kind}'
+    return (f'left out{whom}: {len(some):,} {short(call.message.procedure)}{path}{kind}'
             f'{", first" * (len(some) > 1)}: {places_text(call)}{why}')
 
 
 def of_notes(compared: Compared, most: int | None) -> Iterator[str]:
     """The pairs whose answers are equal and which their run does not allow, up to `most`."""
     return first_of(compared.noted, most, lambda one: (
-        f'note: {one.message.procedure}{f" {one.path}" if one.path else ""}, equal in both runs: '
-        f'{places_text(one)}, {one.remark}'), ' notes')
+        f'note: {short(one.message.procedure)}{f" {one.path}" if one.path else ""}, '
+        f'equal in both runs: {places_text(one)}, {one.remark}'), ' notes')
 
 
 def places_text(one: Finding) -> str:
@@ -285,7 +285,8 @@ def of_accepted(accepted: Split | None) -> list[str]:
 
 
 def fields_text(fields: Iterable[tuple[tuple[str, str], int]]) -> str:
-    return ', '.join(f'{name} of {procedure} {count:,}' for (procedure, name), count in fields)
+    return ', '.join(f'{name} of {short(procedure)} {number:,}'
+                     for (procedure, name), number in fields)
 
 
 def up_to(most: int, some: Sequence[str], comma: str = ', ') -> str:

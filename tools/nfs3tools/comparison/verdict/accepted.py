@@ -14,9 +14,10 @@ from fnmatch import fnmatchcase
 from itertools import compress
 from typing import Any, NamedTuple
 
+from ...exchanges.in_words import short
 from ...exchanges.whose import ANY, fields_of
-from ...shared.layouts import BY_NAME
-from ...shared.printed import escaped, printable
+from ...shared.layouts import BY_NAME, FULL_NAMES
+from ...shared.printed import escaped, near, printable
 from ..exchanges.explained import RUNS
 from ..values.classes import CLASSES, RENAMED, Mask, Way
 from .differences import Difference
@@ -235,7 +236,7 @@ def entry_text(entry: AcceptedEntry) -> str:
     side = f' in the {entry["only"]} run' if 'only' in entry else ''
     about = ' '.join([entry.get('field') or kind_of_entry(entry) + side, *entry.get('asks', ())])
     where = [path] if (path := entry.get('path', ANY)) is not None else []
-    return printable(' '.join([entry['procedure'], *where, about]) + ''.join(values))
+    return printable(' '.join([short(entry['procedure']), *where, about]) + ''.join(values))
 
 
 class Ignored(NamedTuple):
@@ -245,7 +246,7 @@ class Ignored(NamedTuple):
     field: str
 
     def __str__(self) -> str:
-        return f'{self.procedure}.{self.field}'
+        return f'{short(self.procedure)}.{self.field}'
 
     def has(self, procedure: str, difference: Difference) -> bool:
         return self.procedure in (ANY, procedure) and (
@@ -258,11 +259,11 @@ def ignored_of(text: str) -> list[Ignored]:
 
 
 def one_of(word: str) -> Ignored:
-    procedure, _, field = word.partition('.')
+    given, _, field = word.partition('.')
+    procedure = FULL_NAMES.get(given, given)
     if procedure != ANY and procedure not in BY_NAME:
-        raise argparse.ArgumentTypeError(
-            printable(
-                f'no procedure: {procedure} (as in NFSPROC3_GETATTR.obj.nlink, or in *.nlink)'))
+        meant = near(given, FULL_NAMES) or ' (as in GETATTR.obj.nlink, or in *.nlink)'
+        raise argparse.ArgumentTypeError(printable(f'no procedure: {given}{meant}'))
     known = fields_of(procedure)
     if ENTRY.sub('', field) not in known and field not in known.values():
         raise argparse.ArgumentTypeError(

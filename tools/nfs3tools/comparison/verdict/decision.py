@@ -26,6 +26,7 @@ from .findings import Compared, Explaining, Finding, Run, replies
 from .trial import Trial
 
 FIELDS_IN_SUMMARY = 4
+LONGEST_LINE = 200  # characters of the comparison in words
 # Why calls of both runs are left out.
 WHY_LEFT_OUT = {'explained': 'explained by order', 'sent again': 'sent again'}
 IN_ANOTHER_ORDER, BUT_IDS, BUT_LEFT_OUT = (
@@ -434,11 +435,14 @@ def frequent_fields(compared: Compared) -> Iterator[str]:
 
 
 def compared_in_words(compared: Compared) -> str:
-    """The verdict in words: what is matched, and what is not."""
+    """The verdict in a line of words: what is matched, and what is not."""
     words = [f'{compared.exchanges:,} of {count(max(compared.calls), "call")} matched',
              *turns(compared)]
     words += [f'left out: {what} only in the {name} run' for what, name in left_out(compared)]
     words += [f'left out: {what}' for what in of_both(compared)]
     words += [f'{number:,} only in the {name} run' for name, number in zip(RUNS, compared.lonely)
               if number]
-    return '; '.join([*words, *frequent_fields(compared)])
+    words += frequent_fields(compared)
+    while len('; '.join(words)) > LONGEST_LINE:
+        words[-2:] = ['..']
+    return '; '.join(words)
