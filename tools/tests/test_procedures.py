@@ -225,6 +225,12 @@ def sorted_rows(tools: Tools) -> None:
                             ('JSON', [row['procedure'] for row in listed[:-1]])):
             tools.want(f'{form} by {column}', (status, [re.split('[_ ]', name)[-1]
                                                         for name in names]), (0, order.split()))
+    for group, rows_of_it in (('client', [('192.0.2.7', 9)]), ('path', [('?', 4), ('-', 3)])):
+        _, tables, _ = procedures(tools, '--total', '--by', group, '--json', 'x.json', 'a.pcap')
+        cells, *_ = tables.values()
+        tools.want(group, (cells[0][0], [(one[0], int(one[1])) for one in cells[1:-1]][:2], [
+            one[group] for one in tools.json('x.json')['tables'][0]['procedures']]), (
+                group, rows_of_it, [one[0] for one in cells[1:]]))
     tools.want('another column', tools.tool('procedures', '--sort', 'colour', 'a.pcap')[0], 2)
     # Beside a recording with 39 calls of NULL these are first, and without them those of GETATTR.
     tools.write('b.pcap', pcap(whole()))

@@ -1,7 +1,7 @@
-"""Counts calls, errors, bytes and latencies by procedure.
+"""Counts calls, errors, bytes and latencies by procedure, user, client or path.
 
-    tools/procedures [--total] [--sort COLUMN] [--width N] [--json FILE] [--csv FILE]
-                     [--html FILE] RECORDING|CAPTURE ..
+    tools/procedures [--by GROUP] [--total] [--sort COLUMN] [--width N] [--json FILE]
+                     [--csv FILE] [--html FILE] RECORDING|CAPTURE ..
     tools/procedures --beside A B
 
 The manual page, tools/man/procedures.1, has the rest.
@@ -23,7 +23,8 @@ from collections.abc import Iterator, Sequence
 
 from ..exchanges.in_words import short
 from ..judgement.tallies import (
-    Tallies, Tally, milliseconds, procedures_in_order, sum_of, tallies_of)
+    BY_PROCEDURE, GROUPINGS, Tallies, Tally, milliseconds, procedures_in_order, sum_of,
+    tallies_of)
 from ..judgement.verdict import (
     VERDICTS_VERSION, Verdict, colour_of, counts_after, is_row, kept_in, not_ok, status_of,
     subject_of, sums_of, tell_notes, verdict_members)
@@ -50,23 +51,23 @@ NUMBER_NAMES, NUMBER_HEADS, NUMBER_WORDS = zip(
     ('p99_ns', '99 % ms', 'p99'), ('most_ns', 'most ms', 'most'), ('mean_ns', 'mean ms', 'mean'),
     ('sum_ns', 'sum ms', 'sum'))
 COUNT_COLUMNS, RANK_COLUMNS = slice(6), slice(6, None)  # of these: counts, and latencies
-PROCEDURE_HEADS = ('procedure', *NUMBER_HEADS, 'errors')
-PROCEDURE_NUMBERS = range(1, len(PROCEDURE_HEADS) - 1)  # the columns that are set to the right
+PROCEDURE_HEADS = (*NUMBER_HEADS, 'errors')  # after what is counted
+PROCEDURE_NUMBERS = range(1, len(PROCEDURE_HEADS))  # the columns that are set to the right
 LONGEST_COLUMN = 'longest'  # is before the errors in tables of one recording
 IN_ALL = 'in all'
 ON_PAGE = Screen(sys.maxsize)  # on which numbers are as on a terminal
 # The columns by which rows are sorted: in the order of the RFC, or with the largest number first
-BY_PROCEDURE = 'procedure'
 SORT_COLUMNS = (*NUMBER_WORDS, 'errors')
 SIZES_FROM = 4  # the first column whose change is printed in per cent
 
 
 class TallyTable(typing.NamedTuple):
     """What is counted of a connection, or of all of a recording (then the verdict is None), or of
-    all recordings (then there is no recording either)."""
+    all recordings (then there is no recording either), and by what."""
     recording: str | None
     verdict: Verdict | None
     tallies: Tallies
+    group: str = BY_PROCEDURE
 
     def rows(self, column: str = BY_PROCEDURE) -> Iterator[tuple[str, Tally]]:
         """Iterates over the procedures, sorted by a column, and then all of them."""
@@ -117,15 +118,16 @@ def counted(judge: Judge, recording: str, chosen: argparse.Namespace) -> Counted
     def look(taken: Taken, verdicts: list[Verdict]) -> None:
         judged = {verdict.connection: verdict for verdict in verdicts}
         with contextlib.closing(kept_in(judge.program, taken, verdicts,
-                                        has_texts=bool(chosen.html))) as kept:
+                                        has_texts=bool(chosen.html or chosen.by in GROUPINGS))
+                                ) as kept:
             window = window_of(chosen, kept.begun)
-            tables.extend(TallyTable(recording, judged[part.number],
-                                     tallies_of(kept, recording, number, window))
+            tables.extend(TallyTable(recording, judged[part.number], tallies_of(
+                kept, recording, number, window, chosen.by), chosen.by)
                           for number, part in enumerate(kept.parts))
             if chosen.html:
                 lines.append(time_line_of(kept, window))
     verdicts = judge.verdicts(recording, look)
-    in_all = TallyTable(recording, None, sum_of(table.tallies for table in tables))
+    in_all = TallyTable(recording, None, sum_of(table.tallies for table in tables), chosen.by)
     return CountedRecording(Seen(recording, verdicts, line=lines[0] if lines else None), tables,
                             in_all)
 
@@ -167,7 +169,7 @@ def print_table(title: str, table: TallyTable, column: str, screen: Screen) -> N
 
 def table_rows(table: TallyTable, column: str, screen: Screen) -> list[Styled]:
     """The rows of a table, that of the heads first."""
-    return [Styled((*PROCEDURE_HEADS[:-1], LONGEST_COLUMN, PROCEDURE_HEADS[-1])),
+    return [Styled((table.group, *NUMBER_HEADS, LONGEST_COLUMN, PROCEDURE_HEADS[-1])),
             *(tally_row(*row, table.recording is None, screen) for row in table.rows(column))]
 
 
@@ -203,7 +205,8 @@ def print_tables(found: Sequence[CountedRecording], is_total: bool, column: str,
 
 
 def in_all_of(found: Sequence[CountedRecording]) -> TallyTable:
-    return TallyTable(None, None, sum_of(one.in_all.tallies for one in found))
+    return TallyTable(None, None, sum_of(one.in_all.tallies for one in found),
+                      found[0].in_all.group)
 
 
 def print_beside(first: CountedRecording, second: CountedRecording, column: str,
@@ -221,7 +224,7 @@ def rows_beside(first: CountedRecording, second: CountedRecording, column: str,
     here, there = (dict(one.in_all.rows()) for one in (first, second))
     names = [*sorted_by(column, procedures_in_order({*here, *there} - {IN_ALL}), here, there),
              IN_ALL]
-    return [Styled(PROCEDURE_HEADS), *(
+    return [Styled((first.in_all.group, *PROCEDURE_HEADS)), *(
         Styled(cells_beside(name, here.get(name, Tally()), there.get(name, Tally()), screen))
         for name in names)]
 
@@ -279,15 +282,15 @@ def shown_table(title: str, table: TallyTable, column: str) -> ShownTable:
 def shown_of(title: str, styled: Sequence[Styled]) -> ShownTable:
     """The same of rows. Errors come last, and are folded."""
     heads, *rows = (row.cells for row in styled)
-    numbers = [at for at, head in enumerate(heads) if head in PROCEDURE_HEADS[1:-1]]
+    numbers = [at for at, head in enumerate(heads) if head in NUMBER_HEADS]
     return ShownTable(title, heads, [row_of_cells(cells, numbers, look='folded') for cells in rows])
 
 
-def tally_object(name: str, tally: Tally) -> dict[str, typing.Any]:
+def tally_object(name: str, tally: Tally, group: str = BY_PROCEDURE) -> dict[str, typing.Any]:
     numbers, longest = numbers_of(tally), tally.longest
     position = longest and str(Place(longest.connection, 'client', longest.record))
     counts, ranks = ([*zip(NUMBER_NAMES, numbers)][part] for part in (COUNT_COLUMNS, RANK_COLUMNS))
-    return {'procedure': name, **dict(counts), 'errors': dict(most_first(tally.errors)),
+    return {group: name, **dict(counts), 'errors': dict(most_first(tally.errors)),
             'latencies': len(tally.latencies), **dict(ranks), 'most_position': position,
             'most_frame': longest and longest.frame, 'negative': tally.backward}
 
@@ -301,7 +304,8 @@ def whose(table: TallyTable) -> dict[str, typing.Any]:
 def json_of_tables(found: Sequence[CountedRecording], column: str) -> bytes:
     """The verdicts and the tables; of each the last object of its procedures is the sum."""
     verdicts = verdicts_in(one.seen for one in found)
-    tables = [{**whose(table), 'procedures': [tally_object(*row) for row in table.rows(column)]}
+    tables = [{**whose(table), 'procedures': [tally_object(*row, table.group)
+                                              for row in table.rows(column)]}
               for one in found for table in (*one.tables, one.in_all)]
     whole = {'version': VERDICTS_VERSION, **verdict_members(verdicts), 'tables': tables}
     return json.dumps(whole, indent=1).encode() + b'\n'
@@ -310,11 +314,12 @@ def json_of_tables(found: Sequence[CountedRecording], column: str) -> bytes:
 def csv_of(found: Sequence[CountedRecording], column: str) -> bytes:
     """The tables in one, without sums. The rows of a recording in all have no connection."""
     text = io.StringIO()
-    rows = [{**whose(table), **tally_object(*row),
+    rows = [{**whose(table), **tally_object(*row, table.group),
              'errors': ' '.join(f'{name}={number}' for name, number in most_first(row[1].errors))}
             for one in found for table in (*one.tables, one.in_all) for row in table.rows(column)
             if row[0] != IN_ALL]
-    heads = [*whose(TallyTable(None, None, {})), *tally_object('', Tally())]
+    heads = [*whose(TallyTable(None, None, {})),
+             *tally_object('', Tally(), found[0].in_all.group)]
     writer = csv.DictWriter(text, heads)
     writer.writeheader()
     writer.writerows(rows)
@@ -325,9 +330,10 @@ def command_line_of_procedures(words: list[str]) -> argparse.Namespace:
     parser = parser_of(__doc__, 'procedures')
     parser.add_argument('--beside', action='store_true',
                         help='prints two recordings side by side, with what changed')
+    parser.add_argument('--by', choices=[BY_PROCEDURE, *GROUPINGS], default=BY_PROCEDURE,
+                        help='what has a row: each procedure, or each user, client or path')
     parser.add_argument('--total', action='store_true', help='prints no tables of connections')
     parser.add_argument('--sort', metavar='COLUMN', choices=[BY_PROCEDURE, *SORT_COLUMNS],
-                        default=BY_PROCEDURE,
                         help=f'has the largest of a column first: {", ".join(SORT_COLUMNS)}')
     parser.add_argument('--json', metavar='FILE', help='writes the verdicts and the tables as JSON')
     parser.add_argument('--csv', metavar='FILE', help='writes the tables as comma-separated values')
@@ -339,6 +345,7 @@ def command_line_of_procedures(words: list[str]) -> argparse.Namespace:
     chosen = parser.parse_args(words)
     if chosen.beside and len(chosen.recordings) != 2:
         parser.error('--beside takes two recordings')
+    chosen.sort = chosen.sort or (BY_PROCEDURE if chosen.by == BY_PROCEDURE else SORT_COLUMNS[0])
     return chosen
 
 

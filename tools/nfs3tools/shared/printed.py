@@ -22,8 +22,12 @@ def printable(text: str) -> str:
 
 def near(word: str, names: Iterable[str]) -> str:
     """Returns what is said after a word that is no name: the names that are like it, if any."""
-    found = difflib.get_close_matches(word, [*names], cutoff=LIKENESS)
+    found = like(word, names)
     return f'; near it: {", ".join(found)}' if found else ''
+
+
+def like(word: str, names: Iterable[str]) -> list[str]:
+    return difflib.get_close_matches(word, [*names], cutoff=LIKENESS)
 
 
 def hexadecimal(letter: str) -> str:
