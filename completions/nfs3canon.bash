@@ -59,6 +59,9 @@ _nfs3_tool() {
     'procedures --color' | 'nfs3-procedures --color')
       words='auto always never'
       ;;
+    'nfs3-report --color')
+      words='auto always never'
+      ;;
     'verdicts --color' | 'nfs3-verdicts --color')
       words='auto always never'
       ;;
@@ -76,8 +79,9 @@ _nfs3_options() {
     from_pcap | nfs3-from-pcap) echo --help --version --port ;;
     nfs3-meaning) echo --help --version --all --rule --notes --explain --accept --junit --html --json --csv --color --program --port --allow-losses --allow-not-checked ;;
     procedures | nfs3-procedures) echo --help --version --beside --by --total --sort --json --csv --html --from --to --width --color --program --port --allow-losses --allow-not-checked ;;
+    nfs3-report) echo --help --version --html --color --program --port --allow-losses --allow-not-checked ;;
     verdicts | nfs3-verdicts) echo --help --version --quiet --junit --json --html -j --growing --color --program --port --allow-losses --allow-not-checked ;;
     nfs3-where) echo --help --version --port ;;
   esac
 }
-complete -o default -F _nfs3_tool calls nfs3-calls nfs3-compare nfs3-cut nfs3-explain from_pcap nfs3-from-pcap nfs3-meaning procedures nfs3-procedures verdicts nfs3-verdicts nfs3-where
+complete -o default -F _nfs3_tool calls nfs3-calls nfs3-compare nfs3-cut nfs3-explain from_pcap nfs3-from-pcap nfs3-meaning procedures nfs3-procedures nfs3-report verdicts nfs3-verdicts nfs3-where

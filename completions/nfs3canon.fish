@@ -115,6 +115,16 @@ for tool in procedures nfs3-procedures
     complete -c $tool -l allow-losses -d 'takes in part and left out as the status 0'
     complete -c $tool -l allow-not-checked -d 'takes not checked as the status 0'
 end
+for tool in nfs3-report
+    complete -c $tool -s h -l help -d 'show this help message and exit'
+    complete -c $tool -l version -d 'show programs version number and exit'
+    complete -c $tool -l html -r -d 'writes a page for a browser'
+    complete -c $tool -l color -x -a 'auto always never' -d 'whether there are colours'
+    complete -c $tool -l program -r -d 'the nfs3canon to run, if it is not the one of this folder'
+    complete -c $tool -l port -x -d 'takes the connections that have one of these ports'
+    complete -c $tool -l allow-losses -d 'takes in part and left out as the status 0'
+    complete -c $tool -l allow-not-checked -d 'takes not checked as the status 0'
+end
 for tool in verdicts nfs3-verdicts
     complete -c $tool -s h -l help -d 'show this help message and exit'
     complete -c $tool -l version -d 'show programs version number and exit'

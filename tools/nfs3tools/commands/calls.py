@@ -24,7 +24,7 @@ from collections.abc import Callable, Iterator, Sequence
 from ..comparison.values.long_values import bytes_of
 from ..exchanges.in_words import short
 from ..exchanges.kept import WIDTH, Kept, KeptExchange, call_text, host_of
-from ..judgement.tallies import GROUPINGS, milliseconds
+from ..judgement.tallies import GROUPINGS, milliseconds, who_of
 from ..judgement.verdict import (
     VERDICTS_VERSION, Verdict, kept_in, not_ok, status_of, sums_of, tell_notes, verdict_members)
 from ..judgement.window import ALL, DAY, add_window, window_of
@@ -116,9 +116,8 @@ def call_time(time: int, begun: int | None) -> str:
 
 def cells_of(one: KeptExchange, begun: int | None) -> tuple[str, ...]:
     answer = one.answer if one.kept.firsts[one.at] else answer_of(one)
-    who = '@'.join(filter(None, [GROUPINGS['user'](one), host_of(one.part.client)]))
     return (call_time(one.time, begun), milliseconds(one.latency), str(one.frame or '-'),
-            f'{one.part.number}:{one.record}', who, call_text(one, WIDTH), answer)
+            f'{one.part.number}:{one.record}', who_of(one), call_text(one, WIDTH), answer)
 
 
 def answer_of(one: KeptExchange) -> str:
@@ -195,7 +194,8 @@ def what_there_is(found: ListedRecording, chosen: argparse.Namespace) -> Iterato
             (chosen.client, 'clients', GROUPINGS['client']),
             (chosen.procedure, 'procedures', lambda one: short(one.procedure)),
             (chosen.path, 'paths', GROUPINGS['path'])):
-        names = sorted({*map(name_of, every)} - {'-'} if word is not None and word != frozenset() else ())
+        is_chosen = word is not None and word != frozenset()
+        names = sorted({*map(name_of, every)} - {'-'} if is_chosen else ())
         some = names if len(names) <= KNOWN_AT_MOST else [
             *like(str(word), names), *names][:KNOWN_AT_MOST] + ['..']
         if names:

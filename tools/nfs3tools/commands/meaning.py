@@ -36,7 +36,8 @@ from ..meaning.recorded import Recorded
 from ..meaning.rules import CLIENT, NOTE, RULES, SECTIONS, Looked, RuleFinding
 from ..pages import markup
 from ..pages.judged import (
-    BAD, PARTIAL, Seen, ShownTable, headline_of, judged_page, of_table, row_of_cells, table_of)
+    BAD, PARTIAL, Headline, Seen, ShownTable, headline_of, judged_page, of_table, row_of_cells,
+    table_of)
 from ..recordings.parts import Part, files_in
 from ..recordings.selection import count
 from ..recordings.taken import Taken
@@ -103,7 +104,8 @@ class RecordingFindings:
     """The findings of a recording, by the rules that are wanted. Calls are in a temporary file."""
 
     def __init__(self, recording: str, chosen: argparse.Namespace, looked: Looked) -> None:
-        self.recording, self.chosen, self.looked = escaped(recording), chosen, looked
+        self.name, self.recording, self.chosen = recording, escaped(recording), chosen
+        self.looked, self.looked_before = looked, looked.exchanges
         self.kept, self.parts = Kept(), list[Part]()
         self.rows = dict[tuple[str, str, str], FindingRow]()
         self.all = list[tuple[RuleFinding, FindingRow]]()
@@ -139,8 +141,13 @@ class RecordingFindings:
 
     def words(self, finding: RuleFinding) -> str:
         one = self.kept.exchange(finding.number)
-        frame = f'frame {self.frame(finding)}' if one.frame else f'{one.part.number}:{one.record}'
-        return printable(f'{frame}: {call_text(one)}: {finding.text}')
+        where = f'frame {self.frame(finding)}' if one.frame else self.position(one.at)
+        return printable(f'{where}: {call_text(one)}: {finding.text}')
+
+    def position(self, at: int) -> str:
+        """Returns the position of a call, and its frame if it is known."""
+        frame = self.kept.frames[at]
+        return f'{self.kept.position(at)}' + (f' frame {frame}' if frame else '')
 
     def values(self) -> Iterator[Sequence[object]]:
         """Iterates over the values of FINDING_COLUMNS of all findings, by time."""
@@ -193,6 +200,14 @@ class FindingsReport:
         self.rows, self.articles = list[FindingRow](), list[str]()
         self.seen, self.verdicts = list[Seen](), list[Verdict]()
 
+    def add(self, found: RecordingFindings, verdicts: list[Verdict]) -> None:
+        """Adds what is found in a recording, with the verdicts on it."""
+        self.verdicts += verdicts
+        self.seen.append(Seen(found.name, verdicts))
+        self.rows += found.rows.values()
+        if self.chosen.html:
+            self.articles += found.articles()
+
     @property
     def status(self) -> int:
         return self.verdict_status() or int(self.numbers()[FINDING] > 0)
@@ -238,12 +253,7 @@ def print_all(told: FindingsReport) -> None:
     for recording in chosen.recordings:
         found = RecordingFindings(recording, chosen, told.looked)
         with contextlib.closing(found):
-            verdicts = judge.verdicts(recording, partial(found.take, judge.program))
-            told.verdicts += verdicts
-            told.seen.append(Seen(recording, verdicts))
-            told.rows += found.rows.values()
-            if chosen.html:
-                told.articles += found.articles()
+            told.add(found, judge.verdicts(recording, partial(found.take, judge.program)))
             if form:
                 form.add(found.values())
             else:
@@ -268,8 +278,8 @@ def junit_of_findings(told: FindingsReport) -> Iterator[bytes]:
     yield suite.written(('tests', 'failures'))
 
 
-def findings_page(told: FindingsReport) -> Iterator[bytes]:
-    """The page of the findings, with the status of the command: green if something was asked."""
+def headline_of_findings(told: FindingsReport) -> Headline:
+    """Returns what was found, with the status of the command: green if something was asked."""
     numbers, allowed = told.numbers(), allowed_of(told.chosen)
     headline = (headline_of(told.seen, allowed, 'No answer is known to be wrong', 'same')
                 if told.looked.exchanges else
@@ -279,9 +289,13 @@ def findings_page(told: FindingsReport) -> Iterator[bytes]:
         what = count(numbers[FINDING], 'message' if CLIENT in are else 'answer')
         headline = headline._replace(look='differ', status=told.status,
                                      words=f'{what} by {told.rules()} cannot be right')
-    headline = headline._replace(counts=[
+    return headline._replace(counts=[
         (numbers[kind], kind if kind == ACCEPTED else f'{kind}s', look)
         for kind, look in ((FINDING, BAD), (ACCEPTED, PARTIAL), (NOTE, PARTIAL))])
+
+
+def findings_page(told: FindingsReport) -> Iterator[bytes]:
+    """The page of the findings."""
     names = dict.fromkeys(row.recording for row in told.rows)
     tables = [ShownTable(name if len(told.seen) > 1 else 'Findings', FINDING_HEADS, [
         row_of_cells(row.cells, FINDING_NUMBERS, FINDING_HEADS,
@@ -291,7 +305,8 @@ def findings_page(told: FindingsReport) -> Iterator[bytes]:
         [*told.no_longer_found(), *told.looked.lines()]))
     each = markup.section('Each finding', told.articles) if told.articles else ()
     last = chain(looked, each, [of_table(table_of(told.seen), 'h2')])
-    return judged_page(told.seen, allowed, tables, headline=headline, last=last)
+    return judged_page(told.seen, allowed_of(told.chosen), tables,
+                       headline=headline_of_findings(told), last=last)
 
 
 # --- The command ---

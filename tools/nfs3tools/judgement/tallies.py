@@ -114,6 +114,11 @@ GROUPINGS: dict[str, Callable[[KeptExchange], str]] = {
     'client': lambda one: host_of(one.part.client) or '-', 'path': lambda one: one.path or '-'}
 
 
+def who_of(one: KeptExchange) -> str:
+    """Returns the user and the client of a call, as `1000@192.0.2.7`."""
+    return '@'.join(filter(None, [GROUPINGS['user'](one), host_of(one.part.client)]))
+
+
 def tallies_of(kept: Kept, recording: str, number: int, window: TimeWindow = ALL,
                group: str = BY_PROCEDURE) -> Tallies:
     """Counts the exchanges in a window of a connection, by its place among those that are kept."""

@@ -96,8 +96,8 @@ def judged_page(seen: Sequence[Seen], allowed: Allowed, tables: Sequence[ShownTa
     notes = [line for verdict in verdicts_in(seen) for line in verdict_notes(verdict)]
     return markup.whole_page(f'{words}: {names[0]}{more}', look, words, chain(
         [FORMS], of_counts(counts, own, headline is None), of_status(counts, status, allowed),
-        [markup.bar('fault', 'row')], several, last, of_faults(seen),
-        chain.from_iterable(recordings),
+        [markup.bar('finding' if headline else 'fault', 'row')], several, last,
+        of_faults(seen), chain.from_iterable(recordings),
         markup.section('Notes', markup.paragraphs(notes)) if notes else ()))
 
 

@@ -29,7 +29,7 @@ ABSENT, REFUSED, FAILED, INTERRUPTED = 1, 2, 3, 130  # ABSENT: no such position
 # How a tool reads a recording from standard input.
 READING = {'from_pcap': '- OUT', 'where': '- POSITION', 'explain': '- POSITION',
            'verdicts': '-', 'procedures': '-', 'calls': '-', 'meaning': '-',
-           'cut': '- POSITION OUT'}
+           'report': '-', 'cut': '- POSITION OUT'}
 OPTION = re.compile(r' \[-[^]]*\]')  # in a usage
 STATUS_TEXT = 'The status is 0'  # begins what is said of it
 WITHOUT_VALUE = re.compile(r'argument (\S+): expected one argument')
