@@ -495,9 +495,18 @@ def pages_of_findings(tools: Written) -> None:
                ['rule', 'section', 'by', 'server', 'found', 'first'])
     tools.want('its words', (cells[-1].text(), page.texts('code', 'filter')),
                (FIRST_FOUND, ['frame.number in {5, 7}']))
+    (article,) = page.all('article')
+    texts = article.texts('pre')
+    tools.want('its messages', [re.findall(r'record (\d+): .* byte (\d+): data = (\w+)', text)
+                                for text in texts], [
+        [('2', '128', '616c706862')], [('2', '128', '616c706862')],
+        [('1', '128', '616c706861')], [('1', '128', '616c706861')]])
+    tools.want('what to type', article.texts('code', 'command'), [
+        "tools/explain a.pcap '1 server 2 byte 128'",
+        "tools/cut a.pcap '1 server 2 byte 128' bug.pcap"])
     _, _, page = tools.page('meaning', 'a.pcap', 'a.pcap')
     tools.want('two recordings', page.texts('h2')[:1] + page.texts('h3')[:2],
-               ['a.pcap', '1 read-data a.pcap', '1 read-data a.pcap'])
+               ['a.pcap', '1 read-data a.pcap', '2 read-data a.pcap'])
 
 
 def rules_in_words(tools: Tools) -> None:

@@ -3,6 +3,7 @@ import csv
 import io
 import math
 import re
+import shlex
 
 from examples.messages import (
     MOUNT, NFS, STALE, array, call, dirop, failed, fattr, fh, fragment, ok, opaque, post_op_attr,
@@ -14,13 +15,14 @@ from .pages import (
     HERE, HOSTILE, SHOWN, VISIBLE, WIDTHS, Node, Written, asked_of_others, broken_links, find,
     in_chromium, light_of, table_of, tree_of)
 from .scripts import (
-    CALLS, EXAMPLES, FIRST, REPLIES, connection_of, exchange, measured, whole, write_faulty)
+    CALLS, EXAMPLES, FIRST, REPLIES, TOP, connection_of, exchange, measured, whole, write_faulty)
 
 GETATTR, LOOKUP = 1, 3
 CONCURRENT = str(EXAMPLES / 'concurrent_a.pcap')
 BAD = tuple(str(EXAMPLES / f'bad_{name}.pcap')
             for name in ('bool', 'client_record', 'server_record', 'status'))
 BOTH = ('verdicts', 'procedures')
+FORMATS = (TOP / 'docs/FORMATS.md').read_text().replace('`tools/', 'tools/')
 MANY, ERRORS_AT_MOST, MOST_MEMORY = 22_000, 10_000, 48 << 20
 COUNTS = ('judged', 'in part', 'left out', 'not checked', 'errors')
 DOT = re.compile(r'(.*); connection (\d+) client record (\d+), frame (\d+), '
@@ -131,6 +133,11 @@ def tables_as_printed(tools: Written) -> None:
     tools.want('names of elements', sorted(names), sorted(set(names)))
 
 
+def position_of(connection: str, position: str) -> str:
+    side, record = position.replace('record ', '').split(' ', 1)
+    return f'{connection}:{record}' if side == 'client' else f'{connection} server {record}'
+
+
 def faults_with_their_fields(tools: Written) -> None:
     """A fault has its frames, and what tools/explain says of it."""
     _, _, page = tools.page('verdicts', *BAD)
@@ -151,6 +158,12 @@ def faults_with_their_fields(tools: Written) -> None:
             tools.want(f'{name}: {place}', [line for line in written[1:] if line not in reasons],
                        lines)
             tools.want(f'{name}: reason', len(reasons), 1 - number)
+        of_reason = re.search(r': (\w+), frame', article.text())
+        row = re.search(rf'^\| `{of_reason and of_reason[1]}` \|[^|]*\|[^|]*\| ([^|]*) \|',
+                        FORMATS, re.M)
+        tools.want(f'{name}: cause', row and f'Likely cause: {row[1]}.' in article.text(), True)
+        tools.want(f'{name}: commands', [shlex.split(line)[1:3] for line in article.texts(
+            'code', 'command')], [[name, position_of(connection, position)]] * 2)
     tools.want('links', ([one.attributes['href'] for one in page.all('table')[0].all('a')],
                          broken_links(page)), (['#f1', '#f2', '#f3', '#f4'], []))
     tools.want('folded', [one.attributes.get('open') for one in page.all('details', 'others')],

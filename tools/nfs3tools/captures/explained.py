@@ -5,7 +5,7 @@ record may have very many of them.
 from __future__ import annotations
 
 import contextlib
-from collections.abc import Callable, Iterator
+from collections.abc import Callable, Container, Iterable, Iterator, Sequence
 
 from ..shared.layouts import Body, BodyReader, PlacedItem, Procedure, procedure_of
 from ..shared.places import Place
@@ -39,6 +39,30 @@ REASONS = {
     'NoCall': 'no call of the connection has this xid, perhaps since its call was not recorded',
     'XidConflict': 'an earlier call of the connection has this xid and another procedure'}
 
+# Their likely causes, as docs/FORMATS.md has them.
+CAUSES = {
+    'BadMagic': 'no capture: a recording of packets goes through tools/from_pcap first',
+    'CaptureCut': 'a copy that was broken off, or a full disk',
+    'BadMark': "a program that writes captures counts a chunk's bytes wrongly",
+    'AfterEnd': 'two captures one after the other',
+    'TooManyConnections': 'a recording of days',
+    'TooManyBytes': 'much data: take single connections',
+    'RecordCut': 'missing bytes, or the end of the recording',
+    'RecordTooLong': 'bytes before are missing; or it is no RPC',
+    'Short': 'a message that its sender built wrongly',
+    'Trailing': 'a sender that adds to a message, or fills it up',
+    'BadBool': 'a sender that takes any number for true; an older draft of a layout',
+    'BadEnum': "a number of the sender's own, as a status of its system",
+    'TooLong': 'a sender with larger handles, names or credentials',
+    'RpcVersion': 'another protocol',
+    'Flavor': 'RPCSEC_GSS (6: Kerberos), AUTH_SHORT (2), AUTH_TLS (7)',
+    'AuthLength': 'a client that builds its credential wrongly',
+    'WrongSide': "the streams changed places; callbacks of NFS version 4.1 on the client's "
+        'connection',
+    'NoCall': 'the recording began after the call, or lacks it',
+    'XidConflict': 'a client that begins its xids anew, as after a restart, or counts them in few '
+        'bits'}
+
 
 def tell_record(found: FoundRecord, place: Place, reason: str | None, tell: Tell) -> None:
     """The item at a byte, with why it is refused, or all items."""
@@ -57,6 +81,25 @@ def tell_record(found: FoundRecord, place: Place, reason: str | None, tell: Tell
     if reason:
         tell(reason_in_words(reason))
     tell_bytes(found.body, begin, end, place.byte, tell)
+
+
+def item_of(items: Sequence[PlacedItem], names: Container[str],
+            others: Iterable[PlacedItem] = ()) -> PlacedItem | None:
+    """Returns the first item with one of some names that is odd, or that another message does not
+    have, or else the first of all, if there is one."""
+    known = {(one.name, one.value) for one in others}
+    some = [one for one in items if one.name in names]
+    odd = [one for one in some if remark_on_item(one)] or [
+        one for one in some if known and (one.name, one.value) not in known] or some
+    return odd[0] if odd else None
+
+
+def items_in(found: FoundRecord, place: Place) -> list[PlacedItem]:
+    is_call = place.side == 'client'
+    call = None if is_call else call_with_xid(found.calls, found.body[:4])
+    message = BodyReader(found.body, None, ITEM_BYTES_AT_MOST)
+    message.read(is_call, tell_heading(place, found.body, call, lambda _: None))
+    return message.items
 
 
 def tell_heading(place: Place, body: Body, call: Call | None, tell: Tell) -> Procedure | None:

@@ -22,7 +22,7 @@ from collections.abc import Iterator, Sequence
 from dataclasses import dataclass, field
 from functools import partial
 from html import escape
-from itertools import chain, islice
+from itertools import chain
 from typing import NamedTuple
 
 from ..comparison.verdict.accepted import refusal
@@ -33,11 +33,11 @@ from ..judgement.verdict import (
     Verdict, counts_after, kept_in, status_of, sums_of, verdict_members)
 from ..meaning.across import findings_in
 from ..meaning.recorded import Recorded
-from ..meaning.rules import CLIENT, NOTE, RULES, SECTIONS, Looked, RuleFinding
+from ..meaning.rules import CLIENT, ITEMS, NOTE, RULES, SECTIONS, Looked, RuleFinding
 from ..pages import markup
 from ..pages.judged import (
-    BAD, PARTIAL, Headline, Seen, ShownTable, headline_of, judged_page, of_table, row_of_cells,
-    table_of)
+    BAD, PARTIAL, Headline, Seen, ShownTable, headline_of, judged_page, next_commands, of_table,
+    row_of_cells, shown_messages, table_of)
 from ..recordings.parts import Part, files_in
 from ..recordings.selection import count
 from ..recordings.taken import Taken
@@ -46,6 +46,7 @@ from ..reporting.messages import add_recordings, allowed_of, command_of, parser_
 from ..reporting.rows import add_forms, form_of
 from ..shared.names import as_called
 from ..shared.outputs import Refused, is_read_from, writing
+from ..shared.places import Place
 from ..shared.printed import escaped, near, printable
 from ..shared.screens import Colour, Screen, Styled, screen_of, table_lines
 from .calls import call_time, tell_verdicts
@@ -59,7 +60,7 @@ ACCEPTED, FINDING = 'accepted', 'finding'
 RuleAndServer = tuple[str, str]  # a rule and a server, either of which may be any
 FINDING_HEADS = ('rule', 'section', 'by', 'server', 'found', 'first')
 FINDING_NUMBERS = range(4, 5)  # columns that are set to the right
-SHOWN_FINDINGS = 200  # of a recording
+SHOWN_FINDINGS = 50  # of a recording, with their messages
 
 
 class AcceptedRules(NamedTuple):
@@ -103,12 +104,14 @@ class FindingRow:
 class RecordingFindings:
     """The findings of a recording, by the rules that are wanted. Calls are in a temporary file."""
 
-    def __init__(self, recording: str, chosen: argparse.Namespace, looked: Looked) -> None:
-        self.name, self.recording, self.chosen = recording, escaped(recording), chosen
-        self.looked, self.looked_before = looked, looked.exchanges
+    def __init__(self, recording: str, told: FindingsReport) -> None:
+        self.name, self.recording, self.told = recording, escaped(recording), told
+        self.chosen, self.looked = told.chosen, told.looked
+        self.looked_before = told.looked.exchanges
         self.kept, self.parts = Kept(), list[Part]()
         self.rows = dict[tuple[str, str, str], FindingRow]()
         self.all = list[tuple[RuleFinding, FindingRow]]()
+        self.articles = list[str]()
 
     def close(self) -> None:
         self.kept.close()
@@ -124,6 +127,12 @@ class RecordingFindings:
                 row.found += 1
                 self.all.append((finding, row))
         self.all.sort(key=lambda one: self.kept.times[one[0].number])
+        if self.chosen.html:
+            shown = [(one, row) for one, row in self.all if row.kind != NOTE]
+            self.articles += [''.join(self.article(taken, number, *one)) for number, one in
+                              enumerate(shown[:SHOWN_FINDINGS], len(self.told.articles) + 1)]
+            self.articles += ['<p>More findings are in the output of <code>--all</code>.</p>'
+                              ] * (len(shown) > SHOWN_FINDINGS)
 
     def row_of(self, finding: RuleFinding) -> FindingRow:
         rule, one = RULES[finding.rule], self.kept.exchange(finding.number)
@@ -176,20 +185,37 @@ class RecordingFindings:
                 time = call_time(self.kept.times[one.number], self.kept.begun)
                 print(f'{time}  {one.rule}  {self.words(one)}')
 
-    def articles(self) -> Iterator[str]:
-        """What a page says of each finding, up to some: its frames, its words, and its rule."""
+    def article(self, taken: Taken, number: int, finding: RuleFinding,
+                row: FindingRow) -> Iterator[str]:
+        """What a page says of a finding: in words, the messages that show it with their bytes, its
+        rule, and what to type next."""
+        one, source = self.kept.exchange(finding.number), finding.source
         name = f' {escape(self.recording)}' if len(self.chosen.recordings) > 1 else ''
-        shown = ((one, row) for one, row in self.all if row.kind != NOTE)
-        for number, (one, row) in enumerate(islice(shown, SHOWN_FINDINGS), 1):
-            frames = [self.frame(one), *([one.source.frame] if one.source else [])]
-            filters = markup.filters(self.parts, sorted(filter(None, frames)))
-            look = BAD if row.kind == FINDING else PARTIAL
-            yield f'<article><h3>{number} {one.rule}{name}</h3>'
-            yield f'<p class={look}>{escape(self.words(one))}{filters}</p>'
-            yield from markup.folded('others', 'the rule', markup.paragraphs(explained(one.rule)))
-            yield '</article>'
-        if len(self.all) > SHOWN_FINDINGS:
-            yield '<p>More findings are in the output of <code>--all</code>.</p>'
+        frames = [self.frame(finding), *([source.frame] if source else [])]
+        filters = markup.filters(self.parts, sorted({*filter(None, frames)}))
+        look = BAD if row.kind == FINDING else PARTIAL
+        yield f'<article id=f{number}><h3><a href=#f{number}>{number}</a> {row.rule}{name}</h3>'
+        yield f'<p class={look}>{escape(self.words(finding))}{filters}</p>'
+        section = RULES[row.rule].section(short(one.procedure))
+        yield (f'<p class=quiet>RFC 1813, {section}; broken by the {row.by}; client {escape(one.part.client or "-")}, '
+               f'server {escape(one.part.server or "-")}</p>')
+        is_call = row.by == CLIENT or not one.answered
+        place = self.place(finding.number, is_call)
+        other = source and self.place(source.number,
+                                      source.frame == self.kept.frames[source.number])
+        place, pieces = shown_messages(taken, ITEMS.get(row.rule, ()), place, other)
+        yield from pieces
+        yield from markup.folded('others', 'the rule and its likely cause',
+                                 markup.paragraphs(explained(row.rule)[:2]))
+        commands = next_commands(self.name, place, one.frame > 0)
+        yield f'{markup.commands(commands)}</article>'
+
+    def place(self, at: int, is_call: bool) -> Place:
+        """Returns where the call of an exchange is, or its first reply."""
+        number, replies = self.kept.parts[self.kept.part_of[at]].number, self.kept.replies_of(at)
+        if is_call or not replies:
+            return Place(number, 'client', self.kept.records[at])
+        return Place(number, 'server', self.kept.reply_records[replies[0]])
 
 
 class FindingsReport:
@@ -206,7 +232,7 @@ class FindingsReport:
         self.seen.append(Seen(found.name, verdicts))
         self.rows += found.rows.values()
         if self.chosen.html:
-            self.articles += found.articles()
+            self.articles += found.articles
 
     @property
     def status(self) -> int:
@@ -251,7 +277,7 @@ def print_all(told: FindingsReport) -> None:
     chosen, judge, screen = told.chosen, judge_of(told.chosen), screen_of(told.chosen.color)
     form = form_of(chosen, FINDINGS_VERSION, 'findings', FINDING_COLUMNS)
     for recording in chosen.recordings:
-        found = RecordingFindings(recording, chosen, told.looked)
+        found = RecordingFindings(recording, told)
         with contextlib.closing(found):
             told.add(found, judge.verdicts(recording, partial(found.take, judge.program)))
             if form:
@@ -304,7 +330,7 @@ def findings_page(told: FindingsReport) -> Iterator[bytes]:
     looked = markup.section('Looked at', markup.paragraphs(
         [*told.no_longer_found(), *told.looked.lines()]))
     each = markup.section('Each finding', told.articles) if told.articles else ()
-    last = chain(looked, each, [of_table(table_of(told.seen), 'h2')])
+    last = chain(each, looked, [of_table(table_of(told.seen), 'h2')])
     return judged_page(told.seen, allowed_of(told.chosen), tables,
                        headline=headline_of_findings(told), last=last)
 

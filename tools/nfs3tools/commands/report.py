@@ -144,7 +144,7 @@ def main(words: list[str]) -> int:
     with writing(files_in(chosen.recordings), (chosen.html, lambda: report_page(told, several))):
         judge = judge_of(chosen)
         for recording in chosen.recordings:
-            found = RecordingFindings(recording, chosen, told.looked)
+            found = RecordingFindings(recording, told)
             with contextlib.closing(found):
                 verdicts = judge.verdicts(recording, partial(found.take, judge.program))
                 told.add(found, verdicts)

@@ -5,13 +5,14 @@ was judged. It is made in pieces, and all that comes from a recording is escaped
 from __future__ import annotations
 
 import contextlib
+import shlex
 from collections.abc import Container, Iterable, Iterator, Sequence
 from html import escape
 from itertools import chain, starmap, zip_longest
 from typing import NamedTuple
 
-from ..captures.explained import tell_record
-from ..captures.located import Within
+from ..captures.explained import CAUSES, item_of, items_in, tell_record
+from ..captures.located import FoundRecord, Within
 from ..exchanges.kept import Kept
 from ..judgement.verdict import (
     COVERED, VERDICT_HEADS, Verdict, counts_after, is_row, status_of, subject_of, verdict_notes,
@@ -20,6 +21,7 @@ from ..recordings.coverage import Allowed, Counts, named_calls
 from ..recordings.parts import Part
 from ..recordings.selection import count, plural
 from ..recordings.taken import Taken
+from ..shared.names import as_called
 from ..shared.places import NoPlace, Place
 from ..shared.printed import escaped, printable
 from . import markup
@@ -34,11 +36,22 @@ FAULTS_IN_RECORDING, FAULTS_OF_EACH = 500, 200  # on a page, and of a recording
 LINES_AT_MOST = 200  # of a message
 
 
-class ExplainedFault(NamedTuple):
-    """A verdict that refuses: what `tools/explain` says of its position, and all fields."""
-    verdict: Verdict
+class ExplainedMessage(NamedTuple):
+    """A message: what `tools/explain` says of a position in it, and all its fields."""
     item: list[str]
     message: list[str]
+
+    def pieces(self) -> Iterator[str]:
+        yield markup.block('pre', self.item)
+        if self.message:
+            yield from markup.folded('others', 'all fields of the message',
+                                     [markup.block('pre', self.message)])
+
+
+class ExplainedFault(NamedTuple):
+    """A verdict that refuses, and the message at fault."""
+    verdict: Verdict
+    message: ExplainedMessage
 
 
 class Seen(NamedTuple):
@@ -215,15 +228,38 @@ def numbered_faults(seen: Sequence[Seen]) -> list[tuple[int, ExplainedFault, See
 
 
 def explained_fault(taken: Taken, verdict: Verdict) -> ExplainedFault:
-    item, message, within = FirstLines(), FirstLines(), Within(taken.spool, None, taken)
-    fault = verdict.fault
+    fault, message = verdict.fault, ExplainedMessage([], [])
     with contextlib.suppress(NoPlace):
         if fault and isinstance(fault.place, Place):
-            found = within.record(fault.place)
-            tell_record(found, fault.place, fault.reason, item.take)
-            if fault.place.byte is not None:
-                tell_record(found, fault.place._replace(byte=None), None, message.take)
-    return ExplainedFault(verdict, item.all(), message.all())
+            found = Within(taken.spool, None, taken).record(fault.place)
+            message = explained_message(found, fault.place, fault.reason)
+    return ExplainedFault(verdict, message)
+
+
+def explained_message(found: FoundRecord, place: Place,
+                      reason: str | None = None) -> ExplainedMessage:
+    item, message = FirstLines(), FirstLines()
+    tell_record(found, place, reason, item.take)
+    if place.byte is not None:
+        tell_record(found, place._replace(byte=None), None, message.take)
+    return ExplainedMessage(item.all(), message.all())
+
+
+def shown_messages(taken: Taken, names: Container[str], place: Place,
+                   other: Place | None) -> tuple[Place, list[str]]:
+    """Returns the position of an item with one of these names, if there is one, and what is said of
+    its message, and of another that shows it."""
+    within = Within(taken.spool, None, taken)
+    found, found_other = within.record(place), other and within.record(other)
+    others = items_in(found_other, other) if found_other and other else []
+    item = item_of(items_in(found, place), names, others)
+    at = place._replace(byte=item and item.begin)
+    pieces = [*explained_message(found, at).pieces()]
+    if found_other and other:
+        same = item and item_of(others, (item.name,))
+        it = explained_message(found_other, other._replace(byte=same and same.begin))
+        pieces += markup.folded('others', 'the message that shows it', it.pieces(), ' open')
+    return at, pieces
 
 
 class FirstLines(list[str]):
@@ -258,11 +294,27 @@ def of_fault(number: int, fault: ExplainedFault, seen: Seen) -> Iterator[str]:
     yield f'<p class=minus>{escape(printable(verdict.message))}{filters}</p>'
     if verdict.client:
         yield f'<p class=quiet>client {escape(verdict.client)}, server {escape(verdict.server)}</p>'
-    yield markup.block('pre', fault.item)
-    if fault.message:
-        fields = markup.block('pre', fault.message)
-        yield from markup.folded('others', 'all fields of the message', [fields])
+    yield from fault.message.pieces()
+    yield from cause_and_commands(verdict)
     yield '</article>'
+
+
+def cause_and_commands(verdict: Verdict) -> Iterator[str]:
+    """What is likely the cause of a fault, and what to type next."""
+    fault = verdict.fault
+    if fault:
+        yield f'<p>Likely cause: {escape(CAUSES.get(fault.reason, "not known"))}.</p>'
+        if isinstance(fault.place, Place):
+            yield markup.commands(next_commands(verdict.recording, fault.place,
+                                                bool(verdict.frames)))
+
+
+def next_commands(recording: str, place: Place, has_frames: bool) -> list[str]:
+    """Returns what shows a position, and what cuts its exchange out."""
+    name, position = shlex.quote(recording), shlex.quote(place.brief)
+    out = 'bug.pcap' if has_frames else 'bug.nfs3cap'
+    return [printable(as_called(line)) for line in (
+        f'tools/explain {name} {position}', f'tools/cut {name} {position} {out}')]
 
 
 def of_recording(seen: Seen, tables: Sequence[ShownTable], has_counts: bool,

@@ -79,6 +79,12 @@ def table(names: Sequence[str], rows: Iterable[str], look: str = '') -> Iterator
     yield '</table>'
 
 
+def commands(several: Iterable[str]) -> str:
+    """Command lines, each with a button that copies it."""
+    return ''.join(f'<p><code class=command>{escape(line)}</code> <button type=button class=copy '
+                   'aria-label="copy the command"></button></p>' for line in several)
+
+
 def filters(parts: Sequence[Part], numbers: Sequence[int]) -> str:
     """Display filters of Wireshark for frames. Scripts put each behind a button that copies it."""
     several = filters_of(parts, numbers) if numbers else ()

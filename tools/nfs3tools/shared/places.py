@@ -30,9 +30,10 @@ class Place(typing.NamedTuple):
 
     @property
     def brief(self) -> str:
-        """A record in a few characters: of a call as tools/calls prints it, `7:3182`."""
-        return (f'{self.connection}:{self.record}' if self.side == 'client'
-                else f'{self.connection} server {self.record}')
+        """The same in a few characters: of a call as tools/calls prints it, `7:3182`."""
+        record = (f'{self.connection}:{self.record}' if self.side == 'client'
+                  else f'{self.connection} server {self.record}')
+        return record if self.byte is None else f'{record} byte {self.byte}'
 
 
 class FilePlace(typing.NamedTuple):
