@@ -197,8 +197,9 @@ class RecordingFindings:
         yield f'<article id=f{number}><h3><a href=#f{number}>{number}</a> {row.rule}{name}</h3>'
         yield f'<p class={look}>{escape(self.words(finding))}{filters}</p>'
         section = RULES[row.rule].section(short(one.procedure))
-        yield (f'<p class=quiet>RFC 1813, {section}; broken by the {row.by}; client {escape(one.part.client or "-")}, '
-               f'server {escape(one.part.server or "-")}</p>')
+        client, server = (escape(end or '-') for end in (one.part.client, one.part.server))
+        yield (f'<p class=quiet>RFC 1813, {section}; broken by the {row.by}; client {client}, '
+               f'server {server}</p>')
         is_call = row.by == CLIENT or not one.answered
         place = self.place(finding.number, is_call)
         other = source and self.place(source.number,

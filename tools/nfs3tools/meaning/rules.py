@@ -109,8 +109,8 @@ RULES = {row[0]: Rule(*row) for row in (
 
 
 # The items that show it, by rules: names of items of a message.
-COUNT, TIMES = ('count',), ('mtime_sec', 'mtime_nsec', 'ctime_sec', 'ctime_nsec')
-ATTRIBUTE_ITEMS = ('size', *TIMES, 'mode', 'uid', 'gid', 'nlink')
+COUNT, TIME_ITEMS = ('count',), ('mtime_sec', 'mtime_nsec', 'ctime_sec', 'ctime_nsec')
+ATTRIBUTE_ITEMS = ('size', *TIME_ITEMS, 'mode', 'uid', 'gid', 'nlink')
 ITEMS: dict[str, tuple[str, ...]] = {
     'read-data': ('data',), 'read-eof': ('eof',), 'write-size': ('size',), 'guard': ('status',),
     **dict.fromkeys(('read-past-end', 'read-count-data', 'read-count-asked', 'write-count-asked',
@@ -123,7 +123,7 @@ ITEMS: dict[str, tuple[str, ...]] = {
     **dict.fromkeys(('same-ctime', 'returns', 'wcc-before', 'set-attributes', 'made-attributes'),
                     ATTRIBUTE_ITEMS),
     **dict.fromkeys(('made-type', 'dir-type'), ('type',)), 'mode-bits': ('mode',),
-    'nsec': ('atime_nsec', 'mtime_nsec', 'ctime_nsec'), 'write-ctime': TIMES[3:],
+    'nsec': ('atime_nsec', 'mtime_nsec', 'ctime_nsec'), 'write-ctime': TIME_ITEMS[3:],
     'entries-size': ('eof',), 'entries-none': ('eof',), 'entry-cookies': ('cookie',),
     'fsinfo': ('rtpref', 'rtmult', 'wtpref', 'wtmult')}
 

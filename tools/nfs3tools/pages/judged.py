@@ -11,7 +11,8 @@ from html import escape
 from itertools import chain, starmap, zip_longest
 from typing import NamedTuple
 
-from ..captures.explained import CAUSES, item_of, items_in, tell_record
+from ..captures.explained import (
+    NO_REASON, REASONS, item_of, items_in, tell_record)
 from ..captures.located import FoundRecord, Within
 from ..exchanges.kept import Kept
 from ..judgement.verdict import (
@@ -303,7 +304,7 @@ def cause_and_commands(verdict: Verdict) -> Iterator[str]:
     """What is likely the cause of a fault, and what to type next."""
     fault = verdict.fault
     if fault:
-        yield f'<p>Likely cause: {escape(CAUSES.get(fault.reason, "not known"))}.</p>'
+        yield f'<p>Likely cause: {escape(REASONS.get(fault.reason, NO_REASON)[1])}.</p>'
         if isinstance(fault.place, Place):
             yield markup.commands(next_commands(verdict.recording, fault.place,
                                                 bool(verdict.frames)))
