@@ -54,7 +54,7 @@ _nfs3_tool() {
       words='procedure user client path'
       ;;
     'procedures --sort' | 'nfs3-procedures --sort')
-      words='procedure calls again replies no-reply call-bytes reply-bytes median p99 most mean sum errors'
+      words='procedure calls again replies no-reply call-bytes reply-bytes median p99 most mean sum errors slower'
       ;;
     'procedures --color' | 'nfs3-procedures --color')
       words='auto always never'

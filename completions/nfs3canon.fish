@@ -102,7 +102,7 @@ for tool in procedures nfs3-procedures
     complete -c $tool -l beside -d 'prints two recordings side by side, with what changed'
     complete -c $tool -l by -x -a 'procedure user client path' -d 'what has a row'
     complete -c $tool -l total -d 'prints no tables of connections'
-    complete -c $tool -l sort -x -a 'procedure calls again replies no-reply call-bytes reply-bytes median p99 most mean sum errors' -d 'has the largest of a column first'
+    complete -c $tool -l sort -x -a 'procedure calls again replies no-reply call-bytes reply-bytes median p99 most mean sum errors slower' -d 'has the largest of a column first'
     complete -c $tool -l json -r -d 'writes the verdicts and the tables as JSON'
     complete -c $tool -l csv -r -d 'writes the tables as comma-separated values'
     complete -c $tool -l html -r -d 'writes a page for a browser, with the tables and latencies'

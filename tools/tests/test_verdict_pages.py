@@ -121,7 +121,9 @@ def tables_as_printed(tools: Written) -> None:
         _, out, page = tools.page('procedures', *words)
         # (numbers have separators there)
         found = [row for table in page.all('table') for row in table_of(table)]
-        printed = [row for row in rows_printed(out) if row[0] == 'procedure' or len(row) > 8]
+        # (latencies are right after the calls)
+        printed = [[*row[:2], *row[7:10], *row[2:7], *row[10:]] for row in rows_printed(out)
+                   if row[0] == 'procedure' or len(row) > 8]
         tools.want(' '.join(words), sorted([re.sub(r'(?<=\d),(?=\d{3})', '', cell) for cell in row]
                                            for row in found), sorted(printed))
         if words[0] == '--sort':
@@ -273,7 +275,7 @@ def names_and_outputs(tools: Written) -> None:
                success(2, ok(fh(b'x'), post_op_attr(), post_op_attr()))]
     tools.write(name, pcap(connection_of(calls, replies)))
     for tool, title in zip(BOTH, ('Every call of NFS and MOUNT version 3 is valid',
-                                  '2 calls, 0 without a reply')):
+                                  '2 calls, 0 without a reply, slowest MOUNT MNT 1 µs')):
         _, _, page = tools.page(tool, name)
         tools.want(tool, (asked_of_others(page), page.texts('title')[0], HOSTILE.replace(
             '"', '\\x22') in dots_of(page)[-1][3][0]), ([], f'{title}: {name}', True))
@@ -286,11 +288,17 @@ def names_and_outputs(tools: Written) -> None:
 
 
 DOTS = """["good", "bad"].map(name => {
-  const box = document.querySelector(`svg.line > use[href="#${name}"]`).getBoundingClientRect();
+  const box = document.querySelector(`svg.line use[href="#${name}"]`).getBoundingClientRect();
   return [getComputedStyle(document.querySelector("#" + name)).fill, box.width, box.height] })"""
-DOTS_ARE_INSIDE = """[...document.querySelectorAll(".line > use")].every(one => {
-  const dot = one.getBoundingClientRect(), box = one.parentElement.getBoundingClientRect();
+DOTS_ARE_INSIDE = """[...document.querySelectorAll(".line use")].every(one => {
+  const dot = one.getBoundingClientRect(), box = one.closest("svg").getBoundingClientRect();
   return dot.left >= box.left - 6 && dot.right <= box.right + 6 && dot.bottom <= box.bottom })"""
+CHOSEN = """(dot => {
+  dot.dispatchEvent(new Event("click", {cancelable: true}));
+  const panel = document.querySelector(dot.getAttribute("href"));
+  return [dot.textContent, dot.dataset.place, [panel.firstChild.textContent,
+    ...[...panel.querySelectorAll(".command")].map(one => one.textContent)]] })(
+  document.querySelector(".line a"))"""
 VERDICTS_ARE_SEEN = """[...document.querySelectorAll(".cards td:last-child")].every(one => {
   const box = one.getBoundingClientRect();
   return box.left >= 0 && box.right <= innerWidth && box.height > 0 })"""
@@ -317,6 +325,9 @@ def pages_in_chromium(tools: Written) -> None:
                 (True, [True] * 2))
             tools.want(f'{is_dark}: sizes', [4 < dot[1] < 16 for dot in (good, bad)], [True] * 2)
         tools.want('inside', browser.value(DOTS_ARE_INSIDE), True)
+        title, place, chosen = browser.value(CHOSEN)
+        tools.want('the call of a dot', chosen[0][:len(title)] == title and [
+            shlex.split(line)[2] for line in chosen[1:]], [place] * 2)
         browser.resize(WIDTHS[0])
         tools.want('in sight', browser.value(VERDICTS_ARE_SEEN), True)
         browser.open(tools.path('page.html'), has_scripts=False)

@@ -36,7 +36,7 @@ from ..meaning.recorded import Recorded
 from ..meaning.rules import CLIENT, ITEMS, NOTE, RULES, SECTIONS, Looked, RuleFinding
 from ..pages import markup
 from ..pages.judged import (
-    BAD, PARTIAL, Headline, Seen, ShownTable, headline_of, judged_page, next_commands, of_table,
+    BAD, PARTIAL, Headline, Seen, ShownTable, headline_of, judged_page, of_table,
     row_of_cells, shown_messages, table_of)
 from ..recordings.parts import Part, files_in
 from ..recordings.selection import count
@@ -208,7 +208,7 @@ class RecordingFindings:
         yield from pieces
         yield from markup.folded('others', 'the rule and its likely cause',
                                  markup.paragraphs(explained(row.rule)[:2]))
-        commands = next_commands(self.name, place, one.frame > 0)
+        commands = markup.next_commands(self.name, place.brief, one.frame > 0)
         yield f'{markup.commands(commands)}</article>'
 
     def place(self, at: int, is_call: bool) -> Place:

@@ -31,7 +31,7 @@ from ..judgement.verdict import (
 from ..judgement.window import add_window, window_of
 from ..pages.judged import (
     Seen, ShownTable, headline_of, judged_page, row_of_cells, said_of, verdicts_in)
-from ..pages.time_line import TimeLine, time_line_of
+from ..pages.time_line import TimeLine, time_line_of, unit_of
 from ..recordings.parts import files_in
 from ..recordings.selection import count, plural
 from ..recordings.taken import Taken
@@ -58,6 +58,9 @@ IN_ALL = 'in all'
 ON_PAGE = Screen(sys.maxsize)  # on which numbers are as on a terminal
 # The columns by which rows are sorted: in the order of the RFC, or with the largest number first
 SORT_COLUMNS = (*NUMBER_WORDS, 'errors')
+SLOWER = 'slower'  # sorts two recordings by how much more time the calls took
+# Where the columns of a page come from: latencies are right after the calls.
+PAGE_ORDER = (0, 1, 7, 8, 9, 2, 3, 4, 5, 6)
 SIZES_FROM = 4  # the first column whose change is printed in per cent
 
 
@@ -80,6 +83,8 @@ def sorted_by(column: str, names: list[str], *several: Tallies) -> list[str]:
     """Returns names by the largest number of a column in several tables; those without are last."""
     if column == BY_PROCEDURE:
         return names
+    if column == SLOWER:
+        return sorted(names, key=lambda name: -time_lost(*(one.get(name) for one in several)))
     at = SORT_COLUMNS.index(column)
     def rank(name: str) -> tuple[bool, int]:
         found = ([*numbers_of(one[name]), sum(one[name].errors.values())][at]
@@ -87,6 +92,12 @@ def sorted_by(column: str, names: list[str], *several: Tallies) -> list[str]:
         numbers = [number for number in found if number is not None]
         return not numbers, -max(numbers, default=0)
     return sorted(names, key=rank)
+
+
+def time_lost(first: Tally | None = None, second: Tally | None = None) -> int:
+    """Returns by how much the median has grown, times the calls of the second recording."""
+    was, now = ((one or Tally()).ranked(QUANTILES[:1])[0] for one in (first, second))
+    return 0 if was is None or now is None or second is None else (now - was) * second.calls
 
 
 class CountedRecording(typing.NamedTuple):
@@ -269,9 +280,34 @@ def procedures_page(found: Sequence[CountedRecording],
                    for one in found]
     seen, allowed = [one.seen for one in found], allowed_of(chosen)
     silent = counts_after(verdicts_in(seen)).unanswered or 0
-    words = (f'{count(sum(verdict.calls or 0 for verdict in verdicts_in(seen)), "call")}, '
-             f'{silent:,} without a reply')
+    words = ', '.join(filter(None, [
+        count(sum(verdict.calls or 0 for verdict in verdicts_in(seen)), 'call'),
+        f'{silent:,} without a reply', slowest_of(in_all_of(found).tallies),
+        *(slower_of(*(one.in_all.tallies for one in found)) if chosen.beside else ())]))
     return judged_page(seen, allowed, whole, of_each, headline_of(seen, allowed, words))
+
+
+def slowest_of(tallies: Tallies) -> str:
+    """Returns which procedure had the longest latency, and how long that was."""
+    name, tally = max(tallies.items(), default=('', Tally()), key=lambda one: (
+        one[1].longest or (-1,))[0])
+    most = tally.longest
+    return f'slowest {short(name)} {duration_text(most.latency)}' if most else ''
+
+
+def slower_of(first: Tallies, second: Tallies) -> Iterator[str]:
+    """What became slower most, if anything did."""
+    both = first.keys() & second.keys()
+    name = max(both, default='', key=lambda one: time_lost(first[one], second[one]))
+    if name and time_lost(first[name], second[name]) > 0:
+        was, now = (one[name].ranked(QUANTILES[:1])[0] or 0 for one in (first, second))
+        yield (f'{short(name)} became slower: median {duration_text(was)} -> {duration_text(now)}')
+
+
+def duration_text(nanoseconds: int) -> str:
+    """Returns a duration in its own unit, as `1.2 s`."""
+    power, unit = unit_of(len(str(max(1, nanoseconds))) - 1)
+    return f'{nanoseconds / 10 ** power:.3g} {unit}'
 
 
 def shown_table(title: str, table: TallyTable, column: str) -> ShownTable:
@@ -281,7 +317,8 @@ def shown_table(title: str, table: TallyTable, column: str) -> ShownTable:
 
 def shown_of(title: str, styled: Sequence[Styled]) -> ShownTable:
     """The same of rows. Errors come last, and are folded."""
-    heads, *rows = (row.cells for row in styled)
+    places = [*PAGE_ORDER, *range(len(PAGE_ORDER), len(styled[0].cells))]
+    heads, *rows = ([row.cells[at] for at in places] for row in styled)
     numbers = [at for at, head in enumerate(heads) if head in NUMBER_HEADS]
     return ShownTable(title, heads, [row_of_cells(cells, numbers, look='folded') for cells in rows])
 
@@ -333,8 +370,10 @@ def command_line_of_procedures(words: list[str]) -> argparse.Namespace:
     parser.add_argument('--by', choices=[BY_PROCEDURE, *GROUPINGS], default=BY_PROCEDURE,
                         help='what has a row: each procedure, or each user, client or path')
     parser.add_argument('--total', action='store_true', help='prints no tables of connections')
-    parser.add_argument('--sort', metavar='COLUMN', choices=[BY_PROCEDURE, *SORT_COLUMNS],
-                        help=f'has the largest of a column first: {", ".join(SORT_COLUMNS)}')
+    parser.add_argument('--sort', metavar='COLUMN',
+                        choices=[BY_PROCEDURE, *SORT_COLUMNS, SLOWER],
+                        help=f'has the largest of a column first: {", ".join(SORT_COLUMNS)}, or '
+                             f'of two recordings what became slower: {SLOWER}')
     parser.add_argument('--json', metavar='FILE', help='writes the verdicts and the tables as JSON')
     parser.add_argument('--csv', metavar='FILE', help='writes the tables as comma-separated values')
     parser.add_argument('--html', metavar='FILE',
@@ -345,7 +384,10 @@ def command_line_of_procedures(words: list[str]) -> argparse.Namespace:
     chosen = parser.parse_args(words)
     if chosen.beside and len(chosen.recordings) != 2:
         parser.error('--beside takes two recordings')
-    chosen.sort = chosen.sort or (BY_PROCEDURE if chosen.by == BY_PROCEDURE else SORT_COLUMNS[0])
+    if chosen.sort == SLOWER and not chosen.beside:
+        parser.error(f'--sort {SLOWER} takes --beside')
+    chosen.sort = chosen.sort or (SLOWER if chosen.beside else BY_PROCEDURE
+                                  if chosen.by == BY_PROCEDURE else SORT_COLUMNS[0])
     return chosen
 
 

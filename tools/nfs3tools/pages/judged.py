@@ -5,7 +5,6 @@ was judged. It is made in pieces, and all that comes from a recording is escaped
 from __future__ import annotations
 
 import contextlib
-import shlex
 from collections.abc import Container, Iterable, Iterator, Sequence
 from html import escape
 from itertools import chain, starmap, zip_longest
@@ -22,7 +21,6 @@ from ..recordings.coverage import Allowed, Counts, named_calls
 from ..recordings.parts import Part
 from ..recordings.selection import count, plural
 from ..recordings.taken import Taken
-from ..shared.names import as_called
 from ..shared.places import NoPlace, Place
 from ..shared.printed import escaped, printable
 from . import markup
@@ -105,8 +103,9 @@ def judged_page(seen: Sequence[Seen], allowed: Allowed, tables: Sequence[ShownTa
     look, words, status, own = headline or Headline(
         *title_of(counts), status_of(verdicts_in(seen), allowed))
     several = (f'<section>{of_table(table, "h2")}</section>' for table in tables)
-    recordings = (of_recording(one, tables_of, len(names) > 1, headline is None)
-                  for one, tables_of in zip(seen, of_each or [()] * len(names)))
+    recordings = (of_recording(number, one, tables_of, len(names) > 1, headline is None)
+                  for number, (one, tables_of) in enumerate(zip(
+                      seen, of_each or [()] * len(names)), 1))
     notes = [line for verdict in verdicts_in(seen) for line in verdict_notes(verdict)]
     return markup.whole_page(f'{words}: {names[0]}{more}', look, words, chain(
         [FORMS], of_counts(counts, own, headline is None), of_status(counts, status, allowed),
@@ -306,19 +305,11 @@ def cause_and_commands(verdict: Verdict) -> Iterator[str]:
     if fault:
         yield f'<p>Likely cause: {escape(REASONS.get(fault.reason, NO_REASON)[1])}.</p>'
         if isinstance(fault.place, Place):
-            yield markup.commands(next_commands(verdict.recording, fault.place,
-                                                bool(verdict.frames)))
+            yield markup.commands(markup.next_commands(verdict.recording, fault.place.brief,
+                                                       bool(verdict.frames)))
 
 
-def next_commands(recording: str, place: Place, has_frames: bool) -> list[str]:
-    """Returns what shows a position, and what cuts its exchange out."""
-    name, position = shlex.quote(recording), shlex.quote(place.brief)
-    out = 'bug.pcap' if has_frames else 'bug.nfs3cap'
-    return [printable(as_called(line)) for line in (
-        f'tools/explain {name} {position}', f'tools/cut {name} {position} {out}')]
-
-
-def of_recording(seen: Seen, tables: Sequence[ShownTable], has_counts: bool,
+def of_recording(number: int, seen: Seen, tables: Sequence[ShownTable], has_counts: bool,
                  is_of_validity: bool) -> Iterator[str]:
     """The time line of a recording, its own counts if that is asked for, and its tables: that of
     all its connections, and those of each folded."""
@@ -326,7 +317,7 @@ def of_recording(seen: Seen, tables: Sequence[ShownTable], has_counts: bool,
     words = f'{count(len(shown) - 1, "table")} of single connections'
     counts = of_counts(counts_after(seen.verdicts), (), is_of_validity)
     pieces = chain(counts if has_counts else (),
-                   of_time_line(seen.line) if seen.line else (), shown[:1],
+                   of_time_line(seen.line, seen.recording, number) if seen.line else (), shown[:1],
                    markup.folded('others', words, shown[1:]) if shown[1:] else ())
     is_empty = seen.line is None and not shown
     return iter(()) if is_empty else markup.section(escape(escaped(seen.recording)), pieces)
