@@ -240,8 +240,8 @@ def kinds_of_differences(place: Compared) -> None:
     table = page.all('table')[1]
     place.want('counts', (page.texts('h2')[1], table_of(table)[1:]), (
         '4 differences in 5 messages', [
-            ['GETATTR', 'obj.mode', '2 paths', '3'],
-            ['MKDIR', 'only in the second run', '/m/new1 0', '1'], ['READLINK', 'path', '', '1']]))
+            ['GETATTR', 'obj.mode 3', '2 paths'],
+            ['MKDIR', 'only in the second run 1', '/m/new1 0'], ['READLINK', 'path 1', '']]))
     articles = {'#' + one.attributes['id']: one.text() for one in page.all('article')}
     links = [one.attributes['href'] for one in table.all('a')]
     place.want('links', (links, broken_links(page)), (['#f1', '#f3', '#f4'], []))

@@ -211,11 +211,24 @@ def brief_difference(difference: Difference) -> str:
 
 def of_silent(compared: Compared, most: int | None) -> Iterator[str]:
     """The calls that are left out, by procedures and paths, up to `most`, or each by itself."""
+    groups = silent_groups(compared) if most is not None else [[one] for one in compared.silent]
+    return first_of(groups, most, silent_line, ' left out')
+
+
+def silent_groups(compared: Compared) -> list[list[Finding]]:
     groups = defaultdict[object, list[Finding]](list)
-    for number, call in enumerate(compared.silent):
-        key = call.kind, call.first is None, call.message.procedure, call.path
-        groups[number if most is None else key].append(call)
-    return first_of([*groups.values()], most, silent_line, ' left out')
+    for call in compared.silent:
+        groups[call.kind, call.first is None, call.message.procedure, call.path].append(call)
+    return [*groups.values()]
+
+
+def why_left_out(call: Finding) -> str:
+    return WHY_LEFT_OUT.get(call.kind, f'only in the {call.run} run')
+
+
+def cause_of_silence(call: Finding) -> str:
+    """Returns the change that explains a call, or how often it was sent."""
+    return f', {"by " * (call.kind == "explained")}{call.remark}' if call.remark else ''
 
 
 def first_of(several: Sequence[Any], most: int | None, line_of_one: Callable[[Any], str],
@@ -230,9 +243,8 @@ def silent_line(some: Sequence[Finding]) -> str:
     call, path = some[0], f' {some[0].path}' if some[0].path else ''
     whom = '' if call.first and call.second else f' of the {call.run} run'
     kind = f', {WHY_LEFT_OUT[call.kind]}' if call.kind in WHY_LEFT_OUT else ''
-    why = f', {"by " * (call.kind == "explained")}{call.remark}' if call.remark else ''
     return (f'left out{whom}: {len(some):,} {short(call.message.procedure)}{path}{kind}'
-            f'{", first" * (len(some) > 1)}: {places_text(call)}{why}')
+            f'{", first" * (len(some) > 1)}: {places_text(call)}{cause_of_silence(call)}')
 
 
 def of_notes(compared: Compared, most: int | None) -> Iterator[str]:
