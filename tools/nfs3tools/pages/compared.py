@@ -308,9 +308,9 @@ class ComparedContent:
         more = len(groups) - OTHERS_AT_MOST
         rows = (f'<tr><td>{why}</td><td>{short(some[0].message.procedure)}</td><td>'
                 f'{code(some[0].path) if some[0].path else ""}</td><td class=count>{len(some):,}'
-                f'</td><td>{telling.places_text(some[0])}{escape(telling.cause_of_silence(some[0]))}'
-                '</td></tr>' for some in groups[:OTHERS_AT_MOST]
-                for why in [telling.why_left_out(some[0])])
+                f'</td><td>{telling.places_text(some[0])}{escape(cause)}</td></tr>'
+                for some in groups[:OTHERS_AT_MOST] for why, cause in [
+                    (telling.why_left_out(some[0]), telling.cause_of_silence(some[0]))])
         if groups:
             yield from markup.section('Left out', chain(['<div class=cards>'], markup.table(
                 ('reason', 'procedure', 'path', 'how often', 'first'), rows), ['</div>'],
