@@ -313,6 +313,7 @@ def pages_in_chromium(tools: Written) -> None:
     """Pages load and fit, and errors have another form and colour."""
     with tools.browser() as browser:
         for words in (('verdicts', CONCURRENT), ('procedures', '--beside', FIRST, CONCURRENT),
+                      ('meaning', FIRST, *BAD), ('report', FIRST, *BAD),
                       ('verdicts', FIRST, *BAD)):
             tools.page(*words)
             tools.loads(browser, ' '.join(words))
