@@ -314,8 +314,9 @@ def headline_of_findings(told: FindingsReport) -> Headline:
     if numbers[FINDING]:
         are = {row.by for row in told.rows if row.kind == FINDING}
         what = count(numbers[FINDING], 'message' if CLIENT in are else 'answer')
+        refused = f'{headline.words}, and ' if headline.look == 'differ' else ''
         headline = headline._replace(look='differ', status=told.status,
-                                     words=f'{what} by {told.rules()} cannot be right')
+                                     words=f'{refused}{what} by {told.rules()} cannot be right')
     return headline._replace(counts=[
         (numbers[kind], kind if kind == ACCEPTED else f'{kind}s', look)
         for kind, look in ((FINDING, BAD), (ACCEPTED, PARTIAL), (NOTE, PARTIAL))])
