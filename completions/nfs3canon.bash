@@ -73,14 +73,14 @@ _nfs3_tool() {
 _nfs3_options() {
   case $1 in
     calls | nfs3-calls) echo --help --version --errors --no-reply --slow --procedure --path --user --client --who --sort --json --csv --utc --from --to --color --program --port --allow-losses --allow-not-checked ;;
-    nfs3-compare) echo --help --version --mask --order --extra --ignore --accept --accept-new --all --brief --html --json --junit --color --program --port --allow-losses --allow-not-checked ;;
+    nfs3-compare) echo --help --version --mask --order --extra --ignore --known --known-new --all --brief --html --json --junit --color --program --port --allow-losses --allow-not-checked ;;
     nfs3-cut) echo --help --version --origins --program --port ;;
     nfs3-explain) echo --help --version --port ;;
     from_pcap | nfs3-from-pcap) echo --help --version --port ;;
-    nfs3-meaning) echo --help --version --all --rule --notes --explain --accept --junit --html --json --csv --color --program --port --allow-losses --allow-not-checked ;;
+    nfs3-meaning) echo --help --version --all --rule --notes --explain --known --known-new --junit --html --json --csv --color --program --port --allow-losses --allow-not-checked ;;
     procedures | nfs3-procedures) echo --help --version --beside --by --total --sort --json --csv --html --from --to --width --color --program --port --allow-losses --allow-not-checked ;;
     nfs3-report) echo --help --version --html --color --program --port --allow-losses --allow-not-checked ;;
-    verdicts | nfs3-verdicts) echo --help --version --quiet --junit --json --html -j --growing --color --program --port --allow-losses --allow-not-checked ;;
+    verdicts | nfs3-verdicts) echo --help --version --quiet --junit --json --html -j --growing --known --known-new --color --program --port --allow-losses --allow-not-checked ;;
     nfs3-where) echo --help --version --port ;;
   esac
 }

@@ -1,12 +1,12 @@
 """Finds what calls and replies say against each other: valid bytes that are wrong answers.
 
     tools/meaning [--all] [--rule NAME,..] [--notes] [--json | --csv] [--junit FILE] [--html FILE]
-                  [--accept FILE] RECORDING|CAPTURE ..
+                  [--known FILE] [--known-new FILE] RECORDING|CAPTURE ..
     tools/meaning --explain RULE
 
 The manual page, tools/man/meaning.1, has the rest.
 
-The status is 0 if that of tools/verdicts is and nothing was found but notes and what is accepted, 1
+The status is 0 if that of tools/verdicts is and nothing was found but notes and what is known, 1
 if not, 2 and 3 as there. --json and --csv print all findings for programs, --junit writes a case
 for each rule and server, and --html a page for a browser.
 """
@@ -23,12 +23,10 @@ from dataclasses import dataclass, field
 from functools import partial
 from html import escape
 from itertools import chain
-from typing import NamedTuple
 
-from ..comparison.verdict.accepted import refusal
 from ..exchanges.in_words import short
 from ..exchanges.kept import Kept, call_text
-from ..exchanges.whose import ANY
+from ..judgement.known import ANY_OFTEN, KnownLine, add_known, file_of_known, known_line
 from ..judgement.verdict import (
     Verdict, counts_after, kept_in, status_of, sums_of, verdict_members)
 from ..meaning.across import findings_in
@@ -52,26 +50,20 @@ from ..shared.screens import Colour, Screen, Styled, screen_of, table_lines
 from .calls import call_time, tell_verdicts
 from .verdicts import judge_of
 
-FINDINGS_VERSION, ACCEPTED_RULES_VERSION = 2, 1
+FINDINGS_VERSION = 2
 FINDING_COLUMNS = ('recording', 'rule', 'section', 'by', 'client', 'server', 'connection', 'record',
                    'reply_record', 'frame', 'time_ns', 'procedure', 'path', 'text',
                    'against_record', 'against_frame', 'accepted')
-ACCEPTED, FINDING = 'accepted', 'finding'
-RuleAndServer = tuple[str, str]  # a rule and a server, either of which may be any
+KNOWN, FINDING = 'known', 'finding'
 FINDING_HEADS = ('rule', 'section', 'by', 'server', 'found', 'first')
 FINDING_NUMBERS = range(4, 5)  # columns that are set to the right
 SHOWN_FINDINGS = 50  # of a recording, with their messages
 
 
-class AcceptedRules(NamedTuple):
-    path: str = ''
-    entries: Sequence[RuleAndServer] = ()
-
-
 @dataclass
 class FindingRow:
     """How often exchanges with a server break a rule in a recording, by which sections, whether
-    that is accepted, and the first of them in words."""
+    that is known, and the first of them in words."""
     recording: str
     rule: str
     by: str
@@ -88,17 +80,14 @@ class FindingRow:
     @property
     def cells(self) -> tuple[str, ...]:
         """The cells below FINDING_HEADS."""
-        accepted = ' accepted' if self.kind == ACCEPTED else ''
-        return (self.rule, self.section, self.by, self.server or '-', f'{self.found:,}{accepted}',
+        known = ' known' if self.kind == KNOWN else ''
+        return (self.rule, self.section, self.by, self.server or '-', f'{self.found:,}{known}',
                 self.first)
 
     @property
     def kind(self) -> str:
         """What these are: a finding alone changes the status."""
-        return NOTE if self.by == NOTE else ACCEPTED if self.accepted else FINDING
-
-    def fits(self, entry: RuleAndServer) -> bool:
-        return entry[0] in (ANY, self.rule) and entry[1] in (ANY, self.server)
+        return NOTE if self.by == NOTE else KNOWN if self.accepted else FINDING
 
 
 class RecordingFindings:
@@ -109,7 +98,7 @@ class RecordingFindings:
         self.chosen, self.looked = told.chosen, told.looked
         self.looked_before = told.looked.exchanges
         self.kept, self.parts = Kept(), list[Part]()
-        self.rows = dict[tuple[str, str, str], FindingRow]()
+        self.rows = dict[tuple[str, str, str, bool], FindingRow]()
         self.all = list[tuple[RuleFinding, FindingRow]]()
         self.articles = list[str]()
 
@@ -136,10 +125,13 @@ class RecordingFindings:
 
     def row_of(self, finding: RuleFinding) -> FindingRow:
         rule, one = RULES[finding.rule], self.kept.exchange(finding.number)
-        key = rule.name, finding.by or rule.by, one.part.server
+        by = finding.by or rule.by
+        line = printable(f'{rule.name} {one.part.server or "-"}: {call_text(one)}')
+        if by != NOTE:
+            self.told.lines_of_known.append(line)
+        key = rule.name, by, one.part.server, by != NOTE and self.chosen.known.take(line)
         if key not in self.rows:
-            row = self.rows[key] = FindingRow(self.recording, *key, False, self.words(finding))
-            row.accepted = any(map(row.fits, self.chosen.accept.entries))
+            self.rows[key] = FindingRow(self.recording, *key, self.words(finding))
         self.rows[key].sections[rule.section(short(one.procedure))] = None
         return self.rows[key]
 
@@ -176,7 +168,7 @@ class RecordingFindings:
         if len(self.chosen.recordings) > 1:
             print(f'{self.recording}:')
         if rows and not self.chosen.all:
-            # (red is what is wrong, yellow a note, and what is accepted)
+            # (red is what is wrong, yellow a note, and what is known)
             cells = (Styled(row.cells, Colour.RED if row.kind == FINDING else Colour.YELLOW)
                      for row in rows)
             print(*table_lines([Styled(FINDING_HEADS), *cells], screen), sep='\n')
@@ -225,6 +217,7 @@ class FindingsReport:
     def __init__(self, chosen: argparse.Namespace) -> None:
         self.chosen, self.looked = chosen, Looked()
         self.rows, self.articles = list[FindingRow](), list[str]()
+        self.lines_of_known = list[str]()  # of all findings
         self.seen, self.verdicts = list[Seen](), list[Verdict]()
 
     def add(self, found: RecordingFindings, verdicts: list[Verdict]) -> None:
@@ -243,7 +236,7 @@ class FindingsReport:
         return status_of(self.verdicts, allowed_of(self.chosen))
 
     def numbers(self) -> Counter[str]:
-        """Returns how many findings, notes and accepted findings there are."""
+        """Returns how many findings, notes and known findings there are."""
         numbers = Counter[str]()
         for row in self.rows:
             numbers[row.kind] += row.found
@@ -259,14 +252,13 @@ class FindingsReport:
                 **verdict_members(self.verdicts)}
 
     def no_longer_found(self) -> list[str]:
-        return [printable(f'no longer found: {" ".join(entry)}')
-                for entry in self.chosen.accept.entries
-                if not any(row.fits(entry) for row in self.rows)]
+        return [printable(f'no longer found: {line}')
+                for line in self.chosen.known.no_longer_found()]
 
     def lines(self) -> list[str]:
         """What is no longer found, the numbers of findings, what was looked at, and the counts."""
         numbers = self.numbers()
-        taken = f', {numbers[ACCEPTED]:,} accepted' if self.chosen.accept.path else ''
+        taken = f', {numbers[KNOWN]:,} known' if self.chosen.known.path else ''
         return [*self.no_longer_found(),
                 f'{count(numbers[FINDING], FINDING)} by {self.rules()}, '
                 f'{count(numbers[NOTE], NOTE)}{taken}; looked at:',
@@ -318,8 +310,8 @@ def headline_of_findings(told: FindingsReport) -> Headline:
         headline = headline._replace(look='differ', status=told.status,
                                      words=f'{refused}{what} by {told.rules()} cannot be right')
     return headline._replace(counts=[
-        (numbers[kind], kind if kind == ACCEPTED else f'{kind}s', look)
-        for kind, look in ((FINDING, BAD), (ACCEPTED, PARTIAL), (NOTE, PARTIAL))])
+        (numbers[kind], kind if kind == KNOWN else f'{kind}s', look)
+        for kind, look in ((FINDING, BAD), (KNOWN, PARTIAL), (NOTE, PARTIAL))])
 
 
 def findings_page(told: FindingsReport) -> Iterator[bytes]:
@@ -352,19 +344,13 @@ def rule_name(name: str) -> str:
     return name
 
 
-def accepted_rules(path: str) -> AcceptedRules:
-    """Reads a file of accepted findings. Raises `ArgumentTypeError` if it is none."""
-    try:
-        with open(path, 'rb') as file:
-            whole = json.loads(file.read())
-        entries = [(entry['rule'], entry['server']) for entry in whole['accepted']]
-        several = [{'rule': rule, 'server': server} for rule, server in entries]
-        assert whole == {'version': ACCEPTED_RULES_VERSION, 'accepted': several}
-        assert all(rule in (ANY, *RULES) and isinstance(server, str) for rule, server in entries)
-        return AcceptedRules(path, entries)
-    except (ValueError, KeyError, TypeError, AssertionError, RecursionError):
-        raise refusal(path, f'it needs an object with "version": {ACCEPTED_RULES_VERSION} and a '
-                            'list "accepted" of objects with a rule and a server') from None
+def older_rules(content: bytes) -> list[KnownLine]:
+    """Reads a file of `--accept` of before 0.2.0: rules and servers, either of which may be any."""
+    whole = json.loads(content)
+    entries = [(entry['rule'], entry['server']) for entry in whole['accepted']]
+    assert whole['version'] == 1 and all(rule in ('*', *RULES) for rule, _ in entries)
+    return [known_line(f'{rule} {server}: *')._replace(text=f'{rule} {server}', often=ANY_OFTEN)
+            for rule, server in entries]
 
 
 def explained(name: str) -> list[str]:
@@ -386,9 +372,7 @@ def command_line_of_meaning(words: list[str]) -> argparse.Namespace:
     parser.add_argument('--notes', action='store_true', help='prints notes as well')
     parser.add_argument('--explain', metavar='RULE', type=rule_name,
                         help='says what a rule is, and what may be the cause')
-    parser.add_argument('--accept', metavar='FILE', type=accepted_rules,
-                        default=AcceptedRules(),
-                        help='takes the findings that a file accepts')
+    add_known(parser, older_rules)
     parser.add_argument('--junit', metavar='FILE', help='writes JUnit XML')
     parser.add_argument('--html', metavar='FILE', help='writes a page for a browser')
     add_forms(parser)
@@ -404,12 +388,13 @@ def main(words: list[str]) -> int:
     if chosen.explain:
         print(*explained(chosen.explain), sep='\n')
         return 0
-    told, accepted = FindingsReport(chosen), chosen.accept.path
-    inputs = [*files_in(chosen.recordings), *([accepted] if accepted else [])]
-    if accepted and is_read_from(accepted, os.fstat(1)):
-        raise Refused(f'{escaped(accepted)} is an input, and is not written')
+    told, known = FindingsReport(chosen), chosen.known.path
+    inputs = [*files_in(chosen.recordings), *([known] if known else [])]
+    if known and is_read_from(known, os.fstat(1)):
+        raise Refused(f'{escaped(known)} is an input, and is not written')
     with writing(inputs, (chosen.junit, lambda: junit_of_findings(told)),
-                 (chosen.html, lambda: findings_page(told))):
+                 (chosen.html, lambda: findings_page(told)),
+                 (chosen.known_new, lambda: file_of_known(told.lines_of_known))):
         print_all(told)
     return told.status
 

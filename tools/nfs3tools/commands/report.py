@@ -21,6 +21,7 @@ from itertools import chain
 from typing import NamedTuple
 
 from ..exchanges.kept import UNTIMED, call_text
+from ..judgement.known import Known
 from ..judgement.tallies import milliseconds, who_of
 from ..judgement.verdict import Verdict, not_ok, status_of, sums_of, tell_notes
 from ..meaning.rules import NOTE, RULES
@@ -35,7 +36,7 @@ from ..shared.printed import escaped, printable
 from ..shared.screens import Colour, Screen, screen_of
 from .calls import answer_of
 from .meaning import (
-    FINDING, AcceptedRules, FindingsReport, RecordingFindings, headline_of_findings)
+    FINDING, FindingsReport, RecordingFindings, headline_of_findings)
 from .procedures import most_first
 from .verdicts import judge_of
 
@@ -131,7 +132,7 @@ def report_page(told: FindingsReport,
 
 def command_line_of_report(words: list[str]) -> argparse.Namespace:
     parser = parser_of(__doc__, 'report')
-    parser.set_defaults(rule=frozenset(RULES), accept=AcceptedRules(), explain=None)
+    parser.set_defaults(rule=frozenset(RULES), known=Known(), explain=None)
     parser.add_argument('--html', metavar='FILE', help='writes a page for a browser')
     add_recordings(parser)
     return parser.parse_args(words)

@@ -117,6 +117,9 @@ def judged_page(seen: Sequence[Seen], allowed: Allowed, tables: Sequence[ShownTa
 def title_of(counts: Counts) -> tuple[str, str]:
     """Returns how the heading looks, and what it says: that all is valid only if all was judged."""
     lacking = counts.in_part + counts.left_out + counts.not_checked
+    if counts.known and counts.known == counts.refused + counts.errors + (
+            lacking - counts.without_calls):
+        return 'part', f'Nothing is wrong but {count(counts.known, "known finding")}'
     if counts.refused:
         connections, are = count(counts.judged, 'connection'), plural(counts.refused, 'is', 'are')
         return 'differ', f'{counts.refused:,} of {connections} {are} refused'
@@ -148,6 +151,8 @@ def of_counts(counts: Counts, own: Sequence[tuple[int, str, str]] = (),
     if counts.unanswered:
         calls = plural(counts.unanswered, 'call', 'calls')
         shown.append((counts.unanswered, f'{calls} without a reply', PARTIAL))
+    if counts.known is not None:
+        shown.append((counts.known, 'known', PARTIAL))
     yield '<ul class=counts>'
     yield from (f'<li{class_of(one) if number else ""}><b>{number:,}</b> {words}</li>'
                 for number, words, one in shown)
@@ -195,13 +200,17 @@ def table_of(seen: Sequence[Seen]) -> ShownTable:
     """The table of `tools/verdicts`, whose faults lead to what is said of them. What is refused or
     could not be read comes first, and what is ok is folded."""
     verdicts = [*filter(is_row, verdicts_in(seen))]
-    links = {id(fault.verdict): f'#f{number}' for number, fault, _ in numbered_faults(seen)}
+    links = {(fault.verdict.recording, fault.verdict.connection): f'#f{number}'
+             for number, fault, _ in numbered_faults(seen)}
 
     def rows(some: Iterable[Verdict]) -> list[str]:
         # (a verdict is green only if calls were checked)
         return [row_of_cells(verdict_row(verdict, said_of(verdict)), range(4, 6), VERDICT_HEADS,
+                             PARTIAL if verdict.is_known else
                              '' if verdict.state == 'ok' and is_raw(verdict)
-                             else LOOKS[verdict.state], links.get(id(verdict), ''))
+                             else LOOKS[verdict.state],
+                             links.get((verdict.recording, verdict.connection), '')
+                             if verdict.state == 'refused' else '')
                 for verdict in some]
     wrong = sorted((verdict for verdict in verdicts if verdict.state != 'ok'),
                    key=lambda verdict: LOOKS[verdict.state] != BAD)
@@ -217,7 +226,7 @@ def is_raw(verdict: Verdict) -> bool:
 def said_of(verdict: Verdict) -> str:
     """Returns the words of a verdict. Nothing in part, or not checked, is called ok."""
     if verdict.state != 'ok':
-        return verdict.told
+        return verdict.told + ', known' * bool(verdict.is_known)
     raw = f'{named_calls(verdict.raw)} raw' if verdict.raw else ''
     return '; '.join(filter(None, ['' if is_raw(verdict) else 'ok', raw])) or 'no calls'
 

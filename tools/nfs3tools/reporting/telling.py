@@ -10,7 +10,7 @@ from typing import Any, NamedTuple, Union
 from ..comparison.exchanges.explained import RUNS
 from ..comparison.values import long_values
 from ..comparison.values.classes import Mask
-from ..comparison.verdict.accepted import Split, entry_text
+from ..comparison.verdict.accepted import Split
 from ..comparison.verdict.cover import Cover, cause_of
 from ..comparison.verdict.decision import WHY_LEFT_OUT, Report
 from ..comparison.verdict.differences import Difference
@@ -26,7 +26,7 @@ OF_CONNECTIONS = ('order', 'connection')  # kinds of findings
 LONGEST_VALUE, LONGEST_NAME = 128, 1024  # characters, as the listing spells them
 LONGEST_LIST = 4  # frames
 FIELDS_AT_MOST = 12
-REPORT_VERSION = 1  # of the form of JSON
+REPORT_VERSION = 2  # of the form of JSON
 CASES_AT_MOST = 1_000  # of findings
 FIELDS_IN_CASE_NAME = 4
 KIND_WORDS = {'moved': 'reordered', 'sent again': 'sent again',
@@ -285,15 +285,15 @@ def of_compared(compared: Compared, most: int | None,
 
 def each_accepted(accepted: Split | None) -> list[str]:
     """A line for each finding that was accepted."""
-    return [f'accepted: {brief_of([one])}'
+    return [f'known: {brief_of([one])}'
             for one in (accepted.findings if accepted else ())]
 
 
 def of_accepted(accepted: Split | None) -> list[str]:
     """How many findings were accepted, and which entries fit none any more. Nothing if there is no
     file of them."""
-    return [] if accepted is None else [f'{len(accepted.findings):,} accepted', *(
-        f'no longer found: {entry_text(entry)}' for entry in accepted.no_longer_found)]
+    return [] if accepted is None else [f'{len(accepted.findings):,} known', *(
+        printable(f'no longer found: {line}') for line in accepted.no_longer_found)]
 
 
 def fields_text(fields: Iterable[tuple[tuple[str, str], int]]) -> str:
@@ -423,7 +423,7 @@ def properties_of(covers: Sequence[Cover], accepted: Split | None) -> Iterator[t
         yield from ((f'{run} run: {name}', number) for name, number in counts.numbers().items())
         yield from ((f'{run} run: raw: {name}', number) for name, number in counts.raw.items())
     if accepted is not None:
-        yield 'accepted', len(accepted.findings)
+        yield 'known', len(accepted.findings)
         yield 'no longer found', len(accepted.no_longer_found)
 
 
