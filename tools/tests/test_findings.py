@@ -443,7 +443,7 @@ def as_json(place: Findings) -> None:
     fields = [{'procedure': f'NFSPROC3_{procedure}', 'field': field, 'count': 1}
               for procedure, field in (('LOOKUP', 'status'), ('WRITE', 'data'))]
     wanted: dict[str, Any] = {
-        'version': 1, 'accepted': None, 'verdict': 'differ', 'same_under': None,
+        'version': 2, 'accepted': None, 'verdict': 'differ', 'same_under': None,
         'position': 'connection 1 server record 2', 'mask': {'times': 'zero', 'ids': 'number'},
         'runs': [{'name': 'a', 'calls': 4, 'only': 1, **whole},
                  {'name': 'b', 'calls': 3, 'only': 0, **whole}],
