@@ -50,10 +50,16 @@ _nfs3_tool() {
     'nfs3-meaning --color')
       words='auto always never'
       ;;
+    'procedures --by' | 'nfs3-procedures --by')
+      words='procedure user client path'
+      ;;
     'procedures --sort' | 'nfs3-procedures --sort')
-      words='procedure calls again replies no-reply call-bytes reply-bytes median p99 most mean sum errors'
+      words='procedure calls again replies no-reply call-bytes reply-bytes median p99 most mean sum errors slower'
       ;;
     'procedures --color' | 'nfs3-procedures --color')
+      words='auto always never'
+      ;;
+    'nfs3-report --color')
       words='auto always never'
       ;;
     'verdicts --color' | 'nfs3-verdicts --color')
@@ -66,15 +72,16 @@ _nfs3_tool() {
 
 _nfs3_options() {
   case $1 in
-    calls | nfs3-calls) echo --help --version --errors --no-reply --slow --procedure --path --user --client --sort --json --csv --utc --from --to --color --program --port --allow-losses --allow-not-checked ;;
-    nfs3-compare) echo --help --version --mask --order --extra --ignore --accept --accept-new --all --brief --html --json --junit --color --program --port --allow-losses --allow-not-checked ;;
+    calls | nfs3-calls) echo --help --version --errors --no-reply --slow --procedure --path --user --client --who --sort --json --csv --utc --from --to --color --program --port --allow-losses --allow-not-checked ;;
+    nfs3-compare) echo --help --version --mask --order --extra --ignore --known --known-new --all --brief --html --json --junit --color --program --port --allow-losses --allow-not-checked ;;
     nfs3-cut) echo --help --version --origins --program --port ;;
     nfs3-explain) echo --help --version --port ;;
     from_pcap | nfs3-from-pcap) echo --help --version --port ;;
-    nfs3-meaning) echo --help --version --all --rule --notes --explain --accept --junit --html --json --csv --color --program --port --allow-losses --allow-not-checked ;;
-    procedures | nfs3-procedures) echo --help --version --beside --total --sort --json --csv --html --from --to --width --color --program --port --allow-losses --allow-not-checked ;;
-    verdicts | nfs3-verdicts) echo --help --version --quiet --junit --json --html -j --growing --color --program --port --allow-losses --allow-not-checked ;;
+    nfs3-meaning) echo --help --version --all --rule --notes --explain --known --known-new --junit --html --json --csv --color --program --port --allow-losses --allow-not-checked ;;
+    procedures | nfs3-procedures) echo --help --version --beside --by --total --sort --json --csv --html --from --to --width --color --program --port --allow-losses --allow-not-checked ;;
+    nfs3-report) echo --help --version --html --color --program --port --allow-losses --allow-not-checked ;;
+    verdicts | nfs3-verdicts) echo --help --version --quiet --junit --json --html -j --growing --known --known-new --color --program --port --allow-losses --allow-not-checked ;;
     nfs3-where) echo --help --version --port ;;
   esac
 }
-complete -o default -F _nfs3_tool calls nfs3-calls nfs3-compare nfs3-cut nfs3-explain from_pcap nfs3-from-pcap nfs3-meaning procedures nfs3-procedures verdicts nfs3-verdicts nfs3-where
+complete -o default -F _nfs3_tool calls nfs3-calls nfs3-compare nfs3-cut nfs3-explain from_pcap nfs3-from-pcap nfs3-meaning procedures nfs3-procedures nfs3-report verdicts nfs3-verdicts nfs3-where

@@ -235,7 +235,7 @@ def pages_of_the_tools(tools: Tools) -> None:
     """Each tool for recordings has a page of the manual with all its options, and prints its
     help."""
     for name in ('from_pcap', 'where', 'verdicts', 'calls', 'procedures', 'meaning', 'compare',
-                 'explain', 'cut'):
+                 'explain', 'cut', 'report'):
         page = (TOP / 'tools/man' / (name + '.1')).read_text().replace('\\-', '-')
         status, out, error = tools.tool(name, '--help')
         tools.want('help of ' + name, (status, error, 'The status is 0' in out), (0, '', True))

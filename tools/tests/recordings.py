@@ -55,12 +55,14 @@ def pcapng(frames: Iterable[bytes], order: str = '<') -> bytes:
         packets)
 
 
-def part_of(frame: bytes, begin: int, end: int) -> bytes:
-    """A frame of Ethernet, IP and TCP with a part of its payload, and right checksums."""
+def part_of(frame: bytes, begin: int, end: int, further: int = 0) -> bytes:
+    """A frame of Ethernet, IP and TCP with a part of its payload, and right checksums. It may
+    acknowledge further bytes."""
     at, payload = (14 + (20 if frame[14] >> 4 == 4 else 40)), frame[-len(frame):]
     content = frame[at:at + 20] + payload[at + 20:][begin:end]
     sequence = (int.from_bytes(content[4:8], 'big') + begin) % (1 << 32)
-    content = content[:4] + sequence.to_bytes(4, 'big') + content[8:16] + bytes(2) + content[18:]
+    numbers = struct.pack('>II', sequence, int.from_bytes(content[8:12], 'big') + further)
+    content = content[:4] + numbers + content[12:16] + bytes(2) + content[18:]
     size = len(content).to_bytes(4, 'big')
     if at == 34:
         head = frame[14:16] + (20 + len(content)).to_bytes(2, 'big') + frame[18:24] + bytes(

@@ -254,15 +254,22 @@ def what_is_chosen(tools: Tools) -> None:
                 (0, asked(1, GETATTR, fh(ROOT))), (1, success(1, ok(DIRECTORY))),
                 (0, asked(2, NULL, b'', AUTH_NONE)), (1, success(2)), (0, call(3, NFSACL, 3, 0)),
                 (1, success(3))])]))
+    there = {'--procedure GETACL': 'procedures: GETATTR, LOOKUP, MOUNT MNT, NFSACL NULL, NULL, '
+             'RENAME', '--client 192.0.2.1': 'clients: 192.0.2.7, [2001:db8::7]',
+             '--user 4711': 'users: 0, 1000', '--path c': 'paths: /x, /x/a'}
     for words, chosen in CHOSEN.items():
         wanted = chosen.split()
         status, lines, error = calls(tools, *words.split(), 'a.pcap')
         number = '7 exchanges' if len(wanted) == 7 else f'{len(wanted)} of 7 exchanges'
         tools.want(words, (status, [line[3] for line in lines[1:-2]], lines[-2:], error),
-                   (0, wanted, [[number], [sum_line(3, raw='1 NFSACL NULL')]], ''))
+                   (0, wanted, [[number], [sum_line(3, raw='1 NFSACL NULL')]],
+                    f'a.pcap: {there[words]}\n' if words in there else ''))
         if words in ('', '--errors', '--sort latency'):
             tools.want('JSON of ' + words, [f'{one["connection"]}:{one["record"]}' for one in
                                             objects(tools, *words.split(), 'a.pcap')], wanted)
+    lines = calls(tools, '--who', '--path', 'a', 'a.pcap')[1]
+    tools.want('who', [line[4:6] for line in lines[:2]],
+               [['who', 'call'], ['0@192.0.2.7', 'LOOKUP']])
 
 
 def words_that_are_refused(tools: Tools) -> None:

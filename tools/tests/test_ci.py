@@ -101,7 +101,7 @@ def the_page(tools: Tools, traffic: str, differences: int) -> None:
         kept = set(re.findall(r'[\w.]+\.(?:pcap|xml|html)', text))
         tools.want('what is kept', kept, {'compare.html', 'compare.xml', 'run.pcap',
                                           'verdicts.html', 'verdicts.xml'})
-    again = 'nfs3-compare --order any --accept accepted.json reference.nfs3cap.xz run.pcap'
+    again = 'nfs3-compare --order any --known known.txt reference.nfs3cap.xz run.pcap'
     tools.want('accepted', [run(tools, script, variables) for script in (accept, again)],
                [status, 0])
 

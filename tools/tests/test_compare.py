@@ -205,10 +205,10 @@ def entries_of_one_name(place: Comparisons) -> None:
         listed = [messages.entry(fileid, name, 0) for fileid, name in entries]
         return ([call(1, NFS, 3, 16, fh(b'folder') + hyper(0) + bytes(8) + word(512))],
                 [success(1, ok(messages.entries(None, bytes(8), listed, is_end=True)))])
-    heading = 'NFSPROC3_READDIR reply: connection 1 server record 1 | connection 1 server record 1'
+    heading = 'READDIR reply: connection 1 server record 1 | connection 1 server record 1'
     def wants(what: str, name: str, *lines: str) -> None:
         place.wants(what, 1, [heading, *lines,
-                              f'fields that differ, and how often: {name} of NFSPROC3_READDIR 1',
+                              f'fields that differ, and how often: {name} of READDIR 1',
                               f'1 of 1 call matched; {name} in 1 reply'], '--mask', 'none')
     place.put_both(run((1, b'a'), (2, b'b')), run((1, b'a'), (2, b'b'), (2, b'b')))
     wants('once more', 'entry.name', '  + entry.name="b"')
@@ -251,9 +251,9 @@ def one_bit_of_many_calls(place: Comparisons) -> None:
                                               'b')
     where = 'connection 1 server record 20002'
     place.want('finding', (status, lines[3:]), (1, [
-        f'NFSPROC3_GETATTR reply ?/name1: {where} | {where}', '  - obj.mode=0644 (420)',
+        f'GETATTR reply ?/name1: {where} | {where}', '  - obj.mode=0644 (420)',
         '  + obj.mode=0645 (421)',
-        'fields that differ, and how often: obj.mode of NFSPROC3_GETATTR 1',
+        'fields that differ, and how often: obj.mode of GETATTR 1',
         '30,000 of 30,000 calls matched; obj.mode in 1 reply']))
     place.want(f'{seconds} seconds', seconds < 8, True)
     place.want(f'{memory} bytes', memory < 250e6, True)
@@ -299,13 +299,13 @@ def folders_far_down(place: Comparisons) -> None:
     place.put_both(chain(0o755), chain(0o700))
     status, out, _, memory = measured(place, 'compare', '--program', place.program, '--all', 'a',
                                       'b')
-    headings = [line for line in out if line.startswith('NFSPROC3')]
+    headings = [line for line in out if line.startswith('LOOKUP')]
     place.want('findings', (status, len(headings)), (1, 2_000))
     place.want(f'{memory} bytes', memory < 120e6, True)
     name, last = '0000' + 'd' * 240, '1999' + 'd' * 240
-    place.want('the first', headings[0], f'NFSPROC3_LOOKUP reply ?/{name}: connection 1 server '
+    place.want('the first', headings[0], f'LOOKUP reply ?/{name}: connection 1 server '
                'record 1 | connection 1 server record 1')
-    path = headings[-1].removeprefix('NFSPROC3_LOOKUP reply ').partition(':')[0]
+    path = headings[-1].removeprefix('LOOKUP reply ').partition(':')[0]
     place.want('the last', (path.startswith(f'?/{name}/ .. /'), path.endswith(f'/{last}'),
                             len(path) <= 1_024), (True, True, True))
 
@@ -352,7 +352,7 @@ def same_in_part(place: Comparisons) -> None:
                    ['; '.join(wanted)])
 
 
-# --- --accept and --accept-new ---
+# --- --known and --known-new ---
 
 FOLDER, SETATTR, WRITE, CREATE = b'folder', 2, 7, 8
 NLINK = {'procedure': 'NFSPROC3_GETATTR', 'path': '?/f1', 'field': 'obj.nlink', 'first': '1',
@@ -381,7 +381,7 @@ def compared(place: Comparisons, *words: str) -> tuple[int, str, list[str]]:
     """The status, the verdict, and the lines about what was accepted."""
     status, out, error = place.compare(*words, 'a', 'b')
     place.want('standard error', error, '')
-    return status, out[1].partition(' at ')[0], [line for line in out if line.endswith(' accepted')
+    return status, out[1].partition(' at ')[0], [line for line in out if line.endswith(' known')
                                                  or line.startswith('no longer found')]
 
 
@@ -396,40 +396,46 @@ def a_field_is_accepted_by_procedure_path_and_values(place: Comparisons) -> None
                for name in ('first', 'second', 'path')]
     for entry in (*({**NLINK, **changes} for changes in fitting), *without):
         accepts(place, entry)
-        place.want(f'fits {entry}', compared(place, '--accept', 'known'), (
-            0, 'same but for 1 accepted: 6 calls in 1 connection', ['1 accepted']))
+        place.want(f'fits {entry}', compared(place, '--known', 'known'), (
+            0, 'same but for 1 known: 6 calls in 1 connection', ['1 known']))
     others: list[dict[str, Any]] = [
         {'path': '?/f0'}, {'path': None}, {'path': '?/F1'}, {'first': '2'}, {'second': '3'},
         {'second': None}, {'field': 'obj.mode'}, {'is_call': True},
         {'procedure': 'NFSPROC3_LOOKUP'}]
     for changes in others:
         accepts(place, {**NLINK, **changes})
-        status, verdict, lines = compared(place, '--accept', 'known')
+        status, verdict, lines = compared(place, '--known', 'known')
         place.want(f'fits not {changes}', (status, verdict, lines[0], len(lines)),
-                   (1, 'differ', '0 accepted', 2))
+                   (1, 'differ', '0 known', 2))
 
 
 def entries_that_fit_nothing_are_named(place: Comparisons) -> None:
     """What was accepted and does not differ any more is printed, and changes no status."""
     place.put_both(run(1, 1), run(1, 1))
     accepts(place, NLINK, ONLY)
-    gone = ['0 accepted', 'no longer found: NFSPROC3_GETATTR ?/f1 obj.nlink first=1 second=2',
-            'no longer found: NFSPROC3_SETATTR ?/f0 only in the second run set.mode=416']
-    place.want('same', compared(place, '--accept', 'known'),
+    gone = ['0 known', *(f'no longer found: {json.dumps(one)}' for one in (NLINK, ONLY))]
+    place.want('same', compared(place, '--known', 'known'),
                (0, 'same: 4 calls in 1 connection', gone))
+    place.write('known', '# by hand\nGETATTR * reply: obj.nlink=* ×*\n\n'.encode())
+    place.want('by hand', compared(place, '--known', 'known')[2], [
+        '0 known', 'no longer found: GETATTR * reply: obj.nlink=* ×*'])
+    place.put('b', run(2, 3))
+    place.want('any', compared(place, '--known', 'known')[::2], (0, ['2 known']))
+    place.write('known', b'GETATTR * reply: obj.nlink=*')
+    place.want('once', compared(place, '--known', 'known')[::2], (1, ['1 known']))
 
 
 def a_call_of_one_run_alone_is_accepted_by_its_side(place: Comparisons) -> None:
     """What it asks, its status and how often it comes count, too."""
     place.put_both(run(1, 1), run(1, 1, more=2))
     accepts(place, {**ONLY, 'times': 2})
-    place.want('second', compared(place, '--accept', 'known'),
-               (0, 'same but for 2 accepted: 4 calls in 1 connection', ['2 accepted']))
+    place.want('second', compared(place, '--known', 'known'),
+               (0, 'same but for 2 known: 4 calls in 1 connection', ['2 known']))
     for entry in (ONLY, {**ONLY, 'asks': ['set.mode=511'], 'times': 2},
                   {**ONLY, 'status': '5', 'times': 2}, {**ONLY, 'only': 'first'},
                   {'procedure': '*', 'field': 'set.mode'}):
         accepts(place, entry)
-        place.want(f'{entry}', compared(place, '--accept', 'known')[:2], (1, 'differ'))
+        place.want(f'{entry}', compared(place, '--known', 'known')[:2], (1, 'differ'))
 
 
 def a_call_of_one_run_alone_is_accepted_with_its_answer(place: Comparisons) -> None:
@@ -446,24 +452,24 @@ def a_call_of_one_run_alone_is_accepted_with_its_answer(place: Comparisons) -> N
     first = answered(4, b'handle')
     place.put('a', tuple(some[:2] for some in first))
     place.put('b', first)
-    place.want('written', compared(place, '--accept-new', 'new')[0], 1)
-    place.want('the same', compared(place, '--accept', 'new')[0], 0)
+    place.want('written', compared(place, '--known-new', 'new')[0], 1)
+    place.want('the same', compared(place, '--known', 'new')[0], 0)
     for what, other in (('count', answered(1, b'handle')), ('handle', answered(4, b'f1')),
                         ('mode', answered(4, b'handle', 0o777))):
         place.put('b', other)
-        place.want(what, compared(place, '--accept', 'new')[:2], (1, 'differ'))
+        place.want(what, compared(place, '--known', 'new')[:2], (1, 'differ'))
 
 
 def other_orders_stay_what_they_are(place: Comparisons) -> None:
     """An accepted field changes nothing of what an order means."""
     place.put_both(run(1, 1, 1), run(1, 2, 1, names=(2, 1, 0)))
-    turned = 'same in another order but for 1 accepted: 6 calls; 2 reordered; 2 replies reordered'
+    turned = 'same in another order but for 1 known: 6 calls; 2 reordered; 2 replies reordered'
     accepts(place, NLINK)
     for words, status, verdict in (([], 1, turned), (['--order', 'any'], 0, turned),
                                    (['--order', 'strict'], 1, 'differ')):
-        place.want(f'{words}', compared(place, *words, '--accept', 'known')[:2], (status, verdict))
+        place.want(f'{words}', compared(place, *words, '--known', 'known')[:2], (status, verdict))
     accepts(place, NLINK, {'procedure': '*', 'kind': 'moved'})
-    place.want('late replies', compared(place, '--order', 'strict', '--accept', 'known')[:2],
+    place.want('late replies', compared(place, '--order', 'strict', '--known', 'known')[:2],
                (1, 'differ'))
 
 
@@ -480,7 +486,7 @@ def nothing_else_becomes_green(place: Comparisons) -> None:
             ('an empty one, strict', [run(1, 2), ([], [])], ['--order', 'strict']),
             ('no replies', [(run(1, 2)[0], [])], [])):
         place.put('b', *second)
-        place.want(what, compared(place, *words, '--accept', 'known')[0], 1)
+        place.want(what, compared(place, *words, '--known', 'known')[0], 1)
 
 
 def lost_and_refused_connections_stay(place: Comparisons) -> None:
@@ -495,31 +501,32 @@ def lost_and_refused_connections_stay(place: Comparisons) -> None:
                                       ('refused', None, 1, 2)):
         place.write('a', recorded(1, None, 0))
         place.write('b', recorded(2, lost, fault))
-        place.want(what, place.compare('--accept', 'known', '--order', 'any', 'a', 'b')[0], wanted)
+        place.want(what, place.compare('--known', 'known', '--order', 'any', 'a', 'b')[0], wanted)
 
 
 def a_new_file_accepts_what_was_found(place: Comparisons) -> None:
-    """--accept-new has an entry for each finding, and no wildcard of a name."""
+    """--known-new has an entry for each finding, and no wildcard of a name."""
     place.put_both(run(1, 1, 1), run(1, 2, 1, more=1))
-    place.want('status', compared(place, '--accept-new', 'new')[0], 1)
-    found = place.json('new')
-    place.want('entries', found, {'version': 2, 'accepted': [
-        {**NLINK, 'path': '[?]/f1', 'is_call': False}, {**ONLY, 'path': '[?]/f0'}]})
-    place.want('green', compared(place, '--accept', 'new')[0::2], (0, ['2 accepted']))
-    place.want('replaced', (compared(place, '--accept', 'new', '--accept-new', 'new')[0],
-                            place.json('new')), (0, found))
+    place.want('status', compared(place, '--known-new', 'new')[0], 1)
+    found = place.read('new')
+    place.want('lines', found.decode().splitlines(), [
+        'GETATTR ?/f1 reply: obj.nlink=1 -> 2',
+        'SETATTR ?/f0: only in the second run; set.mode=416; status 0'])
+    place.want('green', compared(place, '--known', 'new')[0::2], (0, ['2 known']))
+    place.want('replaced', (compared(place, '--known', 'new', '--known-new', 'new')[0],
+                            place.read('new')), (0, found))
 
 
 def what_counts_in_no_order_is_not_written(place: Comparisons) -> None:
     """Ids that differ in another order are no entry."""
     place.put_both(run(1, 1, 1), run(1, 1, 1, names=(2, 1, 0)))
-    place.want('turned', (compared(place, '--accept-new', 'new')[0],
-                          place.json('new')['accepted']), (1, []))
+    place.want('turned', (compared(place, '--known-new', 'new')[0],
+                          place.read('new')), (1, b''))
     place.put('b', run(1, 2, 1, names=(2, 1, 0)))
     accepts(place, NLINK)
-    place.want('with a field', compared(place, '--order', 'any', '--accept', 'known',
-                                        '--accept-new', 'new')[0], 0)
-    place.want('entries', [one['field'] for one in place.json('new')['accepted']], ['obj.nlink'])
+    place.want('with a field', compared(place, '--order', 'any', '--known', 'known',
+                                        '--known-new', 'new')[0], 0)
+    place.want('lines', place.read('new'), b'GETATTR ?/f1 reply: obj.nlink=1 -> 2\n')
 
 
 def files_are_written_and_read_with_care(place: Comparisons) -> None:
@@ -527,9 +534,9 @@ def files_are_written_and_read_with_care(place: Comparisons) -> None:
     place.put_both(run(1), run(2))
     place.write('c', pcap([]))
     accepts(place, NLINK)
-    for words in (('--accept-new', 'a'), ('--accept-new', 'c'),
-                  ('--accept', 'known', '--json', 'known'),
-                  ('--accept-new', 'x', '--html', 'x')):
+    for words in (('--known-new', 'a'), ('--known-new', 'c'),
+                  ('--known', 'known', '--json', 'known'),
+                  ('--known-new', 'x', '--html', 'x')):
         before = {name: place.read(name) for name in ('a', 'b', 'c', 'known')}
         place.want(' '.join(words), place.compare(*words, 'a', 'b')[0], 2)
         place.want('kept', {name: place.read(name) for name in before}, before)
@@ -548,9 +555,9 @@ def files_are_written_and_read_with_care(place: Comparisons) -> None:
         content = entries if isinstance(entries, bytes) else json.dumps(
             entries if isinstance(entries, dict) else {'version': 2, 'accepted': entries}).encode()
         place.write('bad', content)
-        status, out, error = place.compare('--accept', 'bad', 'a', 'b')
-        place.want(what, (status, out, 'no accepted findings in bad: ' in error), (2, [], True))
-    place.want('missing', place.compare('--accept', 'missing', 'a', 'b')[::2],
+        status, out, error = place.compare('--known', 'bad', 'a', 'b')
+        place.want(what, (status, out, 'no known findings in bad: ' in error), (2, [], True))
+    place.want('missing', place.compare('--known', 'missing', 'a', 'b')[::2],
                (3, 'compare: missing: No such file or directory\n'))
 
 
@@ -558,14 +565,14 @@ def all_forms_say_the_same(place: Comparisons) -> None:
     """All forms of output have the same counts and the same status."""
     place.put('a', run(1, 1, 1))
     for nlinks, known, accepted, gone, verdict in (
-            ((1, 2, 1), [NLINK], 1, 0, 'same but for 1 accepted: 6 calls in 1 connection'),
+            ((1, 2, 1), [NLINK], 1, 0, 'same but for 1 known: 6 calls in 1 connection'),
             ((1, 2, 3), [NLINK, ONLY], 1, 1, 'differ at connection 1 server record 6'),
             ((1, 1, 1), [NLINK], 0, 1, 'same: 6 calls in 1 connection')):
         place.put('b', run(*nlinks))
         accepts(place, *known)
-        status, out, _ = place.compare('--accept', 'known', '--brief', '--json', 'x.json',
+        status, out, _ = place.compare('--known', 'known', '--brief', '--json', 'x.json',
                                        '--junit', 'x.xml', '--html', 'x.html', 'a', 'b')
-        place.want('text', (out[1], f'{accepted} accepted' in out,
+        place.want('text', (out[1], f'{accepted} known' in out,
                             sum(line.startswith('no longer found: ') for line in out)),
                    (verdict, True, gone))
         found = place.json('x.json')
@@ -575,12 +582,12 @@ def all_forms_say_the_same(place: Comparisons) -> None:
         place.want('verdict', found['verdict'] == 'same', status == 0)
         suite = place.xml('x.xml')[0]
         counts = {one.get('name'): one.get('value') for one in suite.iter('property')}
-        place.want('JUnit', (counts['accepted'], counts['no longer found'],
+        place.want('JUnit', (counts['known'], counts['no longer found'],
                              suite.get('failures') == '0'), (str(accepted), str(gone), status == 0))
         page = place.read('x.html').decode()
-        place.want('page', (f'<p class=accepted>{accepted} accepted</p>' in page,
+        place.want('page', (f'<p class=accepted>{accepted} known</p>' in page,
                             page.count('<p class=accepted>no longer found: ')), (True, gone))
-        place.want('folded', page.count('accepted: NFSPROC3_GETATTR reply ?/f1'), accepted)
+        place.want('folded', page.count('known: GETATTR reply ?/f1'), accepted)
     place.compare('--json', 'x.json', 'a', 'b')
     place.want('without a file', place.json('x.json')['accepted'], None)
 
@@ -589,9 +596,9 @@ def many_entries_cost_little(place: Comparisons) -> None:
     """3,000 entries without wildcards, for 3,000 findings: each is found."""
     place.put_both(run(*[1] * 3_000), run(*[2] * 3_000))
     accepts(place, *({**NLINK, 'path': f'*/f{number}'} for number in range(0, 3_000, 1_000)))
-    place.want('three', compared(place, '--accept', 'known', '--accept-new', 'new')[2],
-               ['3 accepted'])
-    place.want('all', compared(place, '--accept', 'new')[2], ['3,000 accepted'])
+    place.want('three', compared(place, '--known', 'known', '--known-new', 'new')[2],
+               ['3 known'])
+    place.want('all', compared(place, '--known', 'new')[2], ['3,000 known'])
 
 
 def replies_are_accepted_by_their_statuses(place: Comparisons) -> None:
@@ -604,12 +611,11 @@ def replies_are_accepted_by_their_statuses(place: Comparisons) -> None:
             success(last, ok(fattr(REG, 2, mode=own)) if not status else word(status))
             for own, status in zip(modes, statuses))]
     place.put_both(answered(0), answered(0, 0))
-    place.want('written', compared(place, '--accept-new', 'new')[0], 1)
-    place.want('entry', place.json('new')['accepted'][0], {
-        'procedure': 'NFSPROC3_GETATTR', 'path': '[?]/f1', 'kind': 'replies', 'first': '0',
-        'second': '0, 0', 'says': ATTRIBUTES})
-    place.want('accepted', compared(place, '--accept', 'new')[0], 0)
+    place.want('written', compared(place, '--known-new', 'new')[0], 1)
+    place.want('line', place.read('new').decode(),
+               f'GETATTR ?/f1: replies 0 -> 0, 0; {" ".join(ATTRIBUTES)}\n')
+    place.want('accepted', compared(place, '--known', 'new')[0], 0)
     place.put('b', answered(0, 0, mode=0o777))
-    place.want('another mode', compared(place, '--accept', 'new')[:2], (1, 'differ'))
+    place.want('another mode', compared(place, '--known', 'new')[:2], (1, 'differ'))
     place.put('b', answered(0, 5))
-    place.want('another', compared(place, '--accept', 'new')[:2], (1, 'differ'))
+    place.want('another', compared(place, '--known', 'new')[:2], (1, 'differ'))

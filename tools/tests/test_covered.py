@@ -332,7 +332,12 @@ def ports_that_are_chosen(tools: Tools) -> None:
         try:
             tools.want(f'no ports: {ports}', port_numbers(ports), 'refused')
         except argparse.ArgumentTypeError as refused:
-            tools.want(f'no ports: {ports}', str(refused), f'no ports: {ports}')
+            tools.want(f'no ports: {ports}', str(refused),
+                       f'no ports: {ports} (as in 2049,20048)')
+    tools.write('a.pcap', pcap(frames))
+    lines = tools.tool('verdicts', '-q', '--port', '5,6', 'a.pcap')[1].splitlines()
+    tools.want('none', lines[0].rpartition('  ')[2],
+               'none of 3 connections has port 5, 6; servers have 900, 2049, 20048')
 
 
 def outer(content: bytes, protocol: int = 17) -> bytes:
@@ -562,10 +567,10 @@ def positions_beside_refused_connections(place: Covers) -> None:
                                for frame in connection_of(*both, port=port)))
     for words in ([], ['--order', 'strict'], ['--order', 'any']):
         status, out, _ = place.compare(*words, 'a', 'b')
-        found = [line for line in out if line.startswith('NFSPROC3')]
+        found = [line for line in out if line.startswith('GETATTR reply')]
         where = 'connection 3 server record 3 (frame 19)'
         place.want(f'{words}', (status, found),
-                   (2, [f'NFSPROC3_GETATTR reply ?/x: {where} | {where}']))
+                   (2, [f'GETATTR reply ?/x: {where} | {where}']))
     place.want('where they differ', place.compare('--order', 'strict', 'a', 'b')[1][1],
                'differ at connection 3 server record 3')
 

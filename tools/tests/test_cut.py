@@ -15,16 +15,12 @@ from examples.messages import (
 from examples.packets import ACK, Talk, ethernet, pcap, recording
 from tests.shared.running import ended
 
-from ..nfs3tools.commands import cut
-from ..nfs3tools.recordings.extract import frames_of
-from ..nfs3tools.shared.places import Place
 from .comparisons import conversation_of
 from .recordings import cooked, enhanced, fragments, fragments_6, interface, part_of, section
 from .scripts import (
-    ALL, CALLS, FAULTS, FIRST, REPLIES, TOP, Tools, in_fragments, packed, stream, sums, taken_of,
-    whole)
+    ALL, CALLS, FAULTS, FIRST, REPLIES, TOP, Tools, in_fragments, packed, stream, sums, whole)
 
-EXAMPLE = "(as in 'connection 1 server record 7 byte 24')"
+EXAMPLE = "(as in '7:3182', 'frame 12' or '7 server 19 byte 24')"
 # In `whole` the calls are in the frames 4 to 8, each with a fifth of the bytes: 344 of records of
 # 44. The replies are in the frames 9 to 13: 219 bytes of records of 28. So frame 5 has the end of
 # record 8, the records 9 to 15, and the beginning of record 16.
@@ -87,11 +83,12 @@ def frames_without_a_record(tools: Tools) -> None:
     tools.write('a.pcap', pcap(frames))
     shutil.copy(TOP / 'examples/null.nfs3cap', tools.path('b'))
     none = 'carries no bytes of a record, or only bytes that another frame had brought before'
+    after = 'is after all frames with bytes of a record; the last of them is frame 6'
     for name, *out in (('where',), ('explain',), ('cut', 'out'), ('cut', 'out.pcap')):
         for number in (0, 1, 5, 7, 10 ** 17):
             tools.want(f'{name} frame {number}',
                        tool(tools, name, 'a.pcap', f'frame {number}', *out),
-                       (1, [], f'{name}: frame {number} {none}\n'))
+                       (1, [], f'{name}: frame {number} {none if number < 7 else after}\n'))
         if out != ['out.pcap']:
             tools.want(name + ' of a capture', tool(tools, name, 'b', 'frame 1', *out),
                        (2, [], f'{name}: b is a capture, which has no frames\n'))
@@ -102,6 +99,7 @@ def words_of_a_position(tools: Tools) -> None:
     """An unfinished or a superfluous word is refused, and an example is given."""
     tools.write('a.pcap', pcap(whole()))
     for text in ('connection 1 client record 2', ' 1 client 2 ', '1:2', '1:2 frame 4',
+                 '1:2 byte 3', '1 client 2 byte 3',
                  '1 client 2 xid=2 NFSPROC3_NULL mtype=0',
                  'connection 1 client record 2 byte 3: BadEnum',
                  'first: connection 1 client record 2', 'frame 5',
@@ -110,16 +108,17 @@ def words_of_a_position(tools: Tools) -> None:
                  'nfs3canon: a word before\nconnection 1 client record 2: Short\n'):
         for name, *out in (('where',), ('explain',), ('cut', f'out{len(tools.names())}')):
             tools.want(f'{name} {text!r}', tool(tools, name, 'a.pcap', text, *out)[0], 0)
-    for text in ('1 client 2 byte 3', '1 client 2 byte', '1 client', '1:',
+    for text in ('1 client 2 byte', '1 client', '1:', '1:2 byte',
                  'connection 1 client record 2 byte', 'connection 1 client record',
                  '1 client 2: x y', 'connection 1 client record 2 byte 3 4',
                  'x connection 1 client record 2', 'third: connection 1 client record 2',
                  'frame', 'frame 5 6', 'frame five', 'file', 'file 12 13',
                  'connection 1 client record 2 BadEnum',
-                 'connection 1 client record 2: BadEnum, frame 5', ''):
+                 'connection 1 client record 2: BadEnum, frame 5', '', '5'):
+        told = {'': f'give a position {EXAMPLE}', '5': "no position: 5 (is 'frame 5' meant?)"}
         for name, *out in (('where',), ('explain',), ('cut', 'out')):
-            tools.want(repr(text), tool(tools, name, 'a.pcap', text, *out),
-                       (2, [], f'{name}: no position: {text} {EXAMPLE}\n'))
+            tools.want(repr(text), tool(tools, name, 'a.pcap', text, *out), (
+                2, [], f'{name}: {told.get(text, f"no position: {text} {EXAMPLE}")}\n'))
 
 
 def places_that_are_not_there(tools: Tools) -> None:
@@ -145,8 +144,9 @@ def places_that_are_not_there(tools: Tools) -> None:
 
 # --- As a recording ---
 
-def parts_of(frames: Sequence[bytes], parts: dict[int, tuple[int, int]]) -> list[bytes]:
-    """The frames of a recording, of which some have a part of their payload alone."""
+def parts_of(frames: Sequence[bytes], parts: dict[int, tuple[int, ...]]) -> list[bytes]:
+    """The frames of a recording, of which some have a part of their payload alone, and those of SYN
+    are as many bytes further."""
     return [part_of(frame, *parts[number]) if number in parts else frame
             for number, frame in enumerate(frames, 1)]
 
@@ -156,20 +156,19 @@ def frames_of_the_records(tools: Tools) -> None:
     frames = [*whole(port=699), *whole()]
     # The second connection begins in frame 16. Record 9 of its calls is in frame 20, and record 9
     # of its replies in frame 25. They begin 8 and 5 bytes after their frames. The replies
-    # acknowledge all 1,716 bytes of the calls, of which 44 are there. Of the replies 224 bytes come
-    # before.
-    parts = parts_of(frames, {20: (8, 52), 25: (5, 33)})
+    # acknowledge all 1,716 bytes of the calls, of which 1,320 come later. SYN is right before.
+    parts = parts_of(frames, {20: (8, 52), 25: (5, 33), 16: (352, 352), 17: (224, 224, 352)})
     for unit, order in itertools.product((1_000, 1), '<>'):
         tools.write('a.pcap', pcap(frames, magic=0xa1b2c3d4 if unit == 1_000 else 0xa1b23c4d,
                                    order=order))
         name = f'{unit}{order}.pcap'
         tools.want('lines', cut_out(tools, 'a.pcap', 'connection 2 client record 9', name), (0, [
-            'connection 1 client record 1: connection 2 client record 9, frame 20',
-            'connection 1 server record 1: connection 2 server record 9, frame 25',
-            'connection 1: ok in part: 1 call, 1,896 bytes missing', sums(in_part=1)], ''))
+            '1:1 was 2:9 (frame 20)', '1 server 1 was 2 server 9 (frame 25)',
+            'connection 1: ok in part: 1 call, 1,320 bytes missing', sums(in_part=1)], ''))
         tools.want('OUT', tools.read(name) == extract(parts, [16, 17, 20, 25], unit=unit), True)
     # (the records 8 to 16, from byte 308 to 704 of the calls, and from 196 to 448 of the replies)
-    parts = parts_of(frames, {19: (308, 344), 21: (0, 16), 24: (196, 219), 26: (0, 10)})
+    parts = parts_of(frames, {19: (308, 344), 21: (0, 16), 24: (196, 219), 26: (0, 10),
+                              16: (308, 308), 17: (196, 196, 308)})
     tools.want('standard input', (
         tools.tool('cut', '-', 'frame 20', 'out.pcap', stdin=pcap(frames))[0],
         tools.read('out.pcap') == extract(parts, [16, 17, 19, 20, 21, 24, 25, 26])), (0, True))
@@ -177,8 +176,7 @@ def frames_of_the_records(tools: Tools) -> None:
     short = [*one.opened(), one.sent(0, fragment(CALLS[0])), one.sent(1, fragment(REPLIES[0]))]
     tools.write('b.pcap', pcap(short))
     tools.want('all that is there', cut_out(tools, 'b.pcap', 'frame 5', 'b2.pcap'),
-               (0, ['connection 1 client record 1: connection 1 client record 1, frame 4',
-                    'connection 1 server record 1: connection 1 server record 1, frame 5',
+               (0, ['1:1 was 1:1 (frame 4)', '1 server 1 was 1 server 1 (frame 5)',
                     'connection 1: ok', sums(1)], ''))
 
 
@@ -191,7 +189,7 @@ def parts_and_pcapng(tools: Tools) -> None:
         enhanced(frame, 10 ** 9 + number) for number, frame in enumerate(frames)))
     # Record 20 begins at byte 836 of the calls and 532 of the replies: the third frame of each
     # side, 6 and 11.
-    parts = parts_of(frames, {6: (148, 192), 11: (94, 122)})
+    parts = parts_of(frames, {6: (148, 192), 11: (94, 122), 1: (836, 836), 2: (532, 532, 836)})
     for name, unit in (('run.pcap*', 1_000), ('a.pcapng', 1)):
         tools.want(name, (cut_out(tools, name, place, f'out{unit}.pcap')[0], tools.read(
             f'out{unit}.pcap')), (0, extract(parts, [1, 2, 6, 11], unit=unit)))
@@ -225,8 +223,9 @@ def datagrams_in_fragments(tools: Tools) -> None:
         status, lines, _ = cut_out(tools, 'a.pcap', place, f'{cut_up.__name__}.pcap')
         told = 'cannot be trimmed to these records, and a dissector may not find them'
         tools.want('lines', (status, lines[0], lines[-2]), (
-            1, f'{place}: {place}, frame {numbers[-1]}', f'frame {numbers[-1]} {told}'))
-        parts = parts_of(frames, {len(frames): (38 * 28, 39 * 28)})
+            1, f'1:39 was 1:39 (frame {numbers[-1]})', f'frame {numbers[-1]} {told}'))
+        parts = parts_of(frames, {len(frames): (38 * 28, 39 * 28), 1: (0, 0),
+                                  2: (38 * 28, 38 * 28)})
         tools.want('OUT', tools.read(f'{cut_up.__name__}.pcap')
                    == extract(parts, [1, 2, *numbers, len(frames)]), True)
 
@@ -237,9 +236,9 @@ def exchanges_in_the_extract(tools: Tools) -> None:
         recording = str(TOP / f'examples/{name}.pcap')
         known = listed(tools, recording)
         for one in known[::len(known) // 8]:
-            place = f'connection {one["connection"]} client record {one["record"]}'
+            place = f'{one["connection"]}:{one["record"]}'
             status, lines, error = cut_out(tools, recording, place, 'out.pcap')
-            tools.want(place, (status, lines[0].endswith(f': {place}, frame {one["frame"]}'),
+            tools.want(place, (status, lines[0].endswith(f' was {place} (frame {one["frame"]})'),
                                error), (0, True, ''))
             found = [other for other in listed(tools, 'out.pcap')
                      if comparable(other) == comparable(one)]
@@ -261,30 +260,9 @@ def comparable(one: dict[str, Any]) -> list[object]:
                                  'user', 'arguments', 'answer')]
 
 
-def openings_that_do_not_fit(tools: Tools) -> None:
-    """Frames of SYN are left out if they are too far from the records."""
-    talk = Talk()
-    opened = talk.opened()
-    talk.next = [1_000 - 90_000, 5_000 - 90_000]  # as 4 GiB later, but for 90 kB
-    frames = [*opened, talk.sent(0, ALL[0]), talk.sent(1, ALL[1])]
-    tools.write('a.pcap', pcap(frames))
-    tools.write('late.pcap', pcap(frames[3:]))
-    taken = taken_of(pcap(frames[3:]))
-    connection = taken.connections[0]
-    for opened_by, numbers in (((), [4, 5]), ((1, 2), [4, 5])):
-        one = cut.cut_of(connection._replace(opened_by=opened_by),
-                         cut.wanted_at(taken, [Place(1, 'client', 9)])[1])
-        wanted = {4, 5}.union(opened_by)
-        found = [cut.extract_of(tools.program, frames_of(tools.path('a.pcap'), some), [], [one],
-                                'a') for some in (wanted, {4, 5})]
-        tools.want(f'records with {opened_by}', [extract_of.number for extract_of in found],
-                   [0 if opened_by else 2, 2])
-        tools.want('frames', found[1].content == extract(frames, numbers), True)
-
-
 @unittest.skipUnless(shutil.which('tshark'), 'tshark is not there')
 def cuts_as_tshark_reads_them(tools: Tools) -> None:
-    """tshark finds the exchange alone in OUT, with right checksums."""
+    """tshark finds the exchange alone in OUT, with right checksums, in order or not."""
     v6 = '2001:db8::7', '2001:db8::1'
     several = {
         'Ethernet': pcap(whole()), 'IPv6': pcap(whole(hosts=v6)),
@@ -301,13 +279,15 @@ def cuts_as_tshark_reads_them(tools: Tools) -> None:
         for record in (9, 16) if 'large' not in name else (2, 3):
             status, _, error = cut_out(tools, 'a.pcap', f'connection 1 client record {record}',
                                     'out.pcap')
-            out = ended(['tshark', '-n', '-r', 'out.pcap', '-Y', 'rpc', *checked, '-T', 'fields',
-                         *fields], tools.folder).out.decode()
             sums_of_ip = '' if 'IPv6' in name else '1'
             wanted = [f'{kind}\t0x{record:08x}\t1\t{sums_of_ip}'.rstrip('\t') for kind in (0, 1)]
-            tools.want(f'{name}, record {record}',
-                       (status, error, [line.rstrip('\t') for line in out.splitlines()]),
-                       (0, '', wanted))
+            for when in ('TRUE', 'FALSE'):
+                out = ended(['tshark', '-n', '-r', 'out.pcap', '-Y', 'rpc', *checked, '-T',
+                             'fields', '-o', f'tcp.reassemble_out_of_order:{when}', *fields],
+                            tools.folder).out.decode()
+                tools.want(f'{name}, record {record}, {when}',
+                           (status, error, [line.rstrip('\t') for line in out.splitlines()]),
+                           (0, '', wanted))
             os.remove(tools.path('out.pcap'))
 
 
@@ -346,9 +326,10 @@ def exchanges(tools: Tools) -> None:
             ('a.pcap', 'differ at connection 2 client record 9', 2, 9, (23, 28)),
             ('1', 'connection 2 server record 3', 2, 3, ()),
             ('2', 'connection 2 server record 3', 2, 3, ())):
-        lines = [f'connection 1 {side} record 1: connection {connection} {side} record {record}'
-                 + (f', frame {frames[at]}' if frames else '')
-                 for at, side in enumerate(('client', 'server'))]
+        lines = [f'{there} was {here}' + (f' (frame {frames[at]})' if frames else '')
+                 for at, (there, here) in enumerate((
+                     ('1:1', f'{connection}:{record}'),
+                     ('1 server 1', f'{connection} server {record}')))]
         tools.want(f'{name} {place}', (cut_out(tools, name, place, 'out'), tools.read('out')), (
             (0, [*lines, ONE], ''),
             packed((stream(CALLS[record - 1:record]), stream(REPLIES[record - 1:record])))))

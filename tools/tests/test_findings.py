@@ -261,19 +261,19 @@ def equal_findings(place: Findings) -> None:
     """Findings that say the same are one, with their number and first place."""
     place.put_both(asked_for((b'1', 3), (b'2', 3), (b'3', 3), (b'4', 3), more=1),
                    asked_for((b'1', 2), (b'2', 2), (b'3', 2), (b'4', 1), more=1))
-    summary = 'fields that differ, and how often: obj.nlink of NFSPROC3_GETATTR 5'
+    summary = 'fields that differ, and how often: obj.nlink of GETATTR 5'
     def where(record: int) -> str:
         return f'connection 1 server record {record} | connection 1 server record {record}'
     place.wants('folded', 1, [
-        f'4 replies of NFSPROC3_GETATTR on 3 paths, first ?/f0: {where(5)}', '  - obj.nlink=3',
+        f'4 replies of GETATTR on 3 paths, first ?/f0: {where(5)}', '  - obj.nlink=3',
         '  + obj.nlink=2',
-        f'NFSPROC3_GETATTR reply ?/f3: {where(8)}', '  - obj.nlink=3', '  + obj.nlink=1', summary])
+        f'GETATTR reply ?/f3: {where(8)}', '  - obj.nlink=3', '  + obj.nlink=1', summary])
     every = [(5, 0, 2), (6, 1, 2), (7, 2, 2), (8, 3, 1), (9, 0, 2)]
     place.wants('all', 1, [*(line for record, file, nlink in every for line in (
-        f'NFSPROC3_GETATTR reply ?/f{file}: {where(record)}', '  - obj.nlink=3',
+        f'GETATTR reply ?/f{file}: {where(record)}', '  - obj.nlink=3',
         f'  + obj.nlink={nlink}')), summary], '--all')
     place.put_both(asked_for((b'1', 3), more=2), asked_for((b'1', 2), more=2))
-    place.wants('one path', 1, [f'3 replies of NFSPROC3_GETATTR ?/f0, first: {where(2)}',
+    place.wants('one path', 1, [f'3 replies of GETATTR ?/f0, first: {where(2)}',
                                 '  - obj.nlink=3', '  + obj.nlink=2', f'{summary[:-1]}3'])
 
 
@@ -296,7 +296,7 @@ def arguments_of_one_run(place: Findings) -> None:
     place.put('a', null)
     for number, arguments, what, wanted in ASKED_ALONE:
         place.put('b', (null[0] + [call(2, NFS, 3, number, arguments)], null[1]))
-        heading = f'only in the %s run: NFSPROC3_{what}: connection 1 client record 2'
+        heading = f'only in the %s run: {what}: connection 1 client record 2'
         for words, lines in (
                 (['a', 'b'], [heading % 'second', *(f'  + {one}' for one in wanted)]),
                 (['b', 'a'], [heading % 'first', *(f'  - {one}' for one in wanted)]),
@@ -319,10 +319,10 @@ def calls_of_one_run_with_other_arguments(place: Findings) -> None:
     place.put_both((calls[:1], replies[:1]), (calls, replies[:1]))
     found = [line for line in place.compare('a', 'b')[1][2:] if not line.startswith('  ')]
     only = 'only in the second run: '
-    place.want('found', found, [f'{only}NFSPROC3_SETATTR ?/x: connection 1 client record 2',
-                                f'{only}2 calls of NFSPROC3_SETATTR ?/x, first: connection 1 '
+    place.want('found', found, [f'{only}SETATTR ?/x: connection 1 client record 2',
+                                f'{only}2 calls of SETATTR ?/x, first: connection 1 '
                                 'client record 3',
-                                f'{only}3 calls of NFSPROC3_WRITE ?/x, first: connection 1 client '
+                                f'{only}3 calls of WRITE ?/x, first: connection 1 client '
                                 'record 5'])
 
 
@@ -330,15 +330,15 @@ def the_first_twenty(place: Findings) -> None:
     """Findings that say the same count once for the 20 that are printed."""
     files = [(b'%d' % number, 3) for number in range(1, 25)]
     place.put('a', asked_for(*files, more=9))
-    for number, last in ((20, 'NFSPROC3_GETATTR'), (22, '.. and 2 more (--all prints them)')):
+    for number, last in ((20, 'GETATTR'), (22, '.. and 2 more (--all prints them)')):
         place.put('b', asked_for(*((handle, 100 + at if at < number else nlink)
                                    for at, (handle, nlink) in enumerate(files)), more=9))
         found, every = ([line for line in place.compare(*words, 'a', 'b')[1][2:]
                          if not line.startswith(('  ', 'fields'))] for words in ([], ['--all']))
         place.want(f'{number} findings', (
             len(found), found[-1][:len(last)], found[0].partition(':')[0], len(every),
-            every[-1].startswith('NFSPROC3_GETATTR')),
-            (20 + (number > 20), last, '10 replies of NFSPROC3_GETATTR ?/f0, first', number + 9,
+            every[-1].startswith('GETATTR')),
+            (20 + (number > 20), last, '10 replies of GETATTR ?/f0, first', number + 9,
              True))
 
 
@@ -355,8 +355,8 @@ def fields_left_out(place: Findings) -> None:
     place.put_both(of_attributes(1), of_attributes(2))
     of_file, of_folder = (f'{name} reply: connection 1 server record {record} | connection 1 '
                           f'server record {record}'
-                            for name, record in (('NFSPROC3_GETATTR', 1),
-                                                 ('NFSPROC3_READDIRPLUS', 2)))
+                            for name, record in (('GETATTR', 1),
+                                                 ('READDIRPLUS', 2)))
     mode = ['  - obj.mode=0641 (417)', '  + obj.mode=0642 (418)']
     entries = {name: [f'  - entry "{name}".mode=0641 (417)', f'  + entry "{name}".mode=0642 (418)',
                       f'  - entry "{name}".nlink=1',
@@ -364,35 +364,35 @@ def fields_left_out(place: Findings) -> None:
     differ, left = 'fields that differ, and how often: ', 'left out by --ignore, and how often: '
     place.wants('one of one procedure', 1, [
         of_file, *mode, of_folder, *entries['a'], *entries['b,c.'],
-        f'{differ}entry.mode of NFSPROC3_READDIRPLUS 2, entry.nlink of NFSPROC3_READDIRPLUS 2, '
-        'obj.mode of NFSPROC3_GETATTR 1',
-        f'{left}obj.nlink of NFSPROC3_GETATTR 1'], '--ignore', 'NFSPROC3_GETATTR.obj.nlink')
+        f'{differ}entry.mode of READDIRPLUS 2, entry.nlink of READDIRPLUS 2, '
+        'obj.mode of GETATTR 1',
+        f'{left}obj.nlink of GETATTR 1'], '--ignore', 'GETATTR.obj.nlink')
     place.wants('a name', 1, [
         of_file, *mode, of_folder, *entries['a'][:2], *entries['b,c.'][:2],
-        f'{differ}entry.mode of NFSPROC3_READDIRPLUS 2, obj.mode of NFSPROC3_GETATTR 1',
-        f'{left}entry.nlink of NFSPROC3_READDIRPLUS 2, obj.nlink of NFSPROC3_GETATTR 1'],
+        f'{differ}entry.mode of READDIRPLUS 2, obj.mode of GETATTR 1',
+        f'{left}entry.nlink of READDIRPLUS 2, obj.nlink of GETATTR 1'],
                 '--ignore', '*.nlink')
     place.wants('an entry', 1, [
         of_file, *mode, '  - obj.nlink=1', '  + obj.nlink=2', of_folder, *entries['a'],
-        f'{differ}obj.mode of NFSPROC3_GETATTR 1, obj.nlink of NFSPROC3_GETATTR 1, entry.mode of '
-        'NFSPROC3_READDIRPLUS 1, '
-        'entry.nlink of NFSPROC3_READDIRPLUS 1',
-        f'{left}entry.mode of NFSPROC3_READDIRPLUS 1, entry.nlink of NFSPROC3_READDIRPLUS 1'],
+        f'{differ}obj.mode of GETATTR 1, obj.nlink of GETATTR 1, entry.mode of '
+        'READDIRPLUS 1, '
+        'entry.nlink of READDIRPLUS 1',
+        f'{left}entry.mode of READDIRPLUS 1, entry.nlink of READDIRPLUS 1'],
         '--ignore', '*.entry "b,c.".nlink,*.entry "b,c.".mode')
-    everything = [f'{left}entry.mode of NFSPROC3_READDIRPLUS 2, entry.nlink of '
-                  'NFSPROC3_READDIRPLUS 2, obj.mode of NFSPROC3_GETATTR 1, '
-                  'obj.nlink of NFSPROC3_GETATTR 1']
+    everything = [f'{left}entry.mode of READDIRPLUS 2, entry.nlink of '
+                  'READDIRPLUS 2, obj.mode of GETATTR 1, '
+                  'obj.nlink of GETATTR 1']
     place.wants('all', 1, everything, '--ignore', '*.entry.nlink,*.entry.mode', '--ignore',
-                '*.obj.nlink', '--ignore', 'NFSPROC3_GETATTR.mode')
+                '*.obj.nlink', '--ignore', 'GETATTR.mode')
 
 
 def words_of_ignore_that_are_none(place: Findings) -> None:
     """A procedure or a field that is none is named, and refused."""
     place.put_both(of_attributes(1), of_attributes(2))
-    for bad, named in (('GETATTR.nlink', 'GETATTR'), ('*.nothing', 'nothing'),
-                       ('NFSPROC3_GETATTR.dir.nlink', 'dir.nlink'),
-                       ('NFSPROC3_GETATTR', 'NFSPROC3_GETATTR'),
-                       ('*.nlink,MOUNTPROC3_NULL.nlink', 'nlink'), ('*.obj', 'obj')):
+    for bad, named in (('GETATR.nlink', 'near it: GETATTR'), ('*.nothing', 'nothing'),
+                       ('GETATTR.dir.nlink', 'dir.nlink'),
+                       ('GETATTR', 'GETATTR'),
+                       ('*.nlink,MOUNT NULL.nlink', 'nlink'), ('*.obj', 'obj')):
         status, out, error = place.compare('--ignore', bad, 'a', 'b')
         place.want(bad, (status, out, named in error.splitlines()[-1], 'Traceback' in error),
                    (2, [], True, False))
@@ -443,7 +443,7 @@ def as_json(place: Findings) -> None:
     fields = [{'procedure': f'NFSPROC3_{procedure}', 'field': field, 'count': 1}
               for procedure, field in (('LOOKUP', 'status'), ('WRITE', 'data'))]
     wanted: dict[str, Any] = {
-        'version': 1, 'accepted': None, 'verdict': 'differ', 'same_under': None,
+        'version': 2, 'accepted': None, 'verdict': 'differ', 'same_under': None,
         'position': 'connection 1 server record 2', 'mask': {'times': 'zero', 'ids': 'number'},
         'runs': [{'name': 'a', 'calls': 4, 'only': 1, **whole},
                  {'name': 'b', 'calls': 3, 'only': 0, **whole}],

@@ -18,7 +18,7 @@ from .scripts import FIRST, SECOND, TOP, packed, stream, sums
 
 PROGRAMS = ('nfs3canon', 'nfs3mask', 'nfs3streams')
 TOOLS = ('from-pcap', 'where', 'verdicts', 'calls', 'procedures', 'meaning', 'compare', 'explain',
-         'cut')
+         'cut', 'report')
 NULL, OK = str(TOP / 'examples/null.nfs3cap'), 'ok connections=1 calls=1 replies=1 handles=0'
 VERSION = re.findall(r'^## (\S+)', (TOP / 'CHANGELOG.md').read_text(), re.MULTILINE)[0]
 
@@ -162,7 +162,7 @@ def by_pip(place: Place) -> None:
 
 
 OTHER_NAMES = (r'tools/|(?<!nfs3-)\b(?:from_pcap|where|verdicts|calls|procedures|meaning|compare|'
-               r'explain|cut)(?: - |\(1\))|\bfrom_pcap\b')
+               r'explain|cut|report)(?: - |\(1\))|\bfrom_pcap\b')
 
 
 def named_as_installed(place: Place) -> None:

@@ -495,9 +495,18 @@ def pages_of_findings(tools: Written) -> None:
                ['rule', 'section', 'by', 'server', 'found', 'first'])
     tools.want('its words', (cells[-1].text(), page.texts('code', 'filter')),
                (FIRST_FOUND, ['frame.number in {5, 7}']))
+    (article,) = page.all('article')
+    texts = article.texts('pre')
+    tools.want('its messages', [re.findall(r'record (\d+): .* byte (\d+): data = (\w+)', text)
+                                for text in texts], [
+        [('2', '128', '616c706862')], [('2', '128', '616c706862')],
+        [('1', '128', '616c706861')], [('1', '128', '616c706861')]])
+    tools.want('what to type', article.texts('code', 'command'), [
+        "tools/explain a.pcap '1 server 2 byte 128'",
+        "tools/cut a.pcap '1 server 2 byte 128' bug.pcap"])
     _, _, page = tools.page('meaning', 'a.pcap', 'a.pcap')
     tools.want('two recordings', page.texts('h2')[:1] + page.texts('h3')[:2],
-               ['a.pcap', '1 read-data a.pcap', '1 read-data a.pcap'])
+               ['a.pcap', '1 read-data a.pcap', '2 read-data a.pcap'])
 
 
 def rules_in_words(tools: Tools) -> None:
@@ -522,27 +531,32 @@ def rules_in_words(tools: Tools) -> None:
     tools.want('manual page', page.splitlines()[-len(rows):], rows)
 
 
-def findings_that_are_accepted(tools: Tools) -> None:
+def findings_that_are_known(tools: Tools) -> None:
     """They change no status; what is no longer found is listed; other files are refused."""
     tools.write('a.pcap', FAULTY)
-    run = functools.partial(tools.tool, 'meaning', '--accept', 'a.json')
+    run = functools.partial(tools.tool, 'meaning', '--known', 'a.json')
     known = json.dumps({'version': 1, 'accepted': [
         {'rule': 'read-data', 'server': '198.51.100.1:2049'},
         {'rule': 'nsec', 'server': '*'}]}).encode()
     tools.write('a.json', known)
     status, out, _ = run('--junit', 'a.xml', 'a.pcap')
-    tools.want('accepted', (status, out.splitlines()[1].split()[4:6], out.splitlines()[2:],
-                            tools.xml('a.xml')[0].attrib['failures']), (0, ['1', 'accepted'], [
-        'no longer found: nsec *', '0 findings by 0 rules, 0 notes, 1 accepted; looked at:',
+    tools.want('known', (status, out.splitlines()[1].split()[4:6], out.splitlines()[2:],
+                            tools.xml('a.xml')[0].attrib['failures']), (0, ['1', 'known'], [
+        'no longer found: nsec *', '0 findings by 0 rules, 0 notes, 1 known; looked at:',
         *LAST], '0'))
+    tools.want('written', (tools.tool('meaning', '--known-new', 'b', 'a.pcap')[0], tools.read('b')),
+               (1, b'read-data 198.51.100.1:2049: READ ? 0+100\n'))
+    for line, wanted in (('', 0), ('read-data *', 0), ('read-data *: READ ? 1+100', 1)):
+        tools.write('b', line.encode() or tools.read('b') or b'')
+        tools.want(line, tools.tool('meaning', '--known', 'b', 'a.pcap')[0], wanted)
     os.link(tools.path('a.json'), tools.path('hard'))
     os.symlink('a.json', tools.path('soft'))
     for option, name in itertools.product(('--html', '--junit'),
                                           ('a.json', './a.json', 'hard', 'soft')):
         tools.want(f'{option} {name}', (run(option, name, 'a.pcap')[0], tools.read('a.json')),
                    (2, known))
-    for wrong in (b'', b'[]', b'{"version": 2, "accepted": []}', b'\xff',
-                  b'{"version": 1, "accepted": [{"rule": "none", "server": "*"}]}'):
+    for wrong in (b'[]', b'{"version": 2, "accepted": []}', b'\xff',
+                  b'{"version": 1, "accepted": [{"rule": "none", "server": "*"}]}', b'a\0b'):
         tools.write('a.json', wrong)
         tools.want(f'{wrong!r}', run('a.pcap')[0], 2)
 

@@ -30,7 +30,7 @@ def asked_again(number: int) -> Conversation:
 def calls_that_only_ask(place: Comparisons) -> None:
     """GETATTR of one run alone is left out in any order, and listed, but not with --extra none."""
     place.put_both(asked_again(4), asked_again(1))
-    asked, where = '3 NFSPROC3_GETATTR ?/f', ', first: connection 1 client record '
+    asked, where = '3 GETATTR ?/f', ', first: connection 1 client record '
     out = place.says('left out', 0, 'same but for calls left out', '--order', 'any')
     every = [line for line in place.compare('--order', 'any', '--all', 'a', 'b')[1]
              if line.startswith('left out of the first run: 1 ')]
@@ -42,7 +42,7 @@ def calls_that_only_ask(place: Comparisons) -> None:
     place.want('of the second', (status, '; left out: 3 GETATTR of the second run' in out[1]),
                (1, True))
     out = place.says('none', 1, 'differ in any order', '--order', 'any', '--extra', 'none')
-    found = f'only in the first run: 3 calls of NFSPROC3_GETATTR ?/f{where}'
+    found = f'only in the first run: 3 calls of GETATTR ?/f{where}'
     place.want('none, listed', ([line.startswith(found) for line in out].count(True),
                                 out[-1].endswith('; 3 only in the first run')), (1, True))
 
@@ -142,12 +142,12 @@ def values_that_stand_for_others(place: Comparisons) -> None:
     where = 'connection 1 client record 3 | connection 1 client record 3'
     for first, second, lines in (
             (run(a, b, b), run(a, c, b), [
-                f'NFSPROC3_CREATE ?/f2: {where}',
+                f'CREATE ?/f2: {where}',
                 f'  = createverf={b.hex()}    # elsewhere {b.hex()} of the first run is {c.hex()} '
                 'of the second']),
             (run(a, b, b, b), run(a, c, b, b), [
                 '2 messages have values that are equal in both runs, and that correspond to others '
-                f'elsewhere, first: {where}: createverf of NFSPROC3_CREATE 2'])):
+                f'elsewhere, first: {where}: createverf of CREATE 2'])):
         place.put_both(first, second)
         status, out, _ = place.compare('a', 'b')
         place.want(f'{len(lines)}', (status, out[2:2 + len(lines)]), (1, lines))

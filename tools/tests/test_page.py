@@ -146,7 +146,7 @@ def what_does_not_count(place: Compared) -> None:
     place.want('left out', (runs['calls left out'], 'only in this run' in runs,
                             'first frame' in runs), (['1 GETATTR', 'nothing'], False, False))
     place.want('ignored', (
-        '*.mode: obj.mode of NFSPROC3_GETATTR 2.' in page.all('dl')[0].text(),
+        '*.mode: obj.mode of GETATTR 2.' in page.all('dl')[0].text(),
         'All fields that differ are ignored.' in page.text(),
         [one for one in rows_and_gaps(page) if one[0] == '≠']), (True, True, ['≠ 4 4', '≠ 5 5']))
     talk = Talk()
@@ -240,13 +240,13 @@ def kinds_of_differences(place: Compared) -> None:
     table = page.all('table')[1]
     place.want('counts', (page.texts('h2')[1], table_of(table)[1:]), (
         '4 differences in 5 messages', [
-            ['GETATTR', 'obj.mode', '2 paths', '3'],
-            ['MKDIR', 'only in the second run', '/m/new1 0', '1'], ['READLINK', 'path', '', '1']]))
+            ['GETATTR', 'obj.mode 3', '2 paths'],
+            ['MKDIR', 'only in the second run 1', '/m/new1 0'], ['READLINK', 'path 1', '']]))
     articles = {'#' + one.attributes['id']: one.text() for one in page.all('article')}
     links = [one.attributes['href'] for one in table.all('a')]
     place.want('links', (links, broken_links(page)), (['#f1', '#f3', '#f4'], []))
     place.want('where they lead', [said in articles[name] for name, said in zip(
-        links, ('obj.mode=0640 (416)', 'NFSPROC3_MKDIR', 'path='))], [True] * 3)
+        links, ('obj.mode=0640 (416)', 'MKDIR', 'path='))], [True] * 3)
 
 
 def changes_of(node: Node) -> list[str]:
@@ -263,7 +263,7 @@ def differences(place: Compared) -> None:
     place.write('run.pcap1', content[:ends[15]])
     place.write('run.pcap2', content[:24] + content[ends[15]:])
     article, = place.page(FIRST, 'run.pcap*').all('article')
-    place.want('heading', article.texts('h3'), ['1 NFSPROC3_FSINFO reply /mem'])
+    place.want('heading', article.texts('h3'), ['1 FSINFO reply /mem'])
     where = 'connection 2 server record 2 (frame 21)'
     place.want('positions', article.texts('div', 'place'),
                [f'-{where} frame.number == 21', f'+{where} run.pcap2: frame.number == 6'])
@@ -281,7 +281,7 @@ def differences_that_say_the_same(place: Compared) -> None:
     others, position = article.texts('li'), 'connection 1 server record %d'
     place.want('many', (article.texts('h3'), page.texts('h2')[1], article.texts('summary'),
                         article.texts('p')[-1], len(others), others[0], others[-1]), (
-        ['1 352 replies of NFSPROC3_GETATTR /m/f0, the first of 352 paths'],
+        ['1 352 replies of GETATTR /m/f0, the first of 352 paths'],
         '1 difference in 352 messages', ['351 positions more'], '.. and 51 more',
         300, f'/m/f1: {position % 5} | {position % 5}',
         f'/m/f300: {position % 603} | {position % 603}'))
@@ -333,7 +333,7 @@ def fields_of_calls(place: Compared) -> None:
     """A row has the fields of its call and replies, both if they differ."""
     rows = place.page_of(gets(with_modes(5)), gets(with_modes(5, 2))).all('details', 'row')
     place.want('rows', [row.texts('summary')[0].split(' record')[0] for row in rows],
-               [f'{mark} NFSPROC3_GETATTR' for mark in '==≠=='])
+               [f'{mark} GETATTR' for mark in '==≠=='])
     place.want('folded', [one.attributes.get('open') for row in rows
                           for one in (row, *row.all('details', 'head'))], [None] * 15)
     arguments, head, reply, _ = fields_of(rows[2])

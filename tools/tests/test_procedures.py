@@ -90,14 +90,14 @@ def one_of_each(talk: Talk) -> tuple[list[bytes], list[Row]]:
                               for side, number in order]
     # GETATTR took 2 (frames 4 to 6), 2 (frames 8 to 10) and 1 (frames 17 to 18): 5, and 1.67 on the
     # average.
-    rows = [Row('NFSPROC3_NULL', (1, 0, 0, 1), (size(calls[4]), 0)),
-            Row('NFSPROC3_GETATTR', (4, 1, 4, 0),
+    rows = [Row('NULL', (1, 0, 0, 1), (size(calls[4]), 0)),
+            Row('GETATTR', (4, 1, 4, 0),
                 (size(calls[1], calls[3], calls[3], calls[7]),
                  size(replies[1], replies[3], replies[3], replies[7])),
                 (2, 2, 2, 2, 5), '1:1 frame 4', {'NFS3ERR_STALE': 2, 'AUTH_BADCRED': 1}),
-            Row('NFSPROC3_LOOKUP', (1, 0, 1, 0), (size(calls[2]), size(replies[2])),
+            Row('LOOKUP', (1, 0, 1, 0), (size(calls[2]), size(replies[2])),
                 (2, 2, 2, 2, 2), '1:2 frame 5', {'NFS3ERR_NOENT': 1}),
-            Row('MOUNTPROC3_MNT', (1, 0, 1, 0), (size(calls[6]), size(replies[6])),
+            Row('MOUNT MNT', (1, 0, 1, 0), (size(calls[6]), size(replies[6])),
                 (1, 1, 1, 1, 1), '1:7 frame 15', {'MNT3ERR_ACCES': 1}),
             Row('PORTMAP DUMP', (1, 0, 1, 0), (size(calls[8]), size(replies[8])),
                 (1, 1, 1, 1, 1), '1:9 frame 19', {'RPC_MISMATCH': 1}),
@@ -127,8 +127,8 @@ def counts_by_hand(tools: Tools) -> None:
     # (the first has the xid and the bytes of a call of the first connection)
     second, both = ([cells[:5] for cells in tables[title][1:]] for title in titles[1:])
     numbers = ['39', '1', '39', '0']
-    tools.want('the second', second, [['NFSPROC3_NULL', *numbers], ['in all', *numbers]])
-    tools.want('in all', both, [['NFSPROC3_NULL', '40', '1', '39', '1'],
+    tools.want('the second', second, [['NULL', *numbers], ['in all', *numbers]])
+    tools.want('in all', both, [['NULL', '40', '1', '39', '1'],
                                 *(row.cells()[:5] for row in rows[1:]),
                                 ['in all', '48', '2', '47', '1']])
     status, tables, _ = procedures(tools, '--total', 'a.pcap')
@@ -201,7 +201,7 @@ def judged_in_part(tools: Tools) -> None:
     tools.want('up to the fault',
                (title.rpartition('2049: ')[2], [cells[:5] for cells in tables[title][1:]]),
                ('server record 2 byte 0: NoCall, frame 13; counted up to there',
-                [['NFSPROC3_NULL', *numbers], ['in all', *numbers]]))
+                [['NULL', *numbers], ['in all', *numbers]]))
     _, tables, _ = procedures(tools, 'worse.pcap')
     tools.want('no call before the fault',
                [table for title, table in tables.items() if 'counted up to there' in title], [[]])
@@ -225,12 +225,18 @@ def sorted_rows(tools: Tools) -> None:
                             ('JSON', [row['procedure'] for row in listed[:-1]])):
             tools.want(f'{form} by {column}', (status, [re.split('[_ ]', name)[-1]
                                                         for name in names]), (0, order.split()))
+    for group, rows_of_it in (('client', [('192.0.2.7', 9)]), ('path', [('?', 4), ('-', 3)])):
+        _, tables, _ = procedures(tools, '--total', '--by', group, '--json', 'x.json', 'a.pcap')
+        cells, *_ = tables.values()
+        tools.want(group, (cells[0][0], [(one[0], int(one[1])) for one in cells[1:-1]][:2], [
+            one[group] for one in tools.json('x.json')['tables'][0]['procedures']]), (
+                group, rows_of_it, [one[0] for one in cells[1:]]))
     tools.want('another column', tools.tool('procedures', '--sort', 'colour', 'a.pcap')[0], 2)
     # Beside a recording with 39 calls of NULL these are first, and without them those of GETATTR.
     tools.write('b.pcap', pcap(whole()))
     _, out, _ = tools.tool('procedures', '--beside', '--sort', 'calls', 'a.pcap', 'b.pcap')
     tools.want('beside', [line.split()[0] for line in out.splitlines()[3:5]],
-               ['NFSPROC3_NULL', 'NFSPROC3_GETATTR'])
+               ['NULL', 'GETATTR'])
 
 
 def clock_that_goes_back(tools: Tools) -> None:
@@ -267,7 +273,7 @@ def side_by_side(tools: Tools) -> None:
     null, *others, last, same, _ = cells[1:]
     own, nulls, gone = rows[0].bytes[0], 39 * size(call(1, NFS, 3, 0)), rows[-2]
     tools.want('what grew', (null[:7], null[7].startswith('- -> 0.00')), (
-        ['NFSPROC3_NULL', '1 -> 40', '0 -> 1', '0 -> 39', '1', f'{own} -> {own + nulls} (+3900 %)',
+        ['NULL', '1 -> 40', '0 -> 1', '0 -> 39', '1', f'{own} -> {own + nulls} (+3900 %)',
          f'0 -> {39 * size(success(1))}'], True))
     tools.want('what is the same', [*others, same],
                [row.cells_beside() for row in [*rows[1:-2], rows[-1]]])
@@ -283,6 +289,11 @@ def side_by_side(tools: Tools) -> None:
         tools.want('not two', tools.tool('procedures', '--beside', *words)[0], 2)
 
 
+def full_name(name: str) -> str:
+    return name if 'PORTMAP' in name else {'MOUNT MNT': 'MOUNTPROC3_MNT'}.get(
+        name, f'NFSPROC3_{name}')
+
+
 def files_for_others(tools: Tools) -> None:
     """CSV has the rows of the tables, JSON the verdicts, too."""
     frames, rows = one_of_each(Talk())
@@ -292,7 +303,7 @@ def files_for_others(tools: Tools) -> None:
     found = list(csv.DictReader(io.StringIO((tools.read('x.csv') or b'').decode())))
     whose = 'recording', 'connection', 'client', 'procedure'
     tools.want('whose', (status, error, [tuple(row[name] for name in whose) for row in found]),
-               (0, '', [('a,"b"\\x0a.pcap', connection, client, row.procedure)
+               (0, '', [('a,"b"\\x0a.pcap', connection, client, full_name(row.procedure))
                         for connection, client in (('1', '192.0.2.7:700'), ('', ''))
                         for row in rows]))
     calls, replies = rows[1].bytes

@@ -13,6 +13,7 @@ from examples.packets import Talk, pcap
 
 from ..nfs3tools.exchanges.timelines import Highest, Sighting, Spans
 from .comparisons import Comparisons
+from .pages import table_of, tree_of
 from .scripts import in_turn
 
 (GETATTR, SETATTR, LOOKUP, ACCESS, READLINK, WRITE, CREATE, REMOVE, RENAME, READDIR, READDIRPLUS,
@@ -198,7 +199,7 @@ def what_is_left_out_is_listed(place: Comparisons) -> None:
     said = compared(place, [FOLDER, BEFORE, NEW, ROOT], [FOLDER, NEW, AFTER, ROOT],
                     '--order', 'any', '--html', 'out.html', '--junit', 'out.xml')
     why = 'CREATE ?/w/z at connection 2 client record 1 of the second run'
-    line = ('left out: 1 NFSPROC3_READDIR ?/w, explained by order: connection 1 client record 2 '
+    line = ('left out: 1 READDIR ?/w, explained by order: connection 1 client record 2 '
             f'(frame 9) | connection 1 client record 2 (frame 11), by {why}')
     place.want('printed', said.lines[1:3], [
         'same in another order, 1 answer explained by order: 3 calls; left out: 1 READDIR '
@@ -208,8 +209,9 @@ def what_is_left_out_is_listed(place: Comparisons) -> None:
     place.want('JSON', said.json['left_out'], [
         {'procedure': 'NFSPROC3_READDIR', 'path': '?/w', 'first': first, 'second': second,
          'kind': 'explained', 'why': why}])
-    for name in ('out.html', 'out.xml'):
-        place.want(name, line.encode() in (place.read(name) or b''), True)
+    place.want('JUnit', line.encode() in (place.read('out.xml') or b''), True)
+    cells = table_of(tree_of((place.read('out.html') or b'').decode()).all('table')[-1])[1]
+    place.want('page', cells, ['explained by order', 'READDIR', '?/w', '1', line.split(': ', 2)[2]])
     for name in 'ab':
         place.want('captured', place.tool('from_pcap', name, f'{name}.nfs3cap')[0], 0)
     place.want('captures', place.compare('--order', 'any', 'a.nfs3cap', 'b.nfs3cap')[0], 1)

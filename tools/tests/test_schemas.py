@@ -85,24 +85,15 @@ def comparisons_fit(tools: Tools) -> None:
     place = Comparisons(tools.program, tools.folder)
     accepts(place, NLINK)
     place.put('a', run(1, 1, 1))
-    for nlinks, names, words in (((1, 1, 1), (), ()), ((1, 2, 3), (), ('--accept', 'known')),
-                                 ((1, 2, 1), (), ('--accept', 'known')), ((1, 1, 1), (2, 1, 0), ()),
+    for nlinks, names, words in (((1, 1, 1), (), ()), ((1, 2, 3), (), ('--known', 'known')),
+                                 ((1, 2, 1), (), ('--known', 'known')), ((1, 1, 1), (2, 1, 0), ()),
                                  ((1, 2, 1), (2, 1, 0), ('--order', 'strict'))):
         place.put('b', run(*nlinks, names=names, more=nlinks[1] - 1))
         value = fits(tools, 'compare.json', written(tools, 'compare', *words, 'a', 'b'))
-        tools.want('version', value['version'], 1)
+        tools.want('version', value['version'], 2)
     tools.write('lost.pcap', pcap(whole()[:4] + whole()[5:]))
     fits(tools, 'compare.json', written(tools, 'compare', *RUNS))
     fits(tools, 'compare.json', written(tools, 'compare', 'lost.pcap', 'lost.pcap'))
-
-
-def accepted_files_fit(tools: Tools) -> None:
-    """What --accept-new writes fits."""
-    place = Comparisons(tools.program, tools.folder)
-    place.put_both(run(1, 1, 1), run(1, 2, 3, more=1))
-    place.compare('--accept-new', 'new', 'a', 'b')
-    tools.want('entries', len(fits(tools, 'accepted.json', place.read('new').decode())['accepted']),
-               3)
 
 
 FOLDER = TOP / 'docs/schemas'

@@ -26,7 +26,9 @@ READERS = {
         'shared.places': 'parse_place parse_fault patterns',
         'shared.programs': 'expected_of died patterns'},
     'files, also temporary ones': {
-        'exchanges.stored': 'LongValues', 'shared.outputs': 'kind_of_file'},
+        'exchanges.stored': 'LongValues', 'shared.outputs': 'kind_of_file',
+        'judgement.known': 'known_in known_line patterns',
+        'comparison.verdict.accepted': 'line_of_entry'},
     'tables of layouts': {'shared.layouts': 'cases_of patterns'},
     # (which `recordings` gives as texts, and which have no names with a slash)
     'ends of connections, and paths': {'exchanges.kept': 'host_of', 'exchanges.objects': 'below'}}

@@ -3,6 +3,7 @@ import csv
 import io
 import math
 import re
+import shlex
 
 from examples.messages import (
     MOUNT, NFS, STALE, array, call, dirop, failed, fattr, fh, fragment, ok, opaque, post_op_attr,
@@ -14,13 +15,14 @@ from .pages import (
     HERE, HOSTILE, SHOWN, VISIBLE, WIDTHS, Node, Written, asked_of_others, broken_links, find,
     in_chromium, light_of, table_of, tree_of)
 from .scripts import (
-    CALLS, EXAMPLES, FIRST, REPLIES, connection_of, exchange, measured, whole, write_faulty)
+    CALLS, EXAMPLES, FIRST, REPLIES, TOP, connection_of, exchange, measured, whole, write_faulty)
 
 GETATTR, LOOKUP = 1, 3
 CONCURRENT = str(EXAMPLES / 'concurrent_a.pcap')
 BAD = tuple(str(EXAMPLES / f'bad_{name}.pcap')
             for name in ('bool', 'client_record', 'server_record', 'status'))
 BOTH = ('verdicts', 'procedures')
+FORMATS = (TOP / 'docs/FORMATS.md').read_text().replace('`tools/', 'tools/')
 MANY, ERRORS_AT_MOST, MOST_MEMORY = 22_000, 10_000, 48 << 20
 COUNTS = ('judged', 'in part', 'left out', 'not checked', 'errors')
 DOT = re.compile(r'(.*); connection (\d+) client record (\d+), frame (\d+), '
@@ -119,7 +121,9 @@ def tables_as_printed(tools: Written) -> None:
         _, out, page = tools.page('procedures', *words)
         # (numbers have separators there)
         found = [row for table in page.all('table') for row in table_of(table)]
-        printed = [row for row in rows_printed(out) if row[0] == 'procedure' or len(row) > 8]
+        # (latencies are right after the calls)
+        printed = [[*row[:2], *row[7:10], *row[2:7], *row[10:]] for row in rows_printed(out)
+                   if row[0] == 'procedure' or len(row) > 8]
         tools.want(' '.join(words), sorted([re.sub(r'(?<=\d),(?=\d{3})', '', cell) for cell in row]
                                            for row in found), sorted(printed))
         if words[0] == '--sort':
@@ -129,6 +133,11 @@ def tables_as_printed(tools: Written) -> None:
     _, _, page = tools.page('procedures', FIRST, CONCURRENT)
     names = [node.attributes['id'] for node in page.nodes() if 'id' in node.attributes]
     tools.want('names of elements', sorted(names), sorted(set(names)))
+
+
+def position_of(connection: str, position: str) -> str:
+    side, record = position.replace('record ', '').split(' ', 1)
+    return f'{connection}:{record}' if side == 'client' else f'{connection} server {record}'
 
 
 def faults_with_their_fields(tools: Written) -> None:
@@ -151,6 +160,12 @@ def faults_with_their_fields(tools: Written) -> None:
             tools.want(f'{name}: {place}', [line for line in written[1:] if line not in reasons],
                        lines)
             tools.want(f'{name}: reason', len(reasons), 1 - number)
+        of_reason = re.search(r': (\w+), frame', article.text())
+        row = re.search(rf'^\| `{of_reason and of_reason[1]}` \|[^|]*\|[^|]*\| ([^|]*) \|',
+                        FORMATS, re.M)
+        tools.want(f'{name}: cause', row and f'Likely cause: {row[1]}.' in article.text(), True)
+        tools.want(f'{name}: commands', [shlex.split(line)[1:3] for line in article.texts(
+            'code', 'command')], [[name, position_of(connection, position)]] * 2)
     tools.want('links', ([one.attributes['href'] for one in page.all('table')[0].all('a')],
                          broken_links(page)), (['#f1', '#f2', '#f3', '#f4'], []))
     tools.want('folded', [one.attributes.get('open') for one in page.all('details', 'others')],
@@ -260,7 +275,7 @@ def names_and_outputs(tools: Written) -> None:
                success(2, ok(fh(b'x'), post_op_attr(), post_op_attr()))]
     tools.write(name, pcap(connection_of(calls, replies)))
     for tool, title in zip(BOTH, ('Every call of NFS and MOUNT version 3 is valid',
-                                  '2 calls, 0 without a reply')):
+                                  '2 calls, 0 without a reply, slowest MOUNT MNT 1 µs')):
         _, _, page = tools.page(tool, name)
         tools.want(tool, (asked_of_others(page), page.texts('title')[0], HOSTILE.replace(
             '"', '\\x22') in dots_of(page)[-1][3][0]), ([], f'{title}: {name}', True))
@@ -273,11 +288,17 @@ def names_and_outputs(tools: Written) -> None:
 
 
 DOTS = """["good", "bad"].map(name => {
-  const box = document.querySelector(`svg.line > use[href="#${name}"]`).getBoundingClientRect();
+  const box = document.querySelector(`svg.line use[href="#${name}"]`).getBoundingClientRect();
   return [getComputedStyle(document.querySelector("#" + name)).fill, box.width, box.height] })"""
-DOTS_ARE_INSIDE = """[...document.querySelectorAll(".line > use")].every(one => {
-  const dot = one.getBoundingClientRect(), box = one.parentElement.getBoundingClientRect();
+DOTS_ARE_INSIDE = """[...document.querySelectorAll(".line use")].every(one => {
+  const dot = one.getBoundingClientRect(), box = one.closest("svg").getBoundingClientRect();
   return dot.left >= box.left - 6 && dot.right <= box.right + 6 && dot.bottom <= box.bottom })"""
+CHOSEN = """(dot => {
+  dot.dispatchEvent(new Event("click", {cancelable: true}));
+  const panel = document.querySelector(dot.getAttribute("href"));
+  return [dot.textContent, dot.dataset.place, [panel.firstChild.textContent,
+    ...[...panel.querySelectorAll(".command")].map(one => one.textContent)]] })(
+  document.querySelector(".line a"))"""
 VERDICTS_ARE_SEEN = """[...document.querySelectorAll(".cards td:last-child")].every(one => {
   const box = one.getBoundingClientRect();
   return box.left >= 0 && box.right <= innerWidth && box.height > 0 })"""
@@ -292,6 +313,7 @@ def pages_in_chromium(tools: Written) -> None:
     """Pages load and fit, and errors have another form and colour."""
     with tools.browser() as browser:
         for words in (('verdicts', CONCURRENT), ('procedures', '--beside', FIRST, CONCURRENT),
+                      ('meaning', FIRST, *BAD), ('report', FIRST, *BAD),
                       ('verdicts', FIRST, *BAD)):
             tools.page(*words)
             tools.loads(browser, ' '.join(words))
@@ -304,6 +326,9 @@ def pages_in_chromium(tools: Written) -> None:
                 (True, [True] * 2))
             tools.want(f'{is_dark}: sizes', [4 < dot[1] < 16 for dot in (good, bad)], [True] * 2)
         tools.want('inside', browser.value(DOTS_ARE_INSIDE), True)
+        title, place, chosen = browser.value(CHOSEN)
+        tools.want('the call of a dot', chosen[0][:len(title)] == title and [
+            shlex.split(line)[2] for line in chosen[1:]], [place] * 2)
         browser.resize(WIDTHS[0])
         tools.want('in sight', browser.value(VERDICTS_ARE_SEEN), True)
         browser.open(tools.path('page.html'), has_scripts=False)

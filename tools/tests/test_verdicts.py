@@ -431,3 +431,30 @@ def talk_in_turns(talk: Talk) -> list[bytes]:
     for at in range(0, len(CALLS), 3):
         frames += [talk.sent(0, stream(CALLS[at:at + 3])), talk.sent(1, stream(REPLIES[at:at + 3]))]
     return [*frames, *talk.closed()]
+
+
+# --- Known findings ---
+
+def findings_that_are_known(tools: Tools) -> None:
+    """They change no status, and each form counts them. What is no longer found is printed."""
+    bad, good = str(TOP / 'examples/bad_bool.pcap'), str(TOP / 'examples/ganesha_a.pcap')
+    line = '192.0.2.7 to 192.0.2.1:2049: server record 1 byte 28: BadBool'
+    tools.want('written', (tools.tool('verdicts', '--known-new', 'new', bad, good)[0],
+                           tools.read('new')), (1, f'{line}\n'.encode()))
+    for text, status, known, gone in (
+            (line, 0, 1, []), ('* server record * byte 28: BadBool', 0, 1, []),
+            (line.replace('28', '24'), 1, 0, [line.replace('28', '24')])):
+        tools.write('known', text.encode())
+        found, out, _ = tools.tool('verdicts', '--known', 'known', '--json', 'x.json', '--junit',
+                                   'x.xml', '--html', 'x.html', bad, good)
+        properties = {one.get('name'): one.get('value') for one in tools.xml('x.xml')[0].iter(
+            'property')}
+        tools.want(text, (found, [row for row in out.splitlines() if 'no longer' in row], out[-8:],
+                          tools.json('x.json')['counts']['known'], properties['known'],
+                          tools.xml('x.xml')[0].get('failures')),
+                   (status, [f'no longer found: {row}' for row in gone], f'{known} known\n',
+                    known, str(known), str(status)))
+        page = (tools.read('x.html') or b'').decode()
+        tools.want(f'page of {text}', (f'The status is <b>{status}</b>' in page,
+                                       '<h1 class=same>' in page,
+                                       f'<b>{known}</b> known' in page), (True, False, True))

@@ -5,7 +5,7 @@ record may have very many of them.
 from __future__ import annotations
 
 import contextlib
-from collections.abc import Callable, Iterator
+from collections.abc import Callable, Container, Iterable, Iterator, Sequence
 
 from ..shared.layouts import Body, BodyReader, PlacedItem, Procedure, procedure_of
 from ..shared.places import Place
@@ -15,29 +15,58 @@ LINES_AROUND = 8  # of 16 bytes, before and after the byte of a long record
 ITEM_BYTES_AT_MOST = 100  # bytes of an item
 NANOSECOND_ITEMS = frozenset(('atime_nsec', 'mtime_nsec', 'ctime_nsec', 'delta_nsec'))
 Tell = Callable[[str], object]
+NO_REASON = 'no reason of nfs3canon', 'not known'
 
-# What reasons of the program mean.
+# What reasons of the program mean, and their likely causes, as docs/FORMATS.md has them.
 REASONS = {
-    'BadMagic': 'a capture begins with NFS3CAP1 or NFS3CAP2',
-    'CaptureCut': 'the file ends before it is complete',
-    'BadMark': 'a connection word is 0 or 1, and of version 2 a side word 0, 1 or 2, '
-        'and a length word at least 1',
-    'AfterEnd': 'nothing follows the last word 0',
-    'TooManyConnections': 'there are at most 65,535',
-    'TooManyBytes': 'all streams together have at most 1,073,741,824 bytes',
-    'RecordCut': 'the stream ends in this record',
-    'RecordTooLong': 'the body of a record has at most 16,777,216 bytes',
-    'Short': 'the body ends before this item is whole',
-    'Trailing': 'the message ends before this byte, and the body does not',
-    'BadBool': 'a bool is 0 or 1',
-    'BadEnum': 'this value is not listed',
-    'TooLong': 'the length or count is over its maximum',
-    'RpcVersion': 'the RPC version is 2',
-    'Flavor': 'other flavors are not taken, as that of RPCSEC_GSS, which is 6',
-    'AuthLength': 'the length is not that of the parameters',
-    'WrongSide': "calls are the client's, and replies the server's",
-    'NoCall': 'no call of the connection has this xid, perhaps since its call was not recorded',
-    'XidConflict': 'an earlier call of the connection has this xid and another procedure'}
+    'BadMagic': (
+        'a capture begins with NFS3CAP1 or NFS3CAP2',
+        'no capture: a recording of packets goes through tools/from_pcap first'),
+    'CaptureCut': (
+        'the file ends before it is complete',
+        'a copy that was broken off, or a full disk'),
+    'BadMark': (
+        'a connection word is 0 or 1, and of version 2 a side word 0, 1 or 2, and a length word '
+        'at least 1',
+        "a program that writes captures counts a chunk's bytes wrongly"),
+    'AfterEnd': ('nothing follows the last word 0', 'two captures one after the other'),
+    'TooManyConnections': ('there are at most 65,535', 'a recording of days'),
+    'TooManyBytes': (
+        'all streams together have at most 1,073,741,824 bytes',
+        'much data: take single connections'),
+    'RecordCut': ('the stream ends in this record', 'missing bytes, or the end of the recording'),
+    'RecordTooLong': (
+        'the body of a record has at most 16,777,216 bytes',
+        'bytes before are missing; or it is no RPC'),
+    'Short': ('the body ends before this item is whole', 'a message that its sender built wrongly'),
+    'Trailing': (
+        'the message ends before this byte, and the body does not',
+        'a sender that adds to a message, or fills it up'),
+    'BadBool': (
+        'a bool is 0 or 1',
+        'a sender that takes any number for true; an older draft of a layout'),
+    'BadEnum': (
+        'this value is not listed',
+        "a number of the sender's own, as a status of its system"),
+    'TooLong': (
+        'the length or count is over its maximum',
+        'a sender with larger handles, names or credentials'),
+    'RpcVersion': ('the RPC version is 2', 'another protocol'),
+    'Flavor': (
+        'other flavors are not taken, as that of RPCSEC_GSS, which is 6',
+        'RPCSEC_GSS (6: Kerberos), AUTH_SHORT (2), AUTH_TLS (7)'),
+    'AuthLength': (
+        'the length is not that of the parameters',
+        'a client that builds its credential wrongly'),
+    'WrongSide': (
+        "calls are the client's, and replies the server's",
+        "the streams changed places; callbacks of NFS version 4.1 on the client's connection"),
+    'NoCall': (
+        'no call of the connection has this xid, perhaps since its call was not recorded',
+        'the recording began after the call, or lacks it'),
+    'XidConflict': (
+        'an earlier call of the connection has this xid and another procedure',
+        'a client that begins its xids anew, as after a restart, or counts them in few bits')}
 
 
 def tell_record(found: FoundRecord, place: Place, reason: str | None, tell: Tell) -> None:
@@ -57,6 +86,25 @@ def tell_record(found: FoundRecord, place: Place, reason: str | None, tell: Tell
     if reason:
         tell(reason_in_words(reason))
     tell_bytes(found.body, begin, end, place.byte, tell)
+
+
+def item_of(items: Sequence[PlacedItem], names: Container[str],
+            others: Iterable[PlacedItem] = ()) -> PlacedItem | None:
+    """Returns the first item with one of some names that is odd, or that another message does not
+    have, or else the first of all, if there is one."""
+    known = {(one.name, one.value) for one in others}
+    some = [one for one in items if one.name in names]
+    odd = [one for one in some if remark_on_item(one)] or [
+        one for one in some if known and (one.name, one.value) not in known] or some
+    return odd[0] if odd else None
+
+
+def items_in(found: FoundRecord, place: Place) -> list[PlacedItem]:
+    is_call = place.side == 'client'
+    call = None if is_call else call_with_xid(found.calls, found.body[:4])
+    message = BodyReader(found.body, None, ITEM_BYTES_AT_MOST)
+    message.read(is_call, tell_heading(place, found.body, call, lambda _: None))
+    return message.items
 
 
 def tell_heading(place: Place, body: Body, call: Call | None, tell: Tell) -> Procedure | None:
@@ -164,4 +212,4 @@ def tell_bytes(data: Body, begin: int, end: int, byte: int, tell: Tell) -> None:
 
 
 def reason_in_words(reason: str) -> str:
-    return f'{reason}: {REASONS.get(reason, "no reason of nfs3canon")}'
+    return f'{reason}: {REASONS.get(reason, NO_REASON)[0]}'

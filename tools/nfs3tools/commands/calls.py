@@ -22,8 +22,9 @@ import typing
 from collections.abc import Callable, Iterator, Sequence
 
 from ..comparison.values.long_values import bytes_of
+from ..exchanges.in_words import short
 from ..exchanges.kept import WIDTH, Kept, KeptExchange, call_text, host_of
-from ..judgement.tallies import milliseconds
+from ..judgement.tallies import GROUPINGS, milliseconds, who_of
 from ..judgement.verdict import (
     VERDICTS_VERSION, Verdict, kept_in, not_ok, status_of, sums_of, tell_notes, verdict_members)
 from ..judgement.window import ALL, DAY, add_window, window_of
@@ -32,13 +33,15 @@ from ..recordings.selection import count, plural
 from ..reporting.messages import add_recordings, allowed_of, command_of, parser_of
 from ..reporting.rows import add_forms, form_of
 from ..shared.layouts import BY_NUMBER
-from ..shared.printed import escaped, printable
+from ..shared.printed import escaped, like, near, printable
 from ..shared.screens import Colour, Screen, screen_of
 from .verdicts import Judge, judge_of
 
-CALL_HEADS = ('time', 'ms', 'frame', 'conn', 'call', 'answer')
-RIGHT = 4  # columns that are set to the right
+CALL_HEADS = ('time', 'ms', 'frame', 'conn', 'who', 'call', 'answer')  # `who` if asked for
+WHO = CALL_HEADS.index('who')
+NOT_RIGHT = 2  # columns that are not set to the right, the last ones
 WIDEST = 72  # of the calls
+KNOWN_AT_MOST = 12  # users, clients, procedures or paths that are named
 LINES_AT_ONCE = 1_000  # lines whose columns are set together
 NANOSECONDS_OF_UNIT = {'us': 1_000, 'ms': 1_000_000, 's': 1_000_000_000}
 CALL_COLUMNS = ('recording', 'connection', 'record', 'client', 'server', 'frame', 'time_ns',
@@ -114,7 +117,7 @@ def call_time(time: int, begun: int | None) -> str:
 def cells_of(one: KeptExchange, begun: int | None) -> tuple[str, ...]:
     answer = one.answer if one.kept.firsts[one.at] else answer_of(one)
     return (call_time(one.time, begun), milliseconds(one.latency), str(one.frame or '-'),
-            f'{one.part.number}:{one.record}', call_text(one, WIDTH), answer)
+            f'{one.part.number}:{one.record}', who_of(one), call_text(one, WIDTH), answer)
 
 
 def answer_of(one: KeptExchange) -> str:
@@ -130,24 +133,25 @@ def answer_of(one: KeptExchange) -> str:
 class AlignedLines:
     """Lines of cells in columns. Blocks never get narrower, and a long call moves its answer."""
 
-    def __init__(self, screen: Screen) -> None:
-        self.screen, self.widths = screen, [0] * (len(CALL_HEADS) - 1)
-        self.rows: list[tuple[str, ...]] = [CALL_HEADS]
+    def __init__(self, screen: Screen, has_who: bool) -> None:
+        self.screen, self.has_who, self.rows = screen, has_who, list[tuple[str, ...]]()
         self.errors = set[int]()  # rows whose answers are errors
+        self.add(CALL_HEADS, False)
+        self.widths = [0] * (len(self.rows[0]) - 1)
 
     def add(self, row: tuple[str, ...], is_error: bool) -> None:
         if is_error:
             self.errors.add(len(self.rows))
-        self.rows.append(row)
+        self.rows.append(row if self.has_who else (*row[:WHO], *row[WHO + 1:]))
         if len(self.rows) > LINES_AT_ONCE:
             self.print()
 
     def print(self) -> None:
         columns = zip(self.widths, zip(*self.rows))
         self.widths = [max(width, *map(len, column)) for width, column in columns]
-        self.widths[RIGHT] = min(self.widths[RIGHT], WIDEST)
-        right = (f'{{:>{width}}}' for width in self.widths[:RIGHT])
-        line = '  '.join([*right, f'{{:<{self.widths[RIGHT]}}}', '{}'])
+        self.widths[-1] = min(self.widths[-1], WIDEST)
+        right = (f'{{:>{width}}}' for width in self.widths[:1 - NOT_RIGHT])
+        line = '  '.join([*right, f'{{:<{self.widths[-1]}}}', '{}'])
         sys.stdout.writelines(self.styled(number, row, line.format(*row)) + '\n'
                               for number, row in enumerate(self.rows))
         self.rows, self.errors = [], set()
@@ -165,7 +169,8 @@ def tell_verdicts(verdicts: list[Verdict]) -> None:
 
 
 def tell_of_times(found: ListedRecording, chosen: argparse.Namespace) -> None:
-    """Says on standard error if an option asks for latencies or addresses that are not there."""
+    """Says on standard error if an option asks for latencies or addresses that are not there, and
+    what there is if nothing is listed."""
     kept, number = found.kept, found.kept.backward
     are = plural(number, 'latency is', 'latencies are')
     lines = [
@@ -176,8 +181,29 @@ def tell_of_times(found: ListedRecording, chosen: argparse.Namespace) -> None:
          'no time is known, so --from and --to list nothing'),
         (chosen.client and any(not part.client for part in kept.parts),
          'a capture has no addresses, so --client lists nothing')]
-    for line in (line for is_so, line in lines if is_so):
+    for line in (*(line for is_so, line in lines if is_so), *what_there_is(found, chosen)):
         print(printable(f'{escaped(found.recording)}: {line}'), file=sys.stderr)
+
+
+def what_there_is(found: ListedRecording, chosen: argparse.Namespace) -> Iterator[str]:
+    """If nothing is listed, what there is of each kind that was chosen."""
+    kept = found.kept
+    every = [] if found.wanted else [*map(kept.exchange, range(len(kept)))]
+    for word, what, name_of in (
+            (chosen.user, 'users', GROUPINGS['user']),
+            (chosen.client, 'clients', GROUPINGS['client']),
+            (chosen.procedure, 'procedures', lambda one: short(one.procedure)),
+            (chosen.path, 'paths', GROUPINGS['path'])):
+        is_chosen = word is not None and word != frozenset()
+        names = sorted({*map(name_of, every)} - {'-'} if is_chosen else ())
+        some = names if len(names) <= KNOWN_AT_MOST else [
+            *like(str(word), names), *names][:KNOWN_AT_MOST] + ['..']
+        if names:
+            yield f'{what}: {", ".join(some)}'
+    times = [one.time for one in every if one.time and (chosen.begin or chosen.end)]
+    if times:
+        ends = (call_time(end, found.begun) for end in (min(times), max(times)))
+        yield f'times: {" to ".join(ends)}'
 
 
 def column_values(one: KeptExchange, recording: str, is_line: bool) -> Sequence[object]:
@@ -195,11 +221,12 @@ def column_values(one: KeptExchange, recording: str, is_line: bool) -> Sequence[
 class Text:
     """Lines for a reader. Those of several recordings come after their names."""
 
-    def __init__(self, is_one: bool, screen: Screen) -> None:
+    def __init__(self, is_one: bool, screen: Screen, has_who: bool) -> None:
         self.is_one, self.screen, self.number, self.all = is_one, screen, 0, 0
+        self.has_who = has_who
 
     def add(self, found: ListedRecording) -> None:
-        lines = AlignedLines(self.screen)
+        lines = AlignedLines(self.screen, self.has_who)
         if not self.is_one:
             print(f'{escaped(found.recording)}:')
         for one in found.exchanges():
@@ -224,7 +251,8 @@ def procedure_names(word: str) -> frozenset[str]:
     words = (name.strip() for name in word.upper().split(','))
     names = frozenset(LAST_NAMES.get(name) or name.rpartition(' ')[2] for name in words)
     for name in names - {*LAST_NAMES.values()}:
-        raise argparse.ArgumentTypeError(f'no procedure: {name}')
+        meant = near(name, LAST_NAMES.values()) or ' (as in WRITE,COMMIT)'
+        raise argparse.ArgumentTypeError(f'no procedure: {name}{meant}')
     return names
 
 
@@ -234,7 +262,8 @@ def address(word: str) -> str:
         found = ipaddress.ip_address(word.strip('[]'))
         return f'[{found}]' if found.version == 6 else str(found)
     except ValueError:
-        raise argparse.ArgumentTypeError(f'no address: {word}') from None
+        raise argparse.ArgumentTypeError(
+            f'no address: {word} (as in 192.0.2.7 or 2001:db8::7)') from None
 
 
 def user_id(word: str) -> int:
@@ -259,6 +288,8 @@ def command_line_of_calls(words: list[str]) -> argparse.Namespace:
                         help='lists calls of this user by AUTH_SYS')
     parser.add_argument('--client', metavar='ADDRESS', type=address,
                         help='lists calls of the client with this address')
+    parser.add_argument('--who', action='store_true',
+                        help='prints the user and the client of each call')
     parser.add_argument('--sort', choices=['time', 'latency'], default='time',
                         help='the order of the lines; by latency the longest is first')
     add_forms(parser)
@@ -272,7 +303,7 @@ def command_line_of_calls(words: list[str]) -> argparse.Namespace:
 def main(words: list[str]) -> int:
     chosen, verdicts = command_line_of_calls(words), list[Verdict]()
     judge, form = judge_of(chosen), form_of(chosen, VERDICTS_VERSION, 'calls', CALL_COLUMNS)
-    text = Text(len(chosen.recordings) == 1, screen_of(chosen.color))
+    text = Text(len(chosen.recordings) == 1, screen_of(chosen.color), chosen.who)
     for recording in chosen.recordings:
         found = listed(judge, recording, chosen, verdicts)
         with contextlib.closing(found.kept):

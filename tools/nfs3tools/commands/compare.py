@@ -2,7 +2,7 @@
 differs.
 
     tools/compare [--mask CLASS,..] [--order strict|any] [--ignore PROCEDURE.FIELD,..]
-                  [--accept FILE] [--accept-new FILE] [--all] [--brief] [--html FILE]
+                  [--known FILE] [--known-new FILE] [--all] [--brief] [--html FILE]
                   [--json FILE] [--junit FILE] A B
 
 The manual page, tools/man/compare.1, has the rest.
@@ -26,12 +26,14 @@ from pathlib import Path
 
 from ..comparison.exchanges.pairing import ASKING
 from ..comparison.values.classes import CLASSES, following, in_any_order, mask_text, mask_word
-from ..comparison.verdict.accepted import accepted_of, file_of, ignored_of, without_ignored
+from ..comparison.verdict.accepted import (
+    ignored_of, older_entries, texts_of, without_ignored)
 from ..comparison.verdict.cover import Cover, cover_of, lines_of_counts
 from ..comparison.verdict.decision import (
     Choices, NothingToCompare, Report, compared_in_words, judged_runs)
 from ..comparison.verdict.findings import Compared
 from ..comparison.verdict.trial import Trial
+from ..judgement.known import add_known, file_of_known
 from ..pages import compared as pages
 from ..pages.compared import ComparedContent
 from ..recordings.parts import files_in
@@ -68,10 +70,7 @@ def command_line_of_compare(words: list[str]) -> argparse.Namespace:
     parser.add_argument('--ignore', type=ignored_of, action='extend', default=[],
                         metavar='PROCEDURE.FIELD,..',
                         help='fields that are left out of the explanation; * is any procedure')
-    parser.add_argument('--accept', type=accepted_of, metavar='FILE',
-                        help='takes a file of accepted findings, which do not count')
-    parser.add_argument('--accept-new', metavar='FILE',
-                        help='writes a file that accepts the findings of this comparison')
+    add_known(parser, older_entries)
     parser.add_argument('--all', action='store_true', help='prints each finding by itself; by '
                         f'default, equal ones are one, and {FINDINGS_AT_MOST} are printed')
     parser.add_argument('--brief', action='store_true', help='prints a line for each finding')
@@ -89,19 +88,14 @@ def command_line_of_compare(words: list[str]) -> argparse.Namespace:
 
 
 def outputs_of(words: argparse.Namespace) -> list[str | None]:
-    return [words.html, words.json, words.junit, words.accept_new]
+    return [words.html, words.json, words.junit, words.known_new]
 
 
 def try_all(words: argparse.Namespace, recordings: Sequence[str]) -> None:
-    """Tries all outputs. The file of accepted findings may be replaced by another of them alone."""
+    """Tries all outputs. The file of known findings may be replaced by another of them alone."""
     try_outputs(outputs_of(words), recordings)
     for path in filter(None, outputs_of(words)[:-1]):
-        check_output(path, accepted_by(words))
-
-
-def accepted_by(words: argparse.Namespace) -> list[str]:
-    """The file of accepted findings, if there is one."""
-    return [words.accept.path] if words.accept else []
+        check_output(path, [*filter(None, [words.known.path])])
 
 
 def taken_of(name: str, options: Options) -> Taken:
@@ -128,10 +122,10 @@ def compared_runs(words: argparse.Namespace, stack: ExitStack) -> int:
     print(f'masked: {mask_text(masks[0])}', flush=True)
     choices = Choices(words.order, masks, following(words.mask),
                       frozenset() if words.extra == 'none' else ASKING,
-                      bool(words.html), words.accept)
+                      bool(words.html), words.known if words.known.path else None)
     with trial.progress.line():
         report = judged_runs(trial, choices, covers)
-    is_same = told_of(words, [*inputs, *accepted_by(words)], report)
+    is_same = told_of(words, [*inputs, *filter(None, [words.known.path])], report)
     if any(cover.faults() for cover in covers):
         return REFUSED
     return SAME if is_same else DIFFERENT
@@ -165,10 +159,11 @@ def told_of(words: argparse.Namespace, inputs: Sequence[str], report: Report) ->
     colour = Colour.GREEN if is_good else Colour.RED if report.is_different else Colour.YELLOW
     print(screen_of(words.color).painted('\n'.join(report.lines()), colour),
           *lines_of_counts(report.covers), sep='\n', flush=True)
-    if words.accept_new:
+    if words.known_new:
         compared = report.found.whole or Compared()
         recordings = files_in([words.first, words.second])
-        write_file(words.accept_new, [file_of(compared.findings, compared.mask)], recordings)
+        texts = texts_of(compared.findings, compared.mask)
+        write_file(words.known_new, file_of_known(texts), recordings)
     explain(words, inputs, report, is_good)
     return is_good
 

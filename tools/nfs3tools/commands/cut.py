@@ -172,11 +172,6 @@ class Extract(NamedTuple):
     found: list[tuple[Place | None, Place]]
     untrimmed: list[int]
 
-    @property
-    def number(self) -> int:
-        """How many records can be read."""
-        return sum(there is not None for there, _ in self.found)
-
 
 @contextlib.contextmanager
 def read_twice(recording: str) -> Iterator[str]:
@@ -190,25 +185,21 @@ def read_twice(recording: str) -> Iterator[str]:
 
 def write_recording(program: str, taken: Taken, cuts: list[Cut], recording: str, out: str,
                     inputs: list[str]) -> tuple[list[str], int]:
-    """Writes OUT as a recording, and returns what is printed of it, and the status. The frames of
-    SYN are left out if the records are so far behind them that they can be read only without."""
+    """Writes OUT as a recording, and returns what is printed of it, and the status."""
     records = [Place(cut.connection.number, side, record) for cut in cuts for side in SIDES
                for record in cut.records[side]]
     frames = {frame.number for place in records for frame in taken.frames(place)}
     opening = {number for cut in cuts for number in cut.connection.opened_by}
-    wanted = bytes_by_frame(taken, records)
-    extracts = (extract_of(program, *trimmed(frames_of(recording, some), wanted), cuts, out)
-                for some in (frames | opening, frames))
-    extract = next(extracts)
-    if extract.number < len(records):
-        extract = max(extract, next(extracts), key=lambda one: one.number)
+    some = trimmed(frames_of(recording, frames | opening), bytes_by_frame(taken, records))
+    extract = extract_of(program, *some, cuts, out)
     write_file(out, [extract.content], inputs)
     lines = [record_line(taken, there, here) for there, here in extract.found]
     lines += [f'connection {verdict.connection}: {verdict.message}'
               for verdict in extract.verdicts if verdict.connection is not None]
     lines += [f'frame {number} cannot be trimmed to these records, and a dissector may not find '
               'them' for number in extract.untrimmed]
-    status = ABSENT if extract.untrimmed or extract.number < len(records) else 0
+    lacks = any(there is None for there, _ in extract.found)
+    status = ABSENT if extract.untrimmed or lacks else 0
     return [*map(printable, lines), sums_of(extract.verdicts)], status
 
 
@@ -251,8 +242,8 @@ def places_in(extract: Taken, cut: Cut) -> Iterator[tuple[Place | None, Place]]:
 def record_line(taken: Taken, place: Place | None, old: Place) -> str:
     """The line of a record, which says where it was."""
     frames = [str(frame.number) for frame in taken.frames(old)]
-    told = f', {plural(len(frames), "frame", "frames")} {", ".join(frames)}' if frames else ''
-    return f'{place or "it cannot be read there"}: {old}{told}'
+    told = f' ({plural(len(frames), "frame", "frames")} {", ".join(frames)})' if frames else ''
+    return f'{place.brief if place else "it cannot be read there,"} was {old.brief}{told}'
 
 
 command = command_of(__name__, 'cut', main)

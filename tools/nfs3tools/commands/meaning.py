@@ -1,12 +1,12 @@
 """Finds what calls and replies say against each other: valid bytes that are wrong answers.
 
     tools/meaning [--all] [--rule NAME,..] [--notes] [--json | --csv] [--junit FILE] [--html FILE]
-                  [--accept FILE] RECORDING|CAPTURE ..
+                  [--known FILE] [--known-new FILE] RECORDING|CAPTURE ..
     tools/meaning --explain RULE
 
 The manual page, tools/man/meaning.1, has the rest.
 
-The status is 0 if that of tools/verdicts is and nothing was found but notes and what is accepted, 1
+The status is 0 if that of tools/verdicts is and nothing was found but notes and what is known, 1
 if not, 2 and 3 as there. --json and --csv print all findings for programs, --junit writes a case
 for each rule and server, and --html a page for a browser.
 """
@@ -14,7 +14,6 @@ from __future__ import annotations
 
 import argparse
 import contextlib
-import difflib
 import json
 import os
 import sys
@@ -23,21 +22,20 @@ from collections.abc import Iterator, Sequence
 from dataclasses import dataclass, field
 from functools import partial
 from html import escape
-from itertools import chain, islice
-from typing import NamedTuple
+from itertools import chain
 
-from ..comparison.verdict.accepted import refusal
 from ..exchanges.in_words import short
 from ..exchanges.kept import Kept, call_text
-from ..exchanges.whose import ANY
+from ..judgement.known import ANY_OFTEN, KnownLine, add_known, file_of_known, known_line
 from ..judgement.verdict import (
     Verdict, counts_after, kept_in, status_of, sums_of, verdict_members)
 from ..meaning.across import findings_in
 from ..meaning.recorded import Recorded
-from ..meaning.rules import CLIENT, NOTE, RULES, SECTIONS, Looked, RuleFinding
+from ..meaning.rules import CLIENT, ITEMS, NOTE, RULES, SECTIONS, Looked, RuleFinding
 from ..pages import markup
 from ..pages.judged import (
-    BAD, PARTIAL, Seen, ShownTable, headline_of, judged_page, of_table, row_of_cells, table_of)
+    BAD, PARTIAL, Headline, Seen, ShownTable, headline_of, judged_page, of_table,
+    row_of_cells, shown_messages, table_of)
 from ..recordings.parts import Part, files_in
 from ..recordings.selection import count
 from ..recordings.taken import Taken
@@ -46,32 +44,26 @@ from ..reporting.messages import add_recordings, allowed_of, command_of, parser_
 from ..reporting.rows import add_forms, form_of
 from ..shared.names import as_called
 from ..shared.outputs import Refused, is_read_from, writing
-from ..shared.printed import escaped, printable
+from ..shared.places import Place
+from ..shared.printed import escaped, near, printable
 from ..shared.screens import Colour, Screen, Styled, screen_of, table_lines
 from .calls import call_time, tell_verdicts
 from .verdicts import judge_of
 
-FINDINGS_VERSION, ACCEPTED_RULES_VERSION = 2, 1
+FINDINGS_VERSION = 2
 FINDING_COLUMNS = ('recording', 'rule', 'section', 'by', 'client', 'server', 'connection', 'record',
                    'reply_record', 'frame', 'time_ns', 'procedure', 'path', 'text',
                    'against_record', 'against_frame', 'accepted')
-ACCEPTED, FINDING = 'accepted', 'finding'
-RuleAndServer = tuple[str, str]  # a rule and a server, either of which may be any
+KNOWN, FINDING = 'known', 'finding'
 FINDING_HEADS = ('rule', 'section', 'by', 'server', 'found', 'first')
 FINDING_NUMBERS = range(4, 5)  # columns that are set to the right
-SHOWN_FINDINGS = 200  # of a recording
-LIKENESS = 0.4  # how much of a word is that of one near it
-
-
-class AcceptedRules(NamedTuple):
-    path: str = ''
-    entries: Sequence[RuleAndServer] = ()
+SHOWN_FINDINGS = 50  # of a recording, with their messages
 
 
 @dataclass
 class FindingRow:
     """How often exchanges with a server break a rule in a recording, by which sections, whether
-    that is accepted, and the first of them in words."""
+    that is known, and the first of them in words."""
     recording: str
     rule: str
     by: str
@@ -88,27 +80,27 @@ class FindingRow:
     @property
     def cells(self) -> tuple[str, ...]:
         """The cells below FINDING_HEADS."""
-        accepted = ' accepted' if self.kind == ACCEPTED else ''
-        return (self.rule, self.section, self.by, self.server or '-', f'{self.found:,}{accepted}',
+        known = ' known' if self.kind == KNOWN else ''
+        return (self.rule, self.section, self.by, self.server or '-', f'{self.found:,}{known}',
                 self.first)
 
     @property
     def kind(self) -> str:
         """What these are: a finding alone changes the status."""
-        return NOTE if self.by == NOTE else ACCEPTED if self.accepted else FINDING
-
-    def fits(self, entry: RuleAndServer) -> bool:
-        return entry[0] in (ANY, self.rule) and entry[1] in (ANY, self.server)
+        return NOTE if self.by == NOTE else KNOWN if self.accepted else FINDING
 
 
 class RecordingFindings:
     """The findings of a recording, by the rules that are wanted. Calls are in a temporary file."""
 
-    def __init__(self, recording: str, chosen: argparse.Namespace, looked: Looked) -> None:
-        self.recording, self.chosen, self.looked = escaped(recording), chosen, looked
+    def __init__(self, recording: str, told: FindingsReport) -> None:
+        self.name, self.recording, self.told = recording, escaped(recording), told
+        self.chosen, self.looked = told.chosen, told.looked
+        self.looked_before = told.looked.exchanges
         self.kept, self.parts = Kept(), list[Part]()
-        self.rows = dict[tuple[str, str, str], FindingRow]()
+        self.rows = dict[tuple[str, str, str, bool], FindingRow]()
         self.all = list[tuple[RuleFinding, FindingRow]]()
+        self.articles = list[str]()
 
     def close(self) -> None:
         self.kept.close()
@@ -124,13 +116,22 @@ class RecordingFindings:
                 row.found += 1
                 self.all.append((finding, row))
         self.all.sort(key=lambda one: self.kept.times[one[0].number])
+        if self.chosen.html:
+            shown = [(one, row) for one, row in self.all if row.kind != NOTE]
+            self.articles += [''.join(self.article(taken, number, *one)) for number, one in
+                              enumerate(shown[:SHOWN_FINDINGS], len(self.told.articles) + 1)]
+            self.articles += ['<p>More findings are in the output of <code>--all</code>.</p>'
+                              ] * (len(shown) > SHOWN_FINDINGS)
 
     def row_of(self, finding: RuleFinding) -> FindingRow:
         rule, one = RULES[finding.rule], self.kept.exchange(finding.number)
-        key = rule.name, finding.by or rule.by, one.part.server
+        by = finding.by or rule.by
+        line = printable(f'{rule.name} {one.part.server or "-"}: {call_text(one)}')
+        if by != NOTE:
+            self.told.lines_of_known.append(line)
+        key = rule.name, by, one.part.server, by != NOTE and self.chosen.known.take(line)
         if key not in self.rows:
-            row = self.rows[key] = FindingRow(self.recording, *key, False, self.words(finding))
-            row.accepted = any(map(row.fits, self.chosen.accept.entries))
+            self.rows[key] = FindingRow(self.recording, *key, self.words(finding))
         self.rows[key].sections[rule.section(short(one.procedure))] = None
         return self.rows[key]
 
@@ -141,8 +142,13 @@ class RecordingFindings:
 
     def words(self, finding: RuleFinding) -> str:
         one = self.kept.exchange(finding.number)
-        frame = f'frame {self.frame(finding)}' if one.frame else f'{one.part.number}:{one.record}'
-        return printable(f'{frame}: {call_text(one)}: {finding.text}')
+        where = f'frame {self.frame(finding)}' if one.frame else self.position(one.at)
+        return printable(f'{where}: {call_text(one)}: {finding.text}')
+
+    def position(self, at: int) -> str:
+        """Returns the position of a call, and its frame if it is known."""
+        frame = self.kept.frames[at]
+        return f'{self.kept.position(at)}' + (f' frame {frame}' if frame else '')
 
     def values(self) -> Iterator[Sequence[object]]:
         """Iterates over the values of FINDING_COLUMNS of all findings, by time."""
@@ -162,7 +168,7 @@ class RecordingFindings:
         if len(self.chosen.recordings) > 1:
             print(f'{self.recording}:')
         if rows and not self.chosen.all:
-            # (red is what is wrong, yellow a note, and what is accepted)
+            # (red is what is wrong, yellow a note, and what is known)
             cells = (Styled(row.cells, Colour.RED if row.kind == FINDING else Colour.YELLOW)
                      for row in rows)
             print(*table_lines([Styled(FINDING_HEADS), *cells], screen), sep='\n')
@@ -171,20 +177,38 @@ class RecordingFindings:
                 time = call_time(self.kept.times[one.number], self.kept.begun)
                 print(f'{time}  {one.rule}  {self.words(one)}')
 
-    def articles(self) -> Iterator[str]:
-        """What a page says of each finding, up to some: its frames, its words, and its rule."""
+    def article(self, taken: Taken, number: int, finding: RuleFinding,
+                row: FindingRow) -> Iterator[str]:
+        """What a page says of a finding: in words, the messages that show it with their bytes, its
+        rule, and what to type next."""
+        one, source = self.kept.exchange(finding.number), finding.source
         name = f' {escape(self.recording)}' if len(self.chosen.recordings) > 1 else ''
-        shown = ((one, row) for one, row in self.all if row.kind != NOTE)
-        for number, (one, row) in enumerate(islice(shown, SHOWN_FINDINGS), 1):
-            frames = [self.frame(one), *([one.source.frame] if one.source else [])]
-            filters = markup.filters(self.parts, sorted(filter(None, frames)))
-            look = BAD if row.kind == FINDING else PARTIAL
-            yield f'<article><h3>{number} {one.rule}{name}</h3>'
-            yield f'<p class={look}>{escape(self.words(one))}{filters}</p>'
-            yield from markup.folded('others', 'the rule', markup.paragraphs(explained(one.rule)))
-            yield '</article>'
-        if len(self.all) > SHOWN_FINDINGS:
-            yield '<p>More findings are in the output of <code>--all</code>.</p>'
+        frames = [self.frame(finding), *([source.frame] if source else [])]
+        filters = markup.filters(self.parts, sorted({*filter(None, frames)}))
+        look = BAD if row.kind == FINDING else PARTIAL
+        yield f'<article id=f{number}><h3><a href=#f{number}>{number}</a> {row.rule}{name}</h3>'
+        yield f'<p class={look}>{escape(self.words(finding))}{filters}</p>'
+        section = RULES[row.rule].section(short(one.procedure))
+        client, server = (escape(end or '-') for end in (one.part.client, one.part.server))
+        yield (f'<p class=quiet>RFC 1813, {section}; broken by the {row.by}; client {client}, '
+               f'server {server}</p>')
+        is_call = row.by == CLIENT or not one.answered
+        place = self.place(finding.number, is_call)
+        other = source and self.place(source.number,
+                                      source.frame == self.kept.frames[source.number])
+        place, pieces = shown_messages(taken, ITEMS.get(row.rule, ()), place, other)
+        yield from pieces
+        yield from markup.folded('others', 'the rule and its likely cause',
+                                 markup.paragraphs(explained(row.rule)[:2]))
+        commands = markup.next_commands(self.name, place.brief, one.frame > 0)
+        yield f'{markup.commands(commands)}</article>'
+
+    def place(self, at: int, is_call: bool) -> Place:
+        """Returns where the call of an exchange is, or its first reply."""
+        number, replies = self.kept.parts[self.kept.part_of[at]].number, self.kept.replies_of(at)
+        if is_call or not replies:
+            return Place(number, 'client', self.kept.records[at])
+        return Place(number, 'server', self.kept.reply_records[replies[0]])
 
 
 class FindingsReport:
@@ -193,7 +217,16 @@ class FindingsReport:
     def __init__(self, chosen: argparse.Namespace) -> None:
         self.chosen, self.looked = chosen, Looked()
         self.rows, self.articles = list[FindingRow](), list[str]()
+        self.lines_of_known = list[str]()  # of all findings
         self.seen, self.verdicts = list[Seen](), list[Verdict]()
+
+    def add(self, found: RecordingFindings, verdicts: list[Verdict]) -> None:
+        """Adds what is found in a recording, with the verdicts on it."""
+        self.verdicts += verdicts
+        self.seen.append(Seen(found.name, verdicts))
+        self.rows += found.rows.values()
+        if self.chosen.html:
+            self.articles += found.articles
 
     @property
     def status(self) -> int:
@@ -203,7 +236,7 @@ class FindingsReport:
         return status_of(self.verdicts, allowed_of(self.chosen))
 
     def numbers(self) -> Counter[str]:
-        """Returns how many findings, notes and accepted findings there are."""
+        """Returns how many findings, notes and known findings there are."""
         numbers = Counter[str]()
         for row in self.rows:
             numbers[row.kind] += row.found
@@ -219,14 +252,13 @@ class FindingsReport:
                 **verdict_members(self.verdicts)}
 
     def no_longer_found(self) -> list[str]:
-        return [printable(f'no longer found: {" ".join(entry)}')
-                for entry in self.chosen.accept.entries
-                if not any(row.fits(entry) for row in self.rows)]
+        return [printable(f'no longer found: {line}')
+                for line in self.chosen.known.no_longer_found()]
 
     def lines(self) -> list[str]:
         """What is no longer found, the numbers of findings, what was looked at, and the counts."""
         numbers = self.numbers()
-        taken = f', {numbers[ACCEPTED]:,} accepted' if self.chosen.accept.path else ''
+        taken = f', {numbers[KNOWN]:,} known' if self.chosen.known.path else ''
         return [*self.no_longer_found(),
                 f'{count(numbers[FINDING], FINDING)} by {self.rules()}, '
                 f'{count(numbers[NOTE], NOTE)}{taken}; looked at:',
@@ -238,14 +270,9 @@ def print_all(told: FindingsReport) -> None:
     chosen, judge, screen = told.chosen, judge_of(told.chosen), screen_of(told.chosen.color)
     form = form_of(chosen, FINDINGS_VERSION, 'findings', FINDING_COLUMNS)
     for recording in chosen.recordings:
-        found = RecordingFindings(recording, chosen, told.looked)
+        found = RecordingFindings(recording, told)
         with contextlib.closing(found):
-            verdicts = judge.verdicts(recording, partial(found.take, judge.program))
-            told.verdicts += verdicts
-            told.seen.append(Seen(recording, verdicts))
-            told.rows += found.rows.values()
-            if chosen.html:
-                told.articles += found.articles()
+            told.add(found, judge.verdicts(recording, partial(found.take, judge.program)))
             if form:
                 form.add(found.values())
             else:
@@ -270,8 +297,8 @@ def junit_of_findings(told: FindingsReport) -> Iterator[bytes]:
     yield suite.written(('tests', 'failures'))
 
 
-def findings_page(told: FindingsReport) -> Iterator[bytes]:
-    """The page of the findings, with the status of the command: green if something was asked."""
+def headline_of_findings(told: FindingsReport) -> Headline:
+    """Returns what was found, with the status of the command: green if something was asked."""
     numbers, allowed = told.numbers(), allowed_of(told.chosen)
     headline = (headline_of(told.seen, allowed, 'No answer is known to be wrong', 'same')
                 if told.looked.exchanges else
@@ -279,11 +306,16 @@ def findings_page(told: FindingsReport) -> Iterator[bytes]:
     if numbers[FINDING]:
         are = {row.by for row in told.rows if row.kind == FINDING}
         what = count(numbers[FINDING], 'message' if CLIENT in are else 'answer')
+        refused = f'{headline.words}, and ' if headline.look == 'differ' else ''
         headline = headline._replace(look='differ', status=told.status,
-                                     words=f'{what} by {told.rules()} cannot be right')
-    headline = headline._replace(counts=[
-        (numbers[kind], kind if kind == ACCEPTED else f'{kind}s', look)
-        for kind, look in ((FINDING, BAD), (ACCEPTED, PARTIAL), (NOTE, PARTIAL))])
+                                     words=f'{refused}{what} by {told.rules()} cannot be right')
+    return headline._replace(counts=[
+        (numbers[kind], kind if kind == KNOWN else f'{kind}s', look)
+        for kind, look in ((FINDING, BAD), (KNOWN, PARTIAL), (NOTE, PARTIAL))])
+
+
+def findings_page(told: FindingsReport) -> Iterator[bytes]:
+    """The page of the findings."""
     names = dict.fromkeys(row.recording for row in told.rows)
     tables = [ShownTable(name if len(told.seen) > 1 else 'Findings', FINDING_HEADS, [
         row_of_cells(row.cells, FINDING_NUMBERS, FINDING_HEADS,
@@ -292,8 +324,9 @@ def findings_page(told: FindingsReport) -> Iterator[bytes]:
     looked = markup.section('Looked at', markup.paragraphs(
         [*told.no_longer_found(), *told.looked.lines()]))
     each = markup.section('Each finding', told.articles) if told.articles else ()
-    last = chain(looked, each, [of_table(table_of(told.seen), 'h2')])
-    return judged_page(told.seen, allowed, tables, headline=headline, last=last)
+    last = chain(each, looked, [of_table(table_of(told.seen), 'h2')])
+    return judged_page(told.seen, allowed_of(told.chosen), tables,
+                       headline=headline_of_findings(told), last=last)
 
 
 # --- The command ---
@@ -306,25 +339,18 @@ def rule_names(word: str) -> frozenset[str]:
 def rule_name(name: str) -> str:
     """The name of a rule. Raises `ArgumentTypeError` for any other, with those that are near."""
     if name not in RULES:
-        near = difflib.get_close_matches(name, RULES, cutoff=LIKENESS)
-        meant = f'; near it: {", ".join(near)}' if near else ', see the manual page'
+        meant = near(name, RULES) or ', see the manual page'
         raise argparse.ArgumentTypeError(f'no rule: {name}{meant}')
     return name
 
 
-def accepted_rules(path: str) -> AcceptedRules:
-    """Reads a file of accepted findings. Raises `ArgumentTypeError` if it is none."""
-    try:
-        with open(path, 'rb') as file:
-            whole = json.loads(file.read())
-        entries = [(entry['rule'], entry['server']) for entry in whole['accepted']]
-        several = [{'rule': rule, 'server': server} for rule, server in entries]
-        assert whole == {'version': ACCEPTED_RULES_VERSION, 'accepted': several}
-        assert all(rule in (ANY, *RULES) and isinstance(server, str) for rule, server in entries)
-        return AcceptedRules(path, entries)
-    except (ValueError, KeyError, TypeError, AssertionError, RecursionError):
-        raise refusal(path, f'it needs an object with "version": {ACCEPTED_RULES_VERSION} and a '
-                            'list "accepted" of objects with a rule and a server') from None
+def older_rules(content: bytes) -> list[KnownLine]:
+    """Reads a file of `--accept` of before 0.2.0: rules and servers, either of which may be any."""
+    whole = json.loads(content)
+    entries = [(entry['rule'], entry['server']) for entry in whole['accepted']]
+    assert whole['version'] == 1 and all(rule in ('*', *RULES) for rule, _ in entries)
+    return [known_line(f'{rule} {server}: *')._replace(text=f'{rule} {server}', often=ANY_OFTEN)
+            for rule, server in entries]
 
 
 def explained(name: str) -> list[str]:
@@ -346,9 +372,7 @@ def command_line_of_meaning(words: list[str]) -> argparse.Namespace:
     parser.add_argument('--notes', action='store_true', help='prints notes as well')
     parser.add_argument('--explain', metavar='RULE', type=rule_name,
                         help='says what a rule is, and what may be the cause')
-    parser.add_argument('--accept', metavar='FILE', type=accepted_rules,
-                        default=AcceptedRules(),
-                        help='takes the findings that a file accepts')
+    add_known(parser, older_rules)
     parser.add_argument('--junit', metavar='FILE', help='writes JUnit XML')
     parser.add_argument('--html', metavar='FILE', help='writes a page for a browser')
     add_forms(parser)
@@ -364,12 +388,13 @@ def main(words: list[str]) -> int:
     if chosen.explain:
         print(*explained(chosen.explain), sep='\n')
         return 0
-    told, accepted = FindingsReport(chosen), chosen.accept.path
-    inputs = [*files_in(chosen.recordings), *([accepted] if accepted else [])]
-    if accepted and is_read_from(accepted, os.fstat(1)):
-        raise Refused(f'{escaped(accepted)} is an input, and is not written')
+    told, known = FindingsReport(chosen), chosen.known.path
+    inputs = [*files_in(chosen.recordings), *([known] if known else [])]
+    if known and is_read_from(known, os.fstat(1)):
+        raise Refused(f'{escaped(known)} is an input, and is not written')
     with writing(inputs, (chosen.junit, lambda: junit_of_findings(told)),
-                 (chosen.html, lambda: findings_page(told))):
+                 (chosen.html, lambda: findings_page(told)),
+                 (chosen.known_new, lambda: file_of_known(told.lines_of_known))):
         print_all(told)
     return told.status
 

@@ -1,7 +1,7 @@
 """Judges each connection of recordings and captures by itself.
 
     tools/verdicts [-q] [--color WHEN] [--junit FILE] [--json FILE] [--html FILE] [-j N]
-                   RECORDING|CAPTURE ..
+                   [--known FILE] [--known-new FILE] RECORDING|CAPTURE ..
 
 The manual page, tools/man/verdicts.1, has the rest.
 
@@ -23,6 +23,7 @@ from functools import partial
 from xml.etree.ElementTree import SubElement
 
 from ..exchanges.kept import host_of
+from ..judgement.known import Known, add_known, file_of_known
 from ..judgement.unanswered import Unanswered
 from ..judgement.verdict import (
     COVERED, VERDICTS_VERSION, VERDICT_HEADS, Verdict, colour_of, counts_after, error_verdict,
@@ -31,7 +32,7 @@ from ..judgement.verdict import (
 from ..pages.judged import Seen, judged_page, seen_in, table_of, verdicts_in
 from ..recordings.coverage import Allowed, Covered, named_calls
 from ..recordings.parts import files_in, files_of
-from ..recordings.selection import Options
+from ..recordings.selection import Options, count
 from ..recordings.taken import NotTaken, Taken, take
 from ..reporting.junit import Suite
 from ..reporting.messages import (
@@ -97,8 +98,19 @@ class Judge(typing.NamedTuple):
         elif taken.damage:
             verdicts.append(error_verdict(recording, taken.damage))
         elif not taken.connections and taken.is_recording:
-            verdicts.append(error_verdict(recording, taken.nothing))
+            verdicts.append(error_verdict(recording, self.nothing_in(recording, taken)))
         return [Verdict(recording, 'note', said=note) for note in taken.notes] + verdicts
+
+    def nothing_in(self, recording: str, taken: Taken) -> str:
+        """Returns why there is no connection: if ports were chosen, which ones there are."""
+        if not self.options.ports or not all(map(os.path.isfile, files_of(recording))):
+            return taken.nothing
+        with take(recording, self.options._replace(ports=frozenset())) as whole:
+            ends = [one.ends for one in whole.covered() if one.ends]
+            ports = sorted({one.server_port or 0 for one in whole.connections})
+        none, known = ', '.join(map(str, sorted(self.options.ports))), ', '.join(map(str, ports))
+        there = f'; servers have {known}' if ports else ''
+        return f'none of {count(len(ends), "connection")} has port {none}{there}'
 
     def of_container(self, recording: str, others: list[Verdict]) -> list[Verdict]:
         """The verdict on a capture that is not whole, unless one of its connections has it."""
@@ -138,6 +150,7 @@ def main(words: list[str]) -> int:
     parser.add_argument('--growing', action='store_true',
                         help='takes a recording that ends inside a frame or a record as one that '
                              'is still made')
+    add_known(parser)
     add_recordings(parser)
     return judged_all(parser.parse_args(words))
 
@@ -147,7 +160,9 @@ def judged_all(chosen: argparse.Namespace) -> int:
     recordings_at_once = chosen.j or os.cpu_count() or 1
     at_once = max(1, min(CONNECTIONS_AT_ONCE, recordings_at_once // len(chosen.recordings)))
     allowed, inputs = allowed_of(chosen), files_in(chosen.recordings)
-    with writing(inputs, (chosen.junit, lambda: [junit_of_verdicts(verdicts, allowed)]),
+    inputs += [*filter(None, [chosen.known.path])]
+    with writing(inputs, (chosen.known_new, lambda: file_of_known(lines)),
+                 (chosen.junit, lambda: [junit_of_verdicts(verdicts, allowed)]),
                  (chosen.json, lambda: [json_of_verdicts(verdicts)]),
                  (chosen.html, lambda: judged_page(seen, allowed, [table_of(seen)]))):
         options = options_of(chosen)._replace(is_growing=chosen.growing)
@@ -158,8 +173,11 @@ def judged_all(chosen: argparse.Namespace) -> int:
         except concurrent.futures.BrokenExecutor as broken:
             raise OSError('a process that judged a recording was killed, as when memory runs '
                           'out') from broken
+        lines = [verdict.line for verdict in verdicts_in(seen) if is_row(verdict, is_quiet=True)]
+        seen = [with_known(one, chosen.known) for one in seen] if chosen.known.path else seen
         verdicts = verdicts_in(seen)
-        print_verdicts(verdicts, chosen.quiet, screen_of(chosen.color))
+        print_verdicts(verdicts, chosen.quiet, screen_of(chosen.color),
+                       chosen.known.no_longer_found())
     return status_of(verdicts, allowed)
 
 
@@ -188,13 +206,24 @@ def leave_interrupts() -> None:
     signal.signal(signal.SIGTERM, signal.SIG_DFL)
 
 
-def print_verdicts(verdicts: list[Verdict], is_quiet: bool, screen: Screen) -> None:
-    """Prints a row for each verdict; notes, and connections that show no call, go elsewhere."""
+def with_known(seen: Seen, known: Known) -> Seen:
+    """Returns a recording whose verdicts are known, or not, by a file."""
+    return seen._replace(verdicts=[
+        verdict._replace(is_known=is_row(verdict, is_quiet=True) and known.take(verdict.line))
+        for verdict in seen.verdicts])
+
+
+def print_verdicts(verdicts: list[Verdict], is_quiet: bool, screen: Screen,
+                   no_longer_found: typing.Sequence[str]) -> None:
+    """Prints a row for each verdict; notes, and connections that show no call, go elsewhere. Then
+    what is no longer found of what is known."""
     tell_notes(verdicts)
     rows = [Styled(verdict_row(verdict, verdict.message, screen), colour_of(verdict))
             for verdict in verdicts if is_row(verdict, is_quiet)]
     for line in table_lines([*([] if is_quiet else [Styled(VERDICT_HEADS)]), *rows], screen):
         print(line)
+    for line in no_longer_found:
+        print(printable(f'no longer found: {line}'))
     print(sums_of(verdicts))
 
 

@@ -1,21 +1,22 @@
 """How often each procedure was called in a connection, how that ended, how many bytes it took, and
-how long: sums over the exchanges that are kept of it.
+how long: sums over the exchanges that are kept of it. They may be by user, client or path, too.
 """
 from __future__ import annotations
 
 import math
 from array import array
 from collections import Counter
-from collections.abc import Iterable
+from collections.abc import Callable, Iterable
 from dataclasses import dataclass, field
 from typing import NamedTuple
 
-from ..exchanges.kept import UNTIMED, Kept
+from ..exchanges.kept import UNTIMED, Kept, KeptExchange, host_of
 from ..shared.layouts import BY_NAME
 from ..shared.screens import Screen
 from .window import ALL, TimeWindow
 
 NANOSECONDS_OF_A_MILLISECOND = 1_000_000
+BY_PROCEDURE = 'procedure'
 
 
 class Longest(NamedTuple):
@@ -107,12 +108,24 @@ def milliseconds(rank: int | None, screen: Screen = Screen()) -> str:
     return f'{number:.3f}' if screen.width is None else f'{number:,.3f}'
 
 
-def tallies_of(kept: Kept, recording: str, number: int, window: TimeWindow = ALL) -> Tallies:
+# By what exchanges may be counted other than by procedure.
+GROUPINGS: dict[str, Callable[[KeptExchange], str]] = {
+    'user': lambda one: '-' if one.asked.user is None else str(one.asked.user),
+    'client': lambda one: host_of(one.part.client) or '-', 'path': lambda one: one.path or '-'}
+
+
+def who_of(one: KeptExchange) -> str:
+    """Returns the user and the client of a call, as `1000@192.0.2.7`."""
+    return '@'.join(filter(None, [GROUPINGS['user'](one), host_of(one.part.client)]))
+
+
+def tallies_of(kept: Kept, recording: str, number: int, window: TimeWindow = ALL,
+               group: str = BY_PROCEDURE) -> Tallies:
     """Counts the exchanges in a window of a connection, by its place among those that are kept."""
     tallies: Tallies = {}
-    own: Iterable[int] = kept.exchanges_of(number)
+    own, name_of = kept.exchanges_of(number), GROUPINGS.get(group)
     for at in own if window == ALL else (at for at in own if window.has(kept.times[at])):
-        name = kept.names[kept.kinds[at]]
+        name = name_of(kept.exchange(at)) if name_of else kept.names[kept.kinds[at]]
         count_exchange(kept, at, tallies.get(name) or tallies.setdefault(name, Tally()), recording)
     return tallies
 

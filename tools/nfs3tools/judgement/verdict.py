@@ -8,7 +8,7 @@ import typing
 from collections import Counter
 from collections.abc import Iterable, Mapping, Sequence
 
-from ..exchanges.kept import Kept
+from ..exchanges.kept import Kept, host_of
 from ..recordings.coverage import Allowed, Counts, Covered, counts_of
 from ..recordings.selection import BEGUN_BEFORE, count
 from ..recordings.taken import FrameRef, Taken, TakenConnection
@@ -33,6 +33,7 @@ class Verdict(typing.NamedTuple):
     fault, frames: where and why the program refuses it, and the frames of that place
     said: what could not be read, or the note
     unanswered: its calls without a reply, if it is not refused
+    is_known: whether it is known by a file, and does not count for the status; `None` without one
     """
     recording: str
     state: State = 'ok'
@@ -48,6 +49,7 @@ class Verdict(typing.NamedTuple):
     unanswered: int = 0
     notes: Sequence[str] = ()
     seconds: float = 0.0
+    is_known: bool | None = None
 
     @property
     def connection(self) -> int | None:
@@ -85,12 +87,19 @@ class Verdict(typing.NamedTuple):
 
     @property
     def message(self) -> str:
-        return 'ok ' * self.is_ok_in_part + self.told
+        return 'ok ' * self.is_ok_in_part + self.told + ', known' * bool(self.is_known)
+
+    @property
+    def line(self) -> str:
+        """The same for a file of known findings: without frames, and the ports of clients."""
+        told = f'{self.position}: {self.fault.reason}' if self.fault else self.told
+        ends = f'{host_of(self.client)} to {self.server}: ' if self.client else ''
+        return printable(ends + told)
 
     def is_good(self, allowed: Allowed) -> bool:
         """Whether the status may be 0 beside it."""
-        return (self.covered.is_good(allowed) if self.state in COVERED
-                else self.state in ('ok', 'note'))
+        return self.is_known or (self.covered.is_good(allowed) if self.state in COVERED
+                                 else self.state in ('ok', 'note'))
 
 
 def judged_alone(program: str, recording: str, taken: Taken,
@@ -133,7 +142,9 @@ def status_of(verdicts: Iterable[Verdict], allowed: Allowed) -> int:
 def counts_after(verdicts: Iterable[Verdict]) -> Counts:
     """How many of the verdicts are under each word."""
     several = list(verdicts)
-    return counted_words(several)._replace(unanswered=sum(one.unanswered for one in several))
+    known = [one.is_known for one in several if one.is_known is not None]
+    return counted_words(several)._replace(unanswered=sum(one.unanswered for one in several),
+                                           known=sum(known) if known else None)
 
 
 def counted_words(verdicts: Iterable[Verdict]) -> Counts:
@@ -239,7 +250,8 @@ def colour_of(verdict: Verdict) -> Colour:
     """The colour of a verdict: green for what was judged, and is valid."""
     if verdict.state == 'ok':
         return Colour.GREEN
-    return Colour.RED if verdict.state in ('refused', 'error') else Colour.YELLOW
+    is_wrong = verdict.state in ('refused', 'error') and not verdict.is_known
+    return Colour.RED if is_wrong else Colour.YELLOW
 
 
 def verdict_row(verdict: Verdict, message: str, screen: Screen = Screen()) -> tuple[str, ...]:

@@ -108,6 +108,26 @@ RULES = {row[0]: Rule(*row) for row in (
      'The sizes are set by hand, or are those of another file system.'))}
 
 
+# The items that show it, by rules: names of items of a message.
+COUNT, TIME_ITEMS = ('count',), ('mtime_sec', 'mtime_nsec', 'ctime_sec', 'ctime_nsec')
+ATTRIBUTE_ITEMS = ('size', *TIME_ITEMS, 'mode', 'uid', 'gid', 'nlink')
+ITEMS: dict[str, tuple[str, ...]] = {
+    'read-data': ('data',), 'read-eof': ('eof',), 'write-size': ('size',), 'guard': ('status',),
+    **dict.fromkeys(('read-past-end', 'read-count-data', 'read-count-asked', 'write-count-asked',
+                     'write-count-data', 'write-nothing'), COUNT),
+    'write-committed': ('committed',), 'not-committed': ('stable',), 'access-asked': ('access',),
+    'verifier': ('verf',), 'verifier-back': ('verf',), 'link-nlink': ('nlink',),
+    **dict.fromkeys(('listing', 'entry-names'), ('name',)), 'readlink-text': ('path',),
+    **dict.fromkeys(('name-gone', 'name-there'), ('status',)), 'name-object': ('fileid',),
+    'handle-object': ('type', 'fsid', 'fileid'), 'entry-fileid': ('fileid',),
+    **dict.fromkeys(('same-ctime', 'returns', 'wcc-before', 'set-attributes', 'made-attributes'),
+                    ATTRIBUTE_ITEMS),
+    **dict.fromkeys(('made-type', 'dir-type'), ('type',)), 'mode-bits': ('mode',),
+    'nsec': ('atime_nsec', 'mtime_nsec', 'ctime_nsec'), 'write-ctime': TIME_ITEMS[3:],
+    'entries-size': ('eof',), 'entries-none': ('eof',), 'entry-cookies': ('cookie',),
+    'fsinfo': ('rtpref', 'rtmult', 'wtpref', 'wtmult')}
+
+
 class Evidence(NamedTuple):
     """An exchange that shows something: its number, between which frames it was, the frame that
     shows it, the time of its call, and its procedure."""

@@ -10,7 +10,7 @@ from collections.abc import Iterator, Sequence
 from dataclasses import dataclass
 from functools import cached_property
 from html import escape
-from itertools import chain, starmap, zip_longest
+from itertools import chain, groupby, starmap, zip_longest
 from typing import Optional
 
 from ..comparison.exchanges.explained import RUNS
@@ -200,7 +200,7 @@ class ComparedContent:
                 for both in message_pairs(row)}
 
     def fields(self) -> Iterator[str]:
-        names = ['procedure', 'field', 'path', 'how often']
+        names = ['procedure', 'fields, and how often', 'path']
         if self.groups:
             yield from markup.section('What differs', markup.table(names, self.rows_of_fields()))
 
@@ -213,17 +213,21 @@ class ComparedContent:
         return out
 
     def rows_of_fields(self) -> Iterator[str]:
-        before = ''
-        for (procedure, field), some in sorted(
-                self.where().items(), key=lambda item: (item[0][0], -len(item[1]), item[0][1])):
-            first, paths = some[0][0], {path for _, path in some if path}
-            often = (f'<a href=#f{first}>{len(some):,}</a>' if first <= len(self.shown)
-                     else f'{len(some):,}')
+        """A row for each procedure, with all its fields in a cell."""
+        every = sorted(self.where().items(),
+                       key=lambda item: (item[0][0], -len(item[1]), item[0][1]))
+        for procedure, some in groupby(every, lambda item: item[0][0]):
+            fields = [*some]
+            paths = {path for _, where in fields for _, path in where if path}
             path = code(min(paths)) if len(paths) == 1 else f'{len(paths):,} paths' if paths else ''
-            same = '' if procedure == before else escape(short(procedure))
-            yield (f'<tr><td>{same}</td><td>{escape(field)}</td><td>{path}</td>'
-                   f'<td class=count>{often}</td></tr>')
-            before = procedure
+            cells = (f'<span>{escape(field)} {self.to_first(where[0][0], len(where))}</span>'
+                     for (_, field), where in fields)
+            yield (f'<tr><td>{escape(short(procedure))}</td><td class=several>'
+                   f'{"".join(cells)}</td><td>{path}</td></tr>')
+
+    def to_first(self, number: int, often: int) -> str:
+        """Returns how often a field differs, as a link to the first finding if it is shown."""
+        return f'<a href=#f{number}>{often:,}</a>' if number <= len(self.shown) else f'{often:,}'
 
     # --- Findings ---
 
@@ -298,10 +302,19 @@ class ComparedContent:
         return form.format(f'<a href=#r{anchor}>{words}</a>') if anchor else otherwise
 
     def silent(self) -> Iterator[str]:
-        """The calls that are left out, by procedures and paths."""
-        lines = list(telling.of_silent(self.compared, OTHERS_AT_MOST))
-        if lines:
-            yield from markup.section('Left out', markup.paragraphs(lines))
+        """The calls that are left out, by reasons, procedures and paths."""
+        groups = sorted(telling.silent_groups(self.compared), key=lambda some: (
+            telling.why_left_out(some[0]), -len(some)))
+        more = len(groups) - OTHERS_AT_MOST
+        rows = (f'<tr><td>{why}</td><td>{short(some[0].message.procedure)}</td><td>'
+                f'{code(some[0].path) if some[0].path else ""}</td><td class=count>{len(some):,}'
+                f'</td><td>{telling.places_text(some[0])}{escape(cause)}</td></tr>'
+                for some in groups[:OTHERS_AT_MOST] for why, cause in [
+                    (telling.why_left_out(some[0]), telling.cause_of_silence(some[0]))])
+        if groups:
+            yield from markup.section('Left out', chain(['<div class=cards>'], markup.table(
+                ('reason', 'procedure', 'path', 'how often', 'first'), rows), ['</div>'],
+                [f'<p>.. and {more:,} more</p>'] * (more > 0)))
         notes = list(telling.of_notes(self.compared, OTHERS_AT_MOST))
         if notes:
             yield from markup.section('Notes', markup.paragraphs(notes))
@@ -350,7 +363,7 @@ class ComparedContent:
             + telling.frames_text(call) for call, number in zip(calls, own) if call)
         yield (f'<details class="row{" told" if mark != "=" else ""}" '
                f'id=r{self.anchors[both_places(*calls)]}>'
-               f'<summary><b class=mark>{mark}</b> {next(filter(None, calls)).procedure}'
+               f'<summary><b class=mark>{mark}</b> {short(next(filter(None, calls)).procedure)}'
                f'{f" {code(row.path)}" if row.path else ""} '
                f'<span class=quiet>{places}</span>{said}</summary>')
         yield from chain.from_iterable(starmap(self.message, messages))

@@ -10,8 +10,9 @@ from html import escape
 from itertools import chain, starmap, zip_longest
 from typing import NamedTuple
 
-from ..captures.explained import tell_record
-from ..captures.located import Within
+from ..captures.explained import (
+    NO_REASON, REASONS, item_of, items_in, tell_record)
+from ..captures.located import FoundRecord, Within
 from ..exchanges.kept import Kept
 from ..judgement.verdict import (
     COVERED, VERDICT_HEADS, Verdict, counts_after, is_row, status_of, subject_of, verdict_notes,
@@ -34,11 +35,22 @@ FAULTS_IN_RECORDING, FAULTS_OF_EACH = 500, 200  # on a page, and of a recording
 LINES_AT_MOST = 200  # of a message
 
 
-class ExplainedFault(NamedTuple):
-    """A verdict that refuses: what `tools/explain` says of its position, and all fields."""
-    verdict: Verdict
+class ExplainedMessage(NamedTuple):
+    """A message: what `tools/explain` says of a position in it, and all its fields."""
     item: list[str]
     message: list[str]
+
+    def pieces(self) -> Iterator[str]:
+        yield markup.block('pre', self.item)
+        if self.message:
+            yield from markup.folded('others', 'all fields of the message',
+                                     [markup.block('pre', self.message)])
+
+
+class ExplainedFault(NamedTuple):
+    """A verdict that refuses, and the message at fault."""
+    verdict: Verdict
+    message: ExplainedMessage
 
 
 class Seen(NamedTuple):
@@ -91,19 +103,23 @@ def judged_page(seen: Sequence[Seen], allowed: Allowed, tables: Sequence[ShownTa
     look, words, status, own = headline or Headline(
         *title_of(counts), status_of(verdicts_in(seen), allowed))
     several = (f'<section>{of_table(table, "h2")}</section>' for table in tables)
-    recordings = (of_recording(one, tables_of, len(names) > 1, headline is None)
-                  for one, tables_of in zip(seen, of_each or [()] * len(names)))
+    recordings = (of_recording(number, one, tables_of, len(names) > 1, headline is None)
+                  for number, (one, tables_of) in enumerate(zip(
+                      seen, of_each or [()] * len(names)), 1))
     notes = [line for verdict in verdicts_in(seen) for line in verdict_notes(verdict)]
     return markup.whole_page(f'{words}: {names[0]}{more}', look, words, chain(
         [FORMS], of_counts(counts, own, headline is None), of_status(counts, status, allowed),
-        [markup.bar('fault', 'row')], several, last, of_faults(seen),
-        chain.from_iterable(recordings),
+        [markup.bar('finding' if headline else 'fault', 'row')], several, last,
+        of_faults(seen), chain.from_iterable(recordings),
         markup.section('Notes', markup.paragraphs(notes)) if notes else ()))
 
 
 def title_of(counts: Counts) -> tuple[str, str]:
     """Returns how the heading looks, and what it says: that all is valid only if all was judged."""
     lacking = counts.in_part + counts.left_out + counts.not_checked
+    if counts.known and counts.known == counts.refused + counts.errors + (
+            lacking - counts.without_calls):
+        return 'part', f'Nothing is wrong but {count(counts.known, "known finding")}'
     if counts.refused:
         connections, are = count(counts.judged, 'connection'), plural(counts.refused, 'is', 'are')
         return 'differ', f'{counts.refused:,} of {connections} {are} refused'
@@ -135,6 +151,8 @@ def of_counts(counts: Counts, own: Sequence[tuple[int, str, str]] = (),
     if counts.unanswered:
         calls = plural(counts.unanswered, 'call', 'calls')
         shown.append((counts.unanswered, f'{calls} without a reply', PARTIAL))
+    if counts.known is not None:
+        shown.append((counts.known, 'known', PARTIAL))
     yield '<ul class=counts>'
     yield from (f'<li{class_of(one) if number else ""}><b>{number:,}</b> {words}</li>'
                 for number, words, one in shown)
@@ -182,13 +200,17 @@ def table_of(seen: Sequence[Seen]) -> ShownTable:
     """The table of `tools/verdicts`, whose faults lead to what is said of them. What is refused or
     could not be read comes first, and what is ok is folded."""
     verdicts = [*filter(is_row, verdicts_in(seen))]
-    links = {id(fault.verdict): f'#f{number}' for number, fault, _ in numbered_faults(seen)}
+    links = {(fault.verdict.recording, fault.verdict.connection): f'#f{number}'
+             for number, fault, _ in numbered_faults(seen)}
 
     def rows(some: Iterable[Verdict]) -> list[str]:
         # (a verdict is green only if calls were checked)
         return [row_of_cells(verdict_row(verdict, said_of(verdict)), range(4, 6), VERDICT_HEADS,
+                             PARTIAL if verdict.is_known else
                              '' if verdict.state == 'ok' and is_raw(verdict)
-                             else LOOKS[verdict.state], links.get(id(verdict), ''))
+                             else LOOKS[verdict.state],
+                             links.get((verdict.recording, verdict.connection), '')
+                             if verdict.state == 'refused' else '')
                 for verdict in some]
     wrong = sorted((verdict for verdict in verdicts if verdict.state != 'ok'),
                    key=lambda verdict: LOOKS[verdict.state] != BAD)
@@ -204,7 +226,7 @@ def is_raw(verdict: Verdict) -> bool:
 def said_of(verdict: Verdict) -> str:
     """Returns the words of a verdict. Nothing in part, or not checked, is called ok."""
     if verdict.state != 'ok':
-        return verdict.told
+        return verdict.told + ', known' * bool(verdict.is_known)
     raw = f'{named_calls(verdict.raw)} raw' if verdict.raw else ''
     return '; '.join(filter(None, ['' if is_raw(verdict) else 'ok', raw])) or 'no calls'
 
@@ -215,15 +237,38 @@ def numbered_faults(seen: Sequence[Seen]) -> list[tuple[int, ExplainedFault, See
 
 
 def explained_fault(taken: Taken, verdict: Verdict) -> ExplainedFault:
-    item, message, within = FirstLines(), FirstLines(), Within(taken.spool, None, taken)
-    fault = verdict.fault
+    fault, message = verdict.fault, ExplainedMessage([], [])
     with contextlib.suppress(NoPlace):
         if fault and isinstance(fault.place, Place):
-            found = within.record(fault.place)
-            tell_record(found, fault.place, fault.reason, item.take)
-            if fault.place.byte is not None:
-                tell_record(found, fault.place._replace(byte=None), None, message.take)
-    return ExplainedFault(verdict, item.all(), message.all())
+            found = Within(taken.spool, None, taken).record(fault.place)
+            message = explained_message(found, fault.place, fault.reason)
+    return ExplainedFault(verdict, message)
+
+
+def explained_message(found: FoundRecord, place: Place,
+                      reason: str | None = None) -> ExplainedMessage:
+    item, message = FirstLines(), FirstLines()
+    tell_record(found, place, reason, item.take)
+    if place.byte is not None:
+        tell_record(found, place._replace(byte=None), None, message.take)
+    return ExplainedMessage(item.all(), message.all())
+
+
+def shown_messages(taken: Taken, names: Container[str], place: Place,
+                   other: Place | None) -> tuple[Place, list[str]]:
+    """Returns the position of an item with one of these names, if there is one, and what is said of
+    its message, and of another that shows it."""
+    within = Within(taken.spool, None, taken)
+    found, found_other = within.record(place), other and within.record(other)
+    others = items_in(found_other, other) if found_other and other else []
+    item = item_of(items_in(found, place), names, others)
+    at = place._replace(byte=item and item.begin)
+    pieces = [*explained_message(found, at).pieces()]
+    if found_other and other:
+        same = item and item_of(others, (item.name,))
+        it = explained_message(found_other, other._replace(byte=same and same.begin))
+        pieces += markup.folded('others', 'the message that shows it', it.pieces(), ' open')
+    return at, pieces
 
 
 class FirstLines(list[str]):
@@ -258,14 +303,22 @@ def of_fault(number: int, fault: ExplainedFault, seen: Seen) -> Iterator[str]:
     yield f'<p class=minus>{escape(printable(verdict.message))}{filters}</p>'
     if verdict.client:
         yield f'<p class=quiet>client {escape(verdict.client)}, server {escape(verdict.server)}</p>'
-    yield markup.block('pre', fault.item)
-    if fault.message:
-        fields = markup.block('pre', fault.message)
-        yield from markup.folded('others', 'all fields of the message', [fields])
+    yield from fault.message.pieces()
+    yield from cause_and_commands(verdict)
     yield '</article>'
 
 
-def of_recording(seen: Seen, tables: Sequence[ShownTable], has_counts: bool,
+def cause_and_commands(verdict: Verdict) -> Iterator[str]:
+    """What is likely the cause of a fault, and what to type next."""
+    fault = verdict.fault
+    if fault:
+        yield f'<p>Likely cause: {escape(REASONS.get(fault.reason, NO_REASON)[1])}.</p>'
+        if isinstance(fault.place, Place):
+            yield markup.commands(markup.next_commands(verdict.recording, fault.place.brief,
+                                                       bool(verdict.frames)))
+
+
+def of_recording(number: int, seen: Seen, tables: Sequence[ShownTable], has_counts: bool,
                  is_of_validity: bool) -> Iterator[str]:
     """The time line of a recording, its own counts if that is asked for, and its tables: that of
     all its connections, and those of each folded."""
@@ -273,7 +326,7 @@ def of_recording(seen: Seen, tables: Sequence[ShownTable], has_counts: bool,
     words = f'{count(len(shown) - 1, "table")} of single connections'
     counts = of_counts(counts_after(seen.verdicts), (), is_of_validity)
     pieces = chain(counts if has_counts else (),
-                   of_time_line(seen.line) if seen.line else (), shown[:1],
+                   of_time_line(seen.line, seen.recording, number) if seen.line else (), shown[:1],
                    markup.folded('others', words, shown[1:]) if shown[1:] else ())
     is_empty = seen.line is None and not shown
     return iter(()) if is_empty else markup.section(escape(escaped(seen.recording)), pieces)

@@ -4,6 +4,7 @@ script it can be read all the same.
 """
 from __future__ import annotations
 
+import shlex
 from collections.abc import Iterable, Iterator, Sequence
 from html import escape
 from itertools import chain
@@ -11,6 +12,8 @@ from pathlib import Path
 
 from ..recordings.parts import Part
 from ..reporting.frames import filters_of
+from ..shared.names import as_called
+from ..shared.printed import printable
 
 
 def asset(name: str) -> str:
@@ -77,6 +80,20 @@ def table(names: Sequence[str], rows: Iterable[str], look: str = '') -> Iterator
     yield f'<table{class_of(look)}><thead><tr>{heads}</tr></thead>'
     yield from rows
     yield '</table>'
+
+
+def next_commands(recording: str, position: str, has_frames: bool = True) -> list[str]:
+    """Returns what shows a position, and what cuts its exchange out."""
+    name, place = shlex.quote(recording), shlex.quote(position)
+    out = 'bug.pcap' if has_frames else 'bug.nfs3cap'
+    return [printable(as_called(line)) for line in (
+        f'tools/explain {name} {place}', f'tools/cut {name} {place} {out}')]
+
+
+def commands(several: Iterable[str]) -> str:
+    """Command lines, each with a button that copies it."""
+    return ''.join(f'<p><code class=command>{escape(line)}</code> <button type=button class=copy '
+                   'aria-label="copy the command"></button></p>' for line in several)
 
 
 def filters(parts: Sequence[Part], numbers: Sequence[int]) -> str:

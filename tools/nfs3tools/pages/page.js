@@ -68,6 +68,17 @@ function copy(button) {
   button.classList.toggle('copied', document.execCommand('copy'));
 }
 
+// The call of a dot: what is said of it, and what to type.
+function choose(dot, panel) {
+  const [words, lines] = panel.children;
+  words.textContent = dot.querySelector('title').textContent;
+  lines.hidden = false;
+  for (const line of lines.querySelectorAll('.command')) {
+    line.dataset.form ??= line.textContent;
+    line.textContent = line.dataset.form.replace('PLACE', dot.dataset.place);
+  }
+}
+
 // A number without its separators, or a text; what there is none of comes last.
 function worth(row, at) {
   const text = row.cells[at].textContent, number = Number(text.replaceAll(',', ''));
@@ -99,6 +110,12 @@ function follow() {
   if (target.matches('article')) stay(target);
 }
 
+for (const dot of every('.line a')) {
+  dot.addEventListener('click', event => {
+    event.preventDefault();
+    choose(dot, document.querySelector(dot.getAttribute('href')));
+  });
+}
 for (const head of every('.wide th')) {
   head.tabIndex = 0;
   head.addEventListener('click', () => sort(head));

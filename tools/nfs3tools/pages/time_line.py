@@ -14,7 +14,7 @@ from ..exchanges.kept import Kept, KeptExchange, call_text
 from ..judgement.tallies import milliseconds
 from ..judgement.window import ALL, TimeWindow
 from ..recordings.selection import count, plural
-from .markup import paragraphs
+from .markup import commands, next_commands, paragraphs
 
 PIXEL_COLUMNS = 1_000  # of pixels, into which dots are sorted
 DOTS_AT_MOST = 2_000  # of which none is left out
@@ -34,11 +34,12 @@ UNITS = ((9, 's'), (6, 'ms'), (3, '\u00b5s'), (0, 'ns'))
 
 class Dot(NamedTuple):
     """A call: nanoseconds from the first frame of the recording, its latency, None if it has none,
-    whether it failed, and what is said of it."""
+    whether it failed, what is said of it, and its position."""
     time: int
     latency: int | None
     is_error: bool
     words: str
+    place: str = ''
 
 
 class TimeLine(NamedTuple):
@@ -52,10 +53,11 @@ class TimeLine(NamedTuple):
     untimed: int = 0
 
 
-def of_time_line(line: TimeLine) -> Iterator[str]:
-    """The time line, and below it what its forms mean and how many calls are left out."""
+def of_time_line(line: TimeLine, name: str = '', number: int = 1) -> Iterator[str]:
+    """The time line, and below it what its forms mean, how many calls are left out, and room for
+    the call of the dot that is chosen, by the name of its recording and its own number."""
     if line.dots:
-        scale = Scale(line)
+        scale = Scale(line, f'#call{number}')
         yield f'<svg class=line height={HEIGHT} role=img aria-label="latencies over time">'
         yield from scale.axes()
         yield from map(scale.dot, line.dots)
@@ -64,6 +66,9 @@ def of_time_line(line: TimeLine) -> Iterator[str]:
                '<svg class=key><use href=#bad x=8 y=8 /></svg> an error, or no reply '
                '<svg class=key><use href=#open x=8 y=8 /></svg> no reply recorded</p>')
     yield from paragraphs(drawn_in_words(line), 'quiet')
+    if line.dots:
+        yield (f'<div id=call{number} class=chosen><p class=quiet>A click on a dot shows its call '
+               f'here.</p><div hidden>{commands(next_commands(name, "PLACE"))}</div></div>')
 
 
 def drawn_in_words(line: TimeLine) -> Iterator[str]:
@@ -87,8 +92,8 @@ def drawn_in_words(line: TimeLine) -> Iterator[str]:
 class Scale:
     """Where the dots of a line are."""
 
-    def __init__(self, line: TimeLine) -> None:
-        self.end = max(1, line.end)
+    def __init__(self, line: TimeLine, target: str) -> None:
+        self.end, self.target = max(1, line.end), target
         known = [dot.latency for dot in line.dots if dot.latency is not None and dot.latency > 0]
         known = known or [*NO_LATENCIES]
         self.low = math.floor(math.log10(min(known)))
@@ -107,8 +112,9 @@ class Scale:
 
     def dot(self, dot: Dot) -> str:
         form = 'bad' if dot.is_error else 'good' if dot.latency is not None else 'open'
-        return (f'<use href=#{form} x={self.across(dot.time)} y={self.down(dot.latency):g}>'
-                f'<title>{escape(dot.words)}</title></use>')
+        return (f'<a href={self.target} data-place={dot.place or "-"}><use href=#{form} '
+                f'x={self.across(dot.time)} y={self.down(dot.latency):g}>'
+                f'<title>{escape(dot.words)}</title></use></a>')
 
     def axes(self) -> Iterator[str]:
         """A line and a label for each decade, for times, and for calls without a latency."""
@@ -173,4 +179,4 @@ def dot_of(one: KeptExchange) -> Dot:
     latency = 'no latency' if one.latency is None else f'{milliseconds(one.latency)} ms'
     where = f'connection {one.part.number} client record {one.record}, frame {one.frame}'
     return Dot(one.time - one.kept.begun, one.latency, one.is_error,
-               f'{call}: {answer}; {where}, {latency}')
+               f'{call}: {answer}; {where}, {latency}', f'{one.part.number}:{one.record}')

@@ -15,6 +15,10 @@ def places_at(taken: Taken, place: Place | FilePlace | FramePlace) -> list[Place
     found: list[Place | FilePlace] = [
         Place(connection.number, side, record) for connection in taken.connections for side in SIDES
         for record in records_in(connection.stream(side), place.frame)]
+    last = None if found else taken.ends()
+    if last and place.frame > last[1].number:
+        raise NoPlace(f'{place} is after all frames with bytes of a record; the last of them is '
+                      f'frame {last[1].number}')
     if not found:
         raise NoPlace(f'{place} carries no bytes of a record, or only bytes that another frame had '
                       'brought before')

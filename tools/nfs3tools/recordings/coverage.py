@@ -92,6 +92,7 @@ class Counts(typing.NamedTuple):
 
     without_calls: how many of those that are left out show no call
     unanswered: how many calls got no reply, `None` if that was not looked for
+    known: how many of these are known by a file, `None` if there is none
     raw: the calls of other programs in connections that are taken, by name
     """
     ok: int = 0
@@ -103,6 +104,7 @@ class Counts(typing.NamedTuple):
     without_calls: int = 0
     raw: Mapping[str, int] = {}
     unanswered: int | None = None
+    known: int | None = None
 
     @property
     def judged(self) -> int:
@@ -116,7 +118,8 @@ class Counts(typing.NamedTuple):
         silent = f'; {self.unanswered:,} {calls} without a reply' if self.unanswered else ''
         return (f'{self.judged} judged ({self.ok} ok, {self.refused} refused), '
                 f'{self.in_part} in part, {self.left_out} left out{bare}, '
-                f'{self.not_checked} not checked, {self.errors} errors{silent}{raw}')
+                f'{self.not_checked} not checked, {self.errors} errors{silent}{raw}'
+                + ('' if self.known is None else f'; {self.known:,} known'))
 
     def numbers(self) -> dict[str, int]:
         """How many there are under each word, for files that others read."""
@@ -124,7 +127,8 @@ class Counts(typing.NamedTuple):
                 'in part': self.in_part, 'left out': self.left_out,
                 'without calls': self.without_calls, 'not checked': self.not_checked,
                 'errors': self.errors,
-                **({} if self.unanswered is None else {'without reply': self.unanswered})}
+                **({} if self.unanswered is None else {'without reply': self.unanswered}),
+                **({} if self.known is None else {'known': self.known})}
 
     def members(self) -> dict[str, object]:
         """The same for JSON, with the calls of other programs."""

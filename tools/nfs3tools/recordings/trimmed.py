@@ -1,6 +1,6 @@
 """Frames whose payload of TCP is trimmed to the bytes that are wanted of it, as if they had been
-sent so: sequence numbers are moved, and the lengths and checksums of IP and TCP made anew. All else
-of a frame stays, but FIN after bytes that are gone.
+sent so: sequence numbers are moved, those of SYN right before these bytes, and the lengths and
+checksums of IP and TCP made anew. All else of a frame stays, but FIN after bytes that are gone.
 """
 from __future__ import annotations
 
@@ -8,7 +8,8 @@ import struct
 from collections.abc import Iterable, Mapping, Sequence
 
 from .frames import Frame
-from .segments import FIN, LINKS, SYN, TCP, Segment, Segments, network_layer
+from .segments import (
+    ACK, FIN, LINKS, SYN, TCP, Segment, Segments, network_layer, reversed_key)
 from .streams import SEQUENCE_SPACE
 
 SEQUENCE_AT, FLAGS_AT, CHECKSUM_AT = 4, 13, 16  # in a header of TCP
@@ -45,7 +46,8 @@ def is_before(data: bytes, at: int, tcp_at: int) -> bool:
 def trimmed(frames: Iterable[Frame],
             wanted: Mapping[int, Sequence[SequenceRange]]) -> tuple[list[Frame], list[int]]:
     """Returns frames without the bytes before the first and after the last of those that are wanted
-    of each, by its number. The second are the numbers of those that cannot be trimmed."""
+    of each, by its number, and SYN right before what is left. The second are the numbers of those
+    that cannot be trimmed."""
     layers, found, whole = Layers(), list[Frame](), list[int]()
     for frame in frames:
         segment = layers.found_in(frame)
@@ -54,7 +56,34 @@ def trimmed(frames: Iterable[Frame],
             shorter = with_bytes(frame, segment, layers, wanted[frame.number])
         found.append(shorter or frame)
         whole += [frame.number] if shorter is None else []
-    return found, whole
+    begins = beginnings(layers, found)
+    return [beside(frame, layers, begins) for frame in found], whole
+
+
+def beginnings(layers: Layers, frames: Iterable[Frame]) -> dict[bytes, int]:
+    """Returns the lowest sequence number of the payload of each end, by the keys of segments."""
+    found = dict[bytes, int]()
+    for segment in filter(None, map(layers.found_in, frames)):
+        if segment.payload:
+            ahead = segment.sequence - found.setdefault(segment.key, segment.sequence)
+            if ahead % SEQUENCE_SPACE >= SEQUENCE_SPACE // 2:
+                found[segment.key] = segment.sequence
+    return found
+
+
+def beside(frame: Frame, layers: Layers, begins: Mapping[bytes, int]) -> Frame:
+    """Returns a SYN right before the payload of its end, acknowledging no more than what comes
+    before that of the other. Any other frame is returned as it is."""
+    segment = layers.found_in(frame)
+    at = layers.datagram_at(frame)
+    if at is None or not segment or not segment.flags & SYN or segment.payload:
+        return frame
+    first = begins.get(segment.key, segment.sequence + 1)
+    other = begins.get(reversed_key(segment.key), segment.acknowledged)
+    moved = segment._replace(sequence=(first - 1) % SEQUENCE_SPACE,
+                             acknowledged=other if segment.flags & ACK else segment.acknowledged)
+    data = with_payload(frame.data, at, layers.at, moved, 0, 0)
+    return frame._replace(data=data, length=len(data))
 
 
 def with_bytes(frame: Frame, segment: Segment, layers: Layers,
@@ -84,7 +113,8 @@ def with_payload(data: bytes, at: int, tcp_at: int, segment: Segment, begin: int
     """Returns a frame with a part of its payload, whose header of IP is at `at`."""
     payload_at = tcp_at + (data[tcp_at + 12] >> 4) * 4
     header = bytearray(data[tcp_at:payload_at])
-    struct.pack_into('>I', header, SEQUENCE_AT, (segment.sequence + begin) % SEQUENCE_SPACE)
+    struct.pack_into('>II', header, SEQUENCE_AT, (segment.sequence + begin) % SEQUENCE_SPACE,
+                     segment.acknowledged)
     if end < len(segment.payload):
         header[FLAGS_AT] &= ~FIN
     content = bytes(header) + segment.payload[begin:end]

@@ -29,7 +29,7 @@ ABSENT, REFUSED, FAILED, INTERRUPTED = 1, 2, 3, 130  # ABSENT: no such position
 # How a tool reads a recording from standard input.
 READING = {'from_pcap': '- OUT', 'where': '- POSITION', 'explain': '- POSITION',
            'verdicts': '-', 'procedures': '-', 'calls': '-', 'meaning': '-',
-           'cut': '- POSITION OUT'}
+           'report': '-', 'cut': '- POSITION OUT'}
 OPTION = re.compile(r' \[-[^]]*\]')  # in a usage
 STATUS_TEXT = 'The status is 0'  # begins what is said of it
 WITHOUT_VALUE = re.compile(r'argument (\S+): expected one argument')
@@ -247,7 +247,7 @@ def port_numbers(word: str) -> frozenset[int]:
     """The ports that a word names, as `2049,20048`."""
     ports = frozenset(int(port) for port in word.split(',') if port.isascii() and port.isdigit())
     if len(word.split(',')) != len(ports) or not all(0 < port < 1 << 16 for port in ports):
-        raise argparse.ArgumentTypeError(f'no ports: {word}')
+        raise argparse.ArgumentTypeError(f'no ports: {word} (as in 2049,20048)')
     return ports
 
 

@@ -10,7 +10,7 @@ from typing import Any, NamedTuple, Union
 from ..comparison.exchanges.explained import RUNS
 from ..comparison.values import long_values
 from ..comparison.values.classes import Mask
-from ..comparison.verdict.accepted import Split, entry_text
+from ..comparison.verdict.accepted import Split
 from ..comparison.verdict.cover import Cover, cause_of
 from ..comparison.verdict.decision import WHY_LEFT_OUT, Report
 from ..comparison.verdict.differences import Difference
@@ -26,7 +26,7 @@ OF_CONNECTIONS = ('order', 'connection')  # kinds of findings
 LONGEST_VALUE, LONGEST_NAME = 128, 1024  # characters, as the listing spells them
 LONGEST_LIST = 4  # frames
 FIELDS_AT_MOST = 12
-REPORT_VERSION = 1  # of the form of JSON
+REPORT_VERSION = 2  # of the form of JSON
 CASES_AT_MOST = 1_000  # of findings
 FIELDS_IN_CASE_NAME = 4
 KIND_WORDS = {'moved': 'reordered', 'sent again': 'sent again',
@@ -148,8 +148,8 @@ def messages_text(findings: Sequence[Finding], of_call: str = ' call') -> str:
         return (f'{number:,} messages have values that are equal in both runs, '
                 'and that correspond to others elsewhere')
     if number == 1:
-        return f'{message.procedure}{of_call if message.is_call else " reply"}'
-    return f'{number:,} {"calls" if message.is_call else "replies"} of {message.procedure}'
+        return f'{short(message.procedure)}{of_call if message.is_call else " reply"}'
+    return f'{number:,} {"calls" if message.is_call else "replies"} of {short(message.procedure)}'
 
 
 def only_in(finding: Finding) -> str:
@@ -211,11 +211,24 @@ def brief_difference(difference: Difference) -> str:
 
 def of_silent(compared: Compared, most: int | None) -> Iterator[str]:
     """The calls that are left out, by procedures and paths, up to `most`, or each by itself."""
+    groups = silent_groups(compared) if most is not None else [[one] for one in compared.silent]
+    return first_of(groups, most, silent_line, ' left out')
+
+
+def silent_groups(compared: Compared) -> list[list[Finding]]:
     groups = defaultdict[object, list[Finding]](list)
-    for number, call in enumerate(compared.silent):
-        key = call.kind, call.first is None, call.message.procedure, call.path
-        groups[number if most is None else key].append(call)
-    return first_of([*groups.values()], most, silent_line, ' left out')
+    for call in compared.silent:
+        groups[call.kind, call.first is None, call.message.procedure, call.path].append(call)
+    return [*groups.values()]
+
+
+def why_left_out(call: Finding) -> str:
+    return WHY_LEFT_OUT.get(call.kind, f'only in the {call.run} run')
+
+
+def cause_of_silence(call: Finding) -> str:
+    """Returns the change that explains a call, or how often it was sent."""
+    return f', {"by " * (call.kind == "explained")}{call.remark}' if call.remark else ''
 
 
 def first_of(several: Sequence[Any], most: int | None, line_of_one: Callable[[Any], str],
@@ -230,16 +243,15 @@ def silent_line(some: Sequence[Finding]) -> str:
     call, path = some[0], f' {some[0].path}' if some[0].path else ''
     whom = '' if call.first and call.second else f' of the {call.run} run'
     kind = f', {WHY_LEFT_OUT[call.kind]}' if call.kind in WHY_LEFT_OUT else ''
-    why = f', {"by " * (call.kind == "explained")}{call.remark}' if call.remark else ''
-    return (f'left out{whom}: {len(some):,} {call.message.procedure}{path}{kind}'
-            f'{", first" * (len(some) > 1)}: {places_text(call)}{why}')
+    return (f'left out{whom}: {len(some):,} {short(call.message.procedure)}{path}{kind}'
+            f'{", first" * (len(some) > 1)}: {places_text(call)}{cause_of_silence(call)}')
 
 
 def of_notes(compared: Compared, most: int | None) -> Iterator[str]:
     """The pairs whose answers are equal and which their run does not allow, up to `most`."""
     return first_of(compared.noted, most, lambda one: (
-        f'note: {one.message.procedure}{f" {one.path}" if one.path else ""}, equal in both runs: '
-        f'{places_text(one)}, {one.remark}'), ' notes')
+        f'note: {short(one.message.procedure)}{f" {one.path}" if one.path else ""}, '
+        f'equal in both runs: {places_text(one)}, {one.remark}'), ' notes')
 
 
 def places_text(one: Finding) -> str:
@@ -273,19 +285,20 @@ def of_compared(compared: Compared, most: int | None,
 
 def each_accepted(accepted: Split | None) -> list[str]:
     """A line for each finding that was accepted."""
-    return [f'accepted: {brief_of([one])}'
+    return [f'known: {brief_of([one])}'
             for one in (accepted.findings if accepted else ())]
 
 
 def of_accepted(accepted: Split | None) -> list[str]:
     """How many findings were accepted, and which entries fit none any more. Nothing if there is no
     file of them."""
-    return [] if accepted is None else [f'{len(accepted.findings):,} accepted', *(
-        f'no longer found: {entry_text(entry)}' for entry in accepted.no_longer_found)]
+    return [] if accepted is None else [f'{len(accepted.findings):,} known', *(
+        printable(f'no longer found: {line}') for line in accepted.no_longer_found)]
 
 
 def fields_text(fields: Iterable[tuple[tuple[str, str], int]]) -> str:
-    return ', '.join(f'{name} of {procedure} {count:,}' for (procedure, name), count in fields)
+    return ', '.join(f'{name} of {short(procedure)} {number:,}'
+                     for (procedure, name), number in fields)
 
 
 def up_to(most: int, some: Sequence[str], comma: str = ', ') -> str:
@@ -410,7 +423,7 @@ def properties_of(covers: Sequence[Cover], accepted: Split | None) -> Iterator[t
         yield from ((f'{run} run: {name}', number) for name, number in counts.numbers().items())
         yield from ((f'{run} run: raw: {name}', number) for name, number in counts.raw.items())
     if accepted is not None:
-        yield 'accepted', len(accepted.findings)
+        yield 'known', len(accepted.findings)
         yield 'no longer found', len(accepted.no_longer_found)
 
 

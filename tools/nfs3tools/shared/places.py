@@ -28,6 +28,13 @@ class Place(typing.NamedTuple):
         record = f'{self.side} record {self.record}'
         return record if self.byte is None else f'{record} byte {self.byte}'
 
+    @property
+    def brief(self) -> str:
+        """The same in a few characters: of a call as tools/calls prints it, `7:3182`."""
+        record = (f'{self.connection}:{self.record}' if self.side == 'client'
+                  else f'{self.connection} server {self.record}')
+        return record if self.byte is None else f'{record} byte {self.byte}'
+
 
 class FilePlace(typing.NamedTuple):
     """A byte of the capture file, numbered from 0."""
@@ -58,37 +65,39 @@ class Fault(typing.NamedTuple):
 
 
 PLACE = re.compile(r'(?:first: |second: |differ at )?'
-                   r'(?:connection (\d{1,18}) (client|server) record (\d{1,18})'
-                   r'(?: byte (\d{1,18}))?|file (\d{1,18}))(?:: (\w+))?')
-COUNTED_CALL = re.compile(r'(\d{1,18}):(\d{1,18})(?: frame \d{1,18})?')
-LISTED = re.compile(r'(\d{1,18}) (client|server) (\d{1,18})(?: xid=.*)?')
+                   r'(?:(?:connection )?(\d{1,18}) (client|server) (?:record )?(\d{1,18})'
+                   r'(?: byte (\d{1,18}))?|file (\d{1,18}))(?:: (\w+)| xid=.*)?')
+COUNTED_CALL = re.compile(r'(\d{1,18}):(\d{1,18})(?: byte (\d{1,18}))?(?: frame \d{1,18})?')
 FRAME = re.compile(r'frame (\d{1,18})')
-EXAMPLE = "as in 'connection 1 server record 7 byte 24'"
+EXAMPLE = "as in '7:3182', 'frame 12' or '7 server 19 byte 24'"
 
 
 def parse_place(text: str) -> AnyPlace:
     """Reads a position from a line of `check`, `same` or `show`, a call as tools/calls prints it
-    (`7:3182`), or a frame. Of several lines the first that is one counts. Before and after it only
-    what these print there may be. Raises `NoPlace` if there is none."""
+    (`7:3182`, or a byte of it), or a frame. Of several lines the first that is one counts. Before
+    and after it only what these print there may be. Raises `NoPlace` if there is none."""
     for line in map(str.strip, text.splitlines()):
-        listed, found, frame = LISTED.fullmatch(line), PLACE.fullmatch(line), FRAME.fullmatch(line)
-        counted = COUNTED_CALL.fullmatch(line)
-        if counted:
-            return Place(int(counted[1]), 'client', int(counted[2]))
-        if listed:
-            return Place(int(listed[1]), typing.cast(Side, listed[2]), int(listed[3]))
-        if found:
+        if found := PLACE.fullmatch(line):
             return matched_place(found)
-        if frame:
+        if counted := COUNTED_CALL.fullmatch(line):
+            return Place(int(counted[1]), 'client', int(counted[2]), byte_in(counted[3]))
+        if frame := FRAME.fullmatch(line):
             return FramePlace(int(frame[1]))
-    raise NoPlace(f'no position: {text.strip()[:200]} ({EXAMPLE})')
+    word = text.strip()[:200]
+    if not word:
+        raise NoPlace(f'give a position ({EXAMPLE})')
+    meant = f"is 'frame {word}' meant?" if word.isdecimal() else EXAMPLE
+    raise NoPlace(f'no position: {word} ({meant})')
+
+
+def byte_in(found: str | None) -> int | None:
+    return None if found is None else int(found)
 
 
 def matched_place(found: re.Match[str]) -> Place | FilePlace:
     if found[5] is not None:
         return FilePlace(int(found[5]))
-    return Place(int(found[1]), typing.cast(Side, found[2]), int(found[3]),
-                 None if found[4] is None else int(found[4]))
+    return Place(int(found[1]), typing.cast(Side, found[2]), int(found[3]), byte_in(found[4]))
 
 
 def parse_fault(text: str) -> Fault | None:

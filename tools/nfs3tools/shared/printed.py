@@ -2,6 +2,11 @@
 own."""
 from __future__ import annotations
 
+import difflib
+from collections.abc import Iterable
+
+LIKENESS = 0.4  # how much of a word is that of one near it
+
 
 def escaped(name: str) -> str:
     """Returns the name of a file as nfs3canon prints it: a control character, a backslash, and a
@@ -13,6 +18,16 @@ def escaped(name: str) -> str:
 def printable(text: str) -> str:
     """Returns a text whose names are escaped already, without other control characters."""
     return ''.join(letter if letter.isprintable() else hexadecimal(letter) for letter in text)
+
+
+def near(word: str, names: Iterable[str]) -> str:
+    """Returns what is said after a word that is no name: the names that are like it, if any."""
+    found = like(word, names)
+    return f'; near it: {", ".join(found)}' if found else ''
+
+
+def like(word: str, names: Iterable[str]) -> list[str]:
+    return difflib.get_close_matches(word, [*names], cutoff=LIKENESS)
 
 
 def hexadecimal(letter: str) -> str:

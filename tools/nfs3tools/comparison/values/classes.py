@@ -6,6 +6,7 @@ import enum
 import re
 from dataclasses import dataclass
 
+from ...shared.printed import near
 
 class Way(enum.Enum):
     """How values of a class are masked: as zero, or as their numbers by first appearance."""
@@ -94,8 +95,8 @@ def default_mask() -> Mask:
 def changed_mask(mask: Mask, sign: str, name: str, way: str) -> Mask:
     """Returns a mask with a class added (`+NAME`), removed (`-NAME`) or masked so (`NAME=zero`)."""
     if name not in CLASSES_BY_NAME:
-        raise argparse.ArgumentTypeError(
-            f'no class of values: {name} (there are {", ".join(CLASSES_BY_NAME)})')
+        meant = near(name, CLASSES_BY_NAME) or f' (there are {", ".join(CLASSES_BY_NAME)})'
+        raise argparse.ArgumentTypeError(f'no class of values: {name}{meant}')
     if way and way not in ('zero', 'number'):
         raise argparse.ArgumentTypeError(f'{name} is masked as zero or number, not as {way}')
     if sign == '-':

@@ -13,6 +13,7 @@ from typing import Literal, Optional
 
 from ...exchanges.in_words import short
 from ...exchanges.listing import Line, line_of
+from ...judgement.known import Known
 from ...recordings.coverage import Allowed
 from ...recordings.selection import count
 from ..exchanges.explained import RUNS, Explanation, explanation_of
@@ -20,12 +21,13 @@ from ..exchanges.followed import Followed, with_values
 from ..exchanges.outlines import Outlines, classes_of_items, renamed_values
 from ..exchanges.pairing import ASKING, Listing, Pairing
 from ..values.classes import CLASSES, Mask, Way
-from .accepted import Accepted, Split
+from .accepted import Split, divided
 from .cover import Cover
 from .findings import Compared, Explaining, Finding, Run, replies
 from .trial import Trial
 
 FIELDS_IN_SUMMARY = 4
+LONGEST_LINE = 200  # characters of the comparison in words
 # Why calls of both runs are left out.
 WHY_LEFT_OUT = {'explained': 'explained by order', 'sent again': 'sent again'}
 IN_ANOTHER_ORDER, BUT_IDS, BUT_LEFT_OUT = (
@@ -47,7 +49,7 @@ class Choices:
         difference
     masks: that of the comparison, and those of any order, each with more than the one before
     leaves_out: the procedures whose calls are left out in any order if one run alone has them
-    accepted: the findings that were accepted before, if there is a file of them
+    accepted: the findings that are known, if there is a file of them
     follows: the classes whose values follow their objects in any order, if they are not one to one
     """
     order: Order
@@ -55,7 +57,7 @@ class Choices:
     follows: frozenset[str] = frozenset()
     leaves_out: frozenset[str] = ASKING
     is_shown: bool = False
-    accepted: Accepted | None = None
+    accepted: Known | None = None
 
 
 @dataclass(frozen=True)
@@ -105,7 +107,7 @@ class Orders:
         found = replace(found, whole=found.compared if found.same_under is None else None)
         if self.choices.accepted is None:
             return found
-        compared, accepted = self.choices.accepted.divide(found.compared)
+        compared, accepted = divided(found.compared, self.choices.accepted)
         is_all = bool(accepted.findings) and not compared.findings and found.same_under is None
         found = replace(found, compared=compared, accepted=accepted)
         return self.with_rest(found, accepted.findings) if is_all else found
@@ -339,7 +341,7 @@ class Report:
             verdict += f', {count(explained, "answer")} explained by order' if explained else ''
             compared = of_same(found, self.choices.masks[0])
         number = len(found.accepted.findings) if found.accepted else 0
-        but = f' but for {number:,} accepted' if number else ''
+        but = f' but for {number:,} known' if number else ''
         return [f'{verdict}{" in part" if self.losses else ""}{but}: {compared[0]}', *compared[1:]]
 
 
@@ -355,7 +357,7 @@ def judged_runs(trial: Trial, choices: Choices, covers: Sequence[Cover]) -> Repo
     if not place and not choices.is_shown:
         first, second = (cover.size.calls for cover in covers)
         compared = Compared(exchanges=first, calls=(first, second))
-        split = choices.accepted.divide(compared)[1] if choices.accepted else None
+        split = divided(compared, choices.accepted)[1] if choices.accepted else None
         return Report('', Outcome(compared, accepted=split), choices, covers)
     order: Order = choices.order if place else 'strict'
     runs = [run_of(trial, number) for number in (0, 1)]
@@ -434,11 +436,14 @@ def frequent_fields(compared: Compared) -> Iterator[str]:
 
 
 def compared_in_words(compared: Compared) -> str:
-    """The verdict in words: what is matched, and what is not."""
+    """The verdict in a line of words: what is matched, and what is not."""
     words = [f'{compared.exchanges:,} of {count(max(compared.calls), "call")} matched',
              *turns(compared)]
     words += [f'left out: {what} only in the {name} run' for what, name in left_out(compared)]
     words += [f'left out: {what}' for what in of_both(compared)]
     words += [f'{number:,} only in the {name} run' for name, number in zip(RUNS, compared.lonely)
               if number]
-    return '; '.join([*words, *frequent_fields(compared)])
+    words += frequent_fields(compared)
+    while len('; '.join(words)) > LONGEST_LINE:
+        words[-2:] = ['..']
+    return '; '.join(words)
