@@ -1,6 +1,7 @@
 #!/usr/bin/env python3
-"""Tests nfs3streams: on the recordings of examples/ against the reader of `tools/from_pcap`, and on
-small recordings with one fault each, whose captures and lines are known.
+"""Tests nfs3streams: on the recordings of examples/ against the reader of `tools/from_pcap`, on
+small recordings with one fault each, whose captures and lines are known, and on random ones against
+a model.
 
     python3 tests/program/streams.py [PROGRAM] [--only TEXT] [-v]
 
@@ -8,16 +9,21 @@ With RECORDINGS set to a folder, its recordings are compared too.
 """
 import os
 import pathlib
+import random
+import re
 import struct
 import sys
 from collections.abc import Callable, Iterator
 
 sys.path.insert(0, str(pathlib.Path(__file__).resolve().parents[2]))
+from tests.shared.recorded import answer
 from tests.shared.running import Runs, ended, try_tests
 
 TOP = pathlib.Path(__file__).resolve().parents[2]
 CLIENT, SERVER = ('192.0.2.7', 700), ('192.0.2.1', 2049)
-SYN, FIN, ACK = 2, 1, 16
+SYN, FIN, RST, ACK = 2, 1, 4, 16
+# The mark, the xid, CALL and the version of RPC.
+CALL = bytes.fromhex('80000028 00000001 00000000 00000002')
 COUNTS = ('frames={0} segments={0} unknown_link=0 cut=0 not_ip=0 bad_ip=0 fragment=0 not_tcp=0 '
           'bad_tcp=0 connections={1} packed={2}\n')
 Pair = tuple[bytes, bytes]
@@ -161,7 +167,7 @@ def several_connections(folder: Folder) -> None:
 
 def chosen_connections(folder: Folder) -> None:
     """Chosen are the usual ports, calls of RPC, and the ports that are named."""
-    call = bytes.fromhex('80000028 00000001 00000000 00000002') + bytes(24)
+    call = CALL + bytes(24)
     begun = [*OPENED, sent(101, call)]
     pair = (b'callmore', b'reply')
     for name, frames, wanted, words in (
@@ -228,7 +234,8 @@ def lines_that_are_refused(folder: Folder) -> None:
 
 def recordings() -> Iterator[pathlib.Path]:
     """Yields the recordings that both readers are asked about."""
-    for folder in (TOP / 'examples', *map(pathlib.Path, filter(None, [os.environ.get('RECORDINGS')]))):
+    named = os.environ.get('RECORDINGS')
+    for folder in (TOP / 'examples', *([pathlib.Path(named)] if named else [])):
         for path in sorted(folder.iterdir()):
             if path.suffix in ('.pcap', '.pcapng'):
                 yield path
@@ -250,9 +257,101 @@ def as_from_pcap(folder: Folder) -> None:
             folder.want(f'{path.name}: others', 'connection ' in out, True)
 
 
+# ---- random recordings
+
+class Sender:
+    """Makes the frames of a connection by chance, most of them as an end sends them."""
+
+    def __init__(self, chance: random.Random) -> None:
+        self.chance = chance
+        self.ends = ('192.0.2.7', 700 + chance.randrange(2)), (
+            '192.0.2.1', chance.choice((2049, 2049, 20048, 80)))
+        self.numbers = [chance.choice((chance.randrange(2 ** 32), 2 ** 32 - chance.randrange(99)))
+                        for _ in range(2)]
+
+    def frame(self, side: int, flags: int, payload: bytes = b'', ahead: int = 0) -> bytes:
+        return segment(self.ends[side], self.ends[1 - side], self.numbers[side] + ahead, flags,
+                       payload, self.numbers[1 - side])
+
+    def sent(self, side: int, flags: int, payload: bytes = b'') -> bytes:
+        """Returns a frame after which the numbers go on."""
+        frame = self.frame(side, flags, payload)
+        self.numbers[side] += len(payload) + (flags & (SYN | FIN) > 0)
+        return frame
+
+    def odd(self) -> bytes:
+        """Returns a frame that repeats bytes, keeps alive, resets, or belongs to nothing."""
+        chance = self.chance
+        ahead = chance.choice((-1, -1, -20, -300, 50, 2 ** 30, 2 ** 30 + 1, -2 ** 30, 2 ** 31))
+        payload = chance.randbytes(chance.choice((0, 1, 1, 19, 40)))
+        flags = chance.choice((ACK, ACK, ACK, FIN | ACK, SYN, RST, RST | ACK, SYN | ACK))
+        return self.frame(chance.randrange(2), flags, payload, ahead)
+
+    def frames(self) -> list[bytes]:
+        chance, is_odd = self.chance, self.chance.choice((0, 0, 0.02, 0.1))
+        found = [self.sent(0, SYN), self.sent(1, SYN | ACK)]
+        if chance.random() < 0.3:
+            found.append(self.sent(0, ACK, CALL + bytes(24)))
+        for _ in range(chance.choice((0, 3, 20))):
+            payload = chance.randbytes(chance.randrange(60))
+            found.append(self.sent(chance.randrange(2), ACK, payload))
+            found += [self.odd()] if chance.random() < is_odd else []
+        ending = chance.choice(([], [(0, FIN | ACK), (1, FIN | ACK), (0, ACK)],
+                                [(1, FIN | ACK), (0, ACK)], [(0, RST | ACK)]))
+        return found + [self.sent(side, flags) for side, flags in ending]
+
+
+def disturbed(chance: random.Random, frames: list[bytes]) -> list[bytes]:
+    """Loses frames, and has some come later or twice."""
+    lost, late, twice = (chance.choice(rates) for rates in ((0, 0, 0.01, 0.1), (0, 0, 0.1),
+                                                            (0, 0, 0.1)))
+    left = list[tuple[float, bytes]]()
+    for at, frame in enumerate(frames):
+        if chance.random() >= lost:
+            left.append((at + (chance.choice((1.5, 30.5)) if chance.random() < late else 0), frame))
+            left += [(at + chance.choice((0.5, 5.5)), frame)] if chance.random() < twice else []
+    return [frame for _, frame in sorted(left, key=lambda one: one[0])]
+
+
+def random_recording(seed: int) -> bytes:
+    """Returns a recording of one to three connections, of which some frames are not kept whole, or
+    are no segments, and whose end may be missing."""
+    chance = random.Random(seed)
+    turns = [Sender(chance).frames() for _ in range(chance.choice((1, 1, 2, 3)))]
+    mixed = [turn.pop(0) for turn in iter(
+        lambda: chance.choice([turn for turn in turns if turn] or [[]]), [])]
+    content, cut = recording(), chance.choice((0, 0, 0.05))
+    for frame in disturbed(chance, mixed):
+        frame = bytes(frame) if chance.random() > 0.01 else chance.randbytes(30)
+        kept = chance.randrange(len(frame)) if chance.random() < cut else len(frame)
+        content += struct.pack('<IIII', 1, 0, kept, len(frame)) + frame[:kept]
+    return content[:chance.randrange(len(content))] if chance.random() < 0.05 else content
+
+
+def random_recordings(folder: Folder) -> None:
+    """Status, text and OUT are those of the model."""
+    for seed in range(1_500):
+        content, ports = random_recording(seed), () if seed % 5 else (80,)
+        folder.write('in', content)
+        wanted = answer(content, ports)
+        words = ['--port', '80'] if ports else []
+        status, out, error = folder.run('nfs3streams', *words, 'in', 'out')
+        folder.want(f'seed {seed}', (status, without_changes(out or error), folder.read('out')),
+                    (wanted.status, without_changes(wanted.text), wanted.out))
+        if wanted.out is not None:
+            os.remove(folder.path('out'))
+
+
+def without_changes(text: str) -> str:
+    """Returns a text without what follows the side of a stream with other content, since which of
+    several such payloads is named is not said."""
+    return re.sub(r': \d+ bytes differ .*', ': bytes differ', text)
+
+
 TESTS: tuple[Callable[[Folder], None], ...] = (
     whole_connections, numbers_that_wrap, flaws, several_connections, chosen_connections,
-    damaged_recordings, files_that_are_refused, lines_that_are_refused, as_from_pcap)
+    damaged_recordings, files_that_are_refused, lines_that_are_refused, as_from_pcap,
+    random_recordings)
 
 if __name__ == '__main__':
     try_tests(__doc__, Folder, TESTS)
