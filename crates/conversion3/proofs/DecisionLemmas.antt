@@ -15,7 +15,7 @@ use Rattle.conversion3.specs.Whole.{recorded_of}
 use Rattle.conversion3.specs.declared.decisions.Decision.{Decision}
 use Rattle.conversion3.specs.declared.ordered_connections.OrderedConnection.{OrderedConnection}
 use Rattle.conversion3.specs.declared.ordered_connections.OrderedFlow.{OrderedFlow}
-use Rattle.conversion3.proofs.OrderedLemmas.{AreAlike, alike_of, is_missing, turned}
+use Rattle.conversion3.proofs.OrderedLemmas.{alike_of, is_missing, turned}
 
 -- ---- streams without bytes
 

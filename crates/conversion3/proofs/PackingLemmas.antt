@@ -1,24 +1,22 @@
 -- What is packed of connections.
-use Rattle.std.proofs.Common.{◌≡◌, ◌<◌, ◌≤◌, ◌^◌, ◌⊎◌, ℕ, zero, suc, ◌+◌, ◌-◌, min, false, true, List, [], ◌∷◌, ◌++◌, Option, None, Some, Result, Ok, Err, length, get_or, take, refl, sym, ap, ap₂, ◌∙◌, subst, append_assoc, arith, inl, inr}
+use Rattle.std.proofs.Common.{◌≡◌, ◌<◌, ◌≤◌, ◌⊎◌, ℕ, zero, suc, ◌+◌, false, true, List, [], ◌∷◌, ◌++◌, Option, Some, Result, Ok, Err, length, get_or, take, refl, sym, ap, ap₂, ◌∙◌, subst, arith, inl, inr}
 use Rattle.std.specs.List.{AllZip}
 use Rattle.std.specs.Result.{IfErr, IsErrAnd, OnOk}
 use Rattle.std.proofs.lemmas.List.{append-nil, length-take, take_more}
 use Rattle.std.proofs.Math.Seq.{take-nil}
 use Rattle.std.proofs.lemmas.Slice.Zip.{all_zipped_more}
-use Rattle.capture3.specs.Entries.{CountsReading}
 use Rattle.capture3.specs.Observed.{Gave, IsSpent}
 use Rattle.capture3.specs.SidedChunks.{Streams}
 use Rattle.capture3.specs.declared.fault.Error.{Error}
-use Rattle.capture3.specs.declared.fault.Error.TheVariants as errors
 use Rattle.connections3.specs.declared.connection.Connection.{Connection}
 use Rattle.packing3.specs.declared.packing.Packing.{Packing}
-use Rattle.packing3.specs.Devices.{CountsReadings, Sources}
+use Rattle.packing3.specs.Devices.{Sources}
 use Rattle.packing3.specs.Packing.{AddsTo, HasAdded, ending_of}
 use Rattle.payload3.specs.Readings.{Allow, GivesPayload, OffsetRead, PayloadReads, trail_of}
 use Rattle.payload3.proofs.TrailLemmas.{allow_append, same_runs}
 use Rattle.streams3.specs.declared.runs.Run.{Run}
 use Rattle.streams3.specs.Content.{AreIn, content_of}
-use Rattle.conversion3.specs.Decisions.{AreDecided, IsDecided}
+use Rattle.conversion3.specs.Decisions.{AreDecided}
 use Rattle.conversion3.specs.OrderedConnections.{AreOrdered, IsOrderedConnection}
 use Rattle.conversion3.specs.Packing.{AreSentIn, StopsAfter, whole_of}
 use Rattle.conversion3.specs.Sent.{HasSent}

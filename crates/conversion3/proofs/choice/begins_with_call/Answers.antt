@@ -1,6 +1,5 @@
-use Rattle.std.proofs.Common.{◌≡◌, ◌∙◌, ◌+◌, ◌^◌, List, Some, ap, sym, subst, arith, inl, inr}
+use Rattle.std.proofs.Common.{◌∙◌, ◌+◌, ◌^◌, ap, sym, subst, arith, inl, inr}
 use Rattle.std.proofs.lemmas.Bool.{cases_lt, false≢true}
-use Rattle.streams3.specs.declared.runs.Run.{Run}
 use Rattle.streams3.specs.declared.segments.Marks.{Marks}
 use Rattle.streams3.specs.Content.{AreIn}
 use Rattle.streams3.specs.Order.{AreBetween, HasNoGap, IsGap}

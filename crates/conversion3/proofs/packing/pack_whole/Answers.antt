@@ -1,4 +1,4 @@
-use Rattle.std.proofs.Common.{Bor, ◌≡◌, ◌∙◌, ◌+◌, ◌++◌, ℕ, List, [], ◌∷◌, Option, None, Some, length, min, take, sym, subst, refl, append_assoc, arith, inl, inr}
+use Rattle.std.proofs.Common.{Bor, ◌≡◌, ◌∙◌, ◌+◌, ◌++◌, List, [], ◌∷◌, Option, Some, length, min, take, sym, subst, refl, append_assoc, arith, inl, inr}
 use Rattle.std.proofs.lemmas.Bool.{cases_lt, false≢true}
 use Rattle.std.proofs.lemmas.List.{append-nil, length_push}
 use Rattle.std.proofs.lemmas.Slice.Zip.{zip_end, zip_turn}
@@ -10,7 +10,6 @@ use Rattle.std.specs.declared.iter.Zip.{Zip}
 use Rattle.std.specs.declared.slice.Iter.{Iter}
 use Rattle.std.specs.List.{AllZip}
 use Rattle.std.specs.Slice.Iter.{iter_rest}
-use Rattle.capture3.specs.SidedChunks.{Streams}
 use Rattle.packing3.specs.Packing.{HasAdded}
 use Rattle.conversion3.specs.declared.decisions.Decision.{Decision}
 use Rattle.conversion3.specs.declared.decisions.Decision.TheVariants.{Whole}
