@@ -1,5 +1,5 @@
 -- Connections of which nothing was sent, and connections side by side.
-use Rattle.std.proofs.Common.{◌≡◌, ◌≢◌, ◌<◌, ◌^◌, ℕ, List, [], ◌∷◌, Option, None, Some, refl, sym, ◌∙◌, subst, arith}
+use Rattle.std.proofs.Common.{◌≡◌, ◌^◌, ◌↔◌, ℕ, Bool, IsTrue, List, [], ◌∷◌, Option, None, Some, refl, sym, ◌∙◌, subst, arith}
 use Rattle.std.specs.List.{AllZip}
 use Rattle.connections3.specs.declared.connection.Connection.{Connection}
 use Rattle.connections3.specs.declared.connection.Flow.{Flow}
@@ -9,12 +9,13 @@ use Rattle.streams3.specs.Order.{IsMissing, IsOrderOf, Ordered}
 use Rattle.streams3.specs.Runs.{Lie, spot_of}
 use Rattle.streams3.specs.Streams.{Shown}
 use Rattle.streams3.proofs.RunsLemmas.{shown}
-use Rattle.conversion3.specs.Decisions.{AreDecided, AreDecidedIn, IsDecided, IsEmptyStream}
-use Rattle.conversion3.specs.OrderedConnections.{AreOrdered, IsOrderedConnection}
+use Rattle.conversion3.specs.Decisions.{AreDecidedIn, IsDecided, IsEmptyFlow, IsEmptyStream}
+use Rattle.conversion3.specs.OrderedConnections.{IsOrderedConnection, IsOrderedFlow}
 use Rattle.conversion3.specs.Whole.{recorded_of}
 use Rattle.conversion3.specs.declared.decisions.Decision.{Decision}
 use Rattle.conversion3.specs.declared.ordered_connections.OrderedConnection.{OrderedConnection}
-use Rattle.conversion3.proofs.OrderedLemmas.{AreAlike, alike_of, is_missing, turned}
+use Rattle.conversion3.specs.declared.ordered_connections.OrderedFlow.{OrderedFlow}
+use Rattle.conversion3.proofs.OrderedLemmas.{alike_of, is_missing, turned}
 
 -- ---- streams without bytes
 
@@ -78,3 +79,12 @@ pub all_decided : (file ports : List ℕ) (ordered : List OrderedConnection)
 all_decided file ports ordered decisions decided connections order =
     linked IsOrderedConnection (IsDecidedIn file ports) (IsDecided file ports)
     (λ c o d is said. said c is) connections ordered decisions order decided
+
+-- ---- an end
+
+pub flow_is_empty : (shown : Option Flow) (sent : OrderedFlow) (result : Bool)
+    → IsOrderedFlow shown (Some sent)
+    → ((s : Shown) → IsOrderOf s sent.stream → IsTrue result ↔ IsEmptyStream (recorded_of s))
+    → IsTrue result ↔ IsEmptyFlow shown
+flow_is_empty None sent result order empty = absurd order
+flow_is_empty (Some flow) sent result order empty = empty flow.stream order.0

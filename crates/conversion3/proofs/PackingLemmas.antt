@@ -1,24 +1,22 @@
 -- What is packed of connections.
-use Rattle.std.proofs.Common.{◌≡◌, ◌<◌, ◌≤◌, ◌^◌, ◌⊎◌, ℕ, zero, suc, ◌+◌, ◌-◌, min, false, true, List, [], ◌∷◌, ◌++◌, Option, None, Some, Result, Ok, Err, length, get_or, take, refl, sym, ap, ap₂, ◌∙◌, subst, append_assoc, arith, inl, inr}
+use Rattle.std.proofs.Common.{◌≡◌, ◌<◌, ◌≤◌, ◌⊎◌, ℕ, zero, suc, ◌+◌, false, true, List, [], ◌∷◌, ◌++◌, Option, Some, Result, Ok, Err, length, get_or, take, refl, sym, ap, ap₂, ◌∙◌, subst, arith, inl, inr}
 use Rattle.std.specs.List.{AllZip}
-use Rattle.std.specs.Result.{IfErr, OnOk}
+use Rattle.std.specs.Result.{IfErr, IsErrAnd, OnOk}
 use Rattle.std.proofs.lemmas.List.{append-nil, length-take, take_more}
 use Rattle.std.proofs.Math.Seq.{take-nil}
 use Rattle.std.proofs.lemmas.Slice.Zip.{all_zipped_more}
-use Rattle.capture3.specs.Entries.{CountsReading}
 use Rattle.capture3.specs.Observed.{Gave, IsSpent}
 use Rattle.capture3.specs.SidedChunks.{Streams}
 use Rattle.capture3.specs.declared.fault.Error.{Error}
-use Rattle.capture3.specs.declared.fault.Error.TheVariants as errors
 use Rattle.connections3.specs.declared.connection.Connection.{Connection}
 use Rattle.packing3.specs.declared.packing.Packing.{Packing}
-use Rattle.packing3.specs.Devices.{CountsReadings, Sources}
+use Rattle.packing3.specs.Devices.{Sources}
 use Rattle.packing3.specs.Packing.{AddsTo, HasAdded, ending_of}
 use Rattle.payload3.specs.Readings.{Allow, GivesPayload, OffsetRead, PayloadReads, trail_of}
 use Rattle.payload3.proofs.TrailLemmas.{allow_append, same_runs}
 use Rattle.streams3.specs.declared.runs.Run.{Run}
 use Rattle.streams3.specs.Content.{AreIn, content_of}
-use Rattle.conversion3.specs.Decisions.{AreDecided, IsDecided}
+use Rattle.conversion3.specs.Decisions.{AreDecided}
 use Rattle.conversion3.specs.OrderedConnections.{AreOrdered, IsOrderedConnection}
 use Rattle.conversion3.specs.Packing.{AreSentIn, StopsAfter, whole_of}
 use Rattle.conversion3.specs.Sent.{HasSent}
@@ -112,43 +110,6 @@ allow_three file old middle new client server first second allows =
     (subst (λ (l : List OffsetRead). Allow l file) first last.0) in
     (both.0, both.1, last.1)
 
--- ---- failed reads
-
--- how many reads failed with those of a payload
-pub record AddsFailures (old added new : ℕ) : Type 0 where
-  pub count : new ≡ min (old + added) (2 ^ 64 - 1)
-  pub none : added ≡ 0 → new ≡ old
-
-same_failures : (old middle new client server : ℕ) → AddsFailures old client middle
-    → AddsFailures middle server new → ((client ≡ 0) × (server ≡ 0)) → new ≡ old
-same_failures old middle new client server one two none =
-    two.none none.1 ∙ one.none none.0
-
-either_none : (a b : ℕ) → ((a ≡ 0) × (b ≡ 0)) ⊎ ((a ≡ 0) × (b ≡ 0)) → (a ≡ 0) × (b ≡ 0)
-either_none a b h = elim h [ inl l ↦ l | inr r ↦ r ]
-
-pub counts_reading : (old middle new client server : ℕ) (result : Result (Unit {0}) Error)
-    → AddsFailures old client middle → AddsFailures middle server new
-    → CountsReadings 0 client 0 server result → CountsReading old new result
-counts_reading old middle new client server (Ok done) one two counts =
-    same_failures old middle new client server one two (either_none client server counts)
-counts_reading old middle new client server (Err (errors.Refused fault)) one two counts =
-    same_failures old middle new client server one two (either_none client server counts)
-counts_reading old middle new client server (Err errors.Write) one two counts =
-    same_failures old middle new client server one two (either_none client server counts)
-counts_reading old middle new client server (Err errors.Memory) one two counts =
-    same_failures old middle new client server one two (either_none client server counts)
-counts_reading old middle new client server (Err errors.Read) one two counts =
-    elim counts [
-      | inl first ↦
-          let is : client ≡ 1 = omega (arith, first.0) in
-          two.none first.1 ∙ one.count ∙ ap (λ (n : ℕ). min (old + n) (2 ^ 64 - 1)) is
-      | inr second ↦
-          let is : server ≡ 1 = omega (arith, second.1) in
-          two.count
-          ∙ ap₂ (λ (m n : ℕ). min (m + n) (2 ^ 64 - 1)) (one.none second.0) is
-    ]
-
 -- ---- the connections that are whole
 
 pub whole_append : {A : Type 0} (cs : List A) (ds : List Decision) (c : A) (d : Decision)
@@ -222,12 +183,12 @@ not_whole c Whole is_not = absurd (is_not refl)
 not_whole c (Flawed flaw) is_not = refl
 
 -- a connection and its decision, at an index
-pub record AreAt (connections : List OrderedConnection) (decisions : List Decision) (i : ℕ)
-    (c : OrderedConnection) (d : Decision) : Type 0 where
+pub record AreAt {A B : Type 0} (connections : List A) (decisions : List B) (i : ℕ) (c : A) (d : B)
+    : Type 0 where
   pub first : i < length connections
   pub second : i < length decisions
-  pub connection : (e : OrderedConnection) → c ≡ get_or connections i e
-  pub decision : (e : Decision) → d ≡ get_or decisions i e
+  pub connection : (e : A) → c ≡ get_or connections i e
+  pub decision : (e : B) → d ≡ get_or decisions i e
 
 whole_more : (connections : List OrderedConnection) (decisions : List Decision) (i n : ℕ)
     (c : OrderedConnection) (d : Decision) → AreAt connections decisions i c d → n ≡ i + 1
@@ -301,3 +262,10 @@ whole_take (c ∷ connections) (Whole ∷ decisions) (suc i) all =
     (whole_take connections decisions i (fewer (length connections) (length decisions) i all))
 whole_take (c ∷ connections) (Flawed flaw ∷ decisions) (suc i) all =
     whole_take connections decisions i (fewer (length connections) (length decisions) i all)
+
+-- ---- an error that is passed on
+
+pub if_same_err : (result : Result (Unit {0}) Error) (P : Error → Type 0) (error : Error)
+    → IsErrAnd result (λ e. e ≡ error) → P error → IfErr result P
+if_same_err (Ok done) P error is holds = tt
+if_same_err (Err e) P error is holds = subst P (sym is) holds

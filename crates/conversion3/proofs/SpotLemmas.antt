@@ -1,5 +1,5 @@
 -- Runs that have a byte.
-use Rattle.std.proofs.Common.{◌≡◌, ◌<◌, ℕ, ◌+◌, ◌-◌, List, Option, None, Some, length, get_or, take, drop, sym, ◌∙◌, ap, ap₂, take-append-drop, ◌⊎◌, inl, inr}
+use Rattle.std.proofs.Common.{◌≡◌, ◌<◌, ℕ, ◌+◌, ◌-◌, List, Option, None, Some, length, get_or, take, drop, sym, ◌∙◌, ap, ap₂, take-append-drop, inl, inr}
 use Rattle.std.proofs.lemmas.List.{drop_more, take_more}
 use Rattle.streams3.specs.declared.runs.Run.{Run}
 use Rattle.streams3.specs.Repeats.{Has}

@@ -1,6 +1,5 @@
-use Rattle.std.proofs.Common.{◌≡◌, ◌∙◌, ◌+◌, ◌^◌, List, Some, ap, sym, subst, arith, inl, inr}
+use Rattle.std.proofs.Common.{◌∙◌, ◌+◌, ◌^◌, ap, sym, subst, arith, inl, inr}
 use Rattle.std.proofs.lemmas.Bool.{cases_lt, false≢true}
-use Rattle.streams3.specs.declared.runs.Run.{Run}
 use Rattle.streams3.specs.declared.segments.Marks.{Marks}
 use Rattle.streams3.specs.Content.{AreIn}
 use Rattle.streams3.specs.Order.{AreBetween, HasNoGap, IsGap}
@@ -10,29 +9,29 @@ use Rattle.conversion3.proofs.choice.begins_with_call.Goals as goal
 
 pub returns-in_default-checked_add-clause-call : goal.returns-in_default-checked_add-clause-call
 returns-in_default-checked_add-clause-call g c = λ file shown allows order. (
-    λ yes. absurd (false≢true yes),
-    λ call.
-        let begin = c.in-Some.begin in
-        absurd (elim (cases_lt (begin.position + 16) (2 ^ 64)) [
-          | inl lt ↦ c.in_default-checked_add.ensures lt
-          | inr far ↦
-              too_far file shown c.args.stream.now begin order
-              (sym (ap (λ (m : Marks). m.begin) c.marks.ensures) ∙ c.in-Some.is) far call
-        ]),
-  )
+  λ yes. absurd (false≢true yes),
+  λ call.
+      let begin = c.in-Some.begin in
+      absurd (elim (cases_lt (begin.position + 16) (2 ^ 64)) [
+        | inl lt ↦ c.in_default-checked_add.ensures lt
+        | inr far ↦
+            too_far file shown c.args.stream.now begin order
+            (sym (ap (λ (m : Marks). m.begin) c.marks.ensures) ∙ c.in-Some.is) far call
+      ]),
+)
 
 pub returns-then-is_some-clause-call : goal.returns-then-is_some-clause-call
 returns-then-is_some-clause-call g c = λ file shown allows order. (
-    λ yes. absurd (false≢true yes),
-    λ call.
-        let begin = c.in-Some.begin in
-        let runs = c.args.stream.now.runs in
-        let gap = gap_there c.gap.result _ _ c.if-is_some.ensures c.gap.ensures in
-        absurd (has_gap file shown c.args.stream.now begin gap.0.begin gap.0.end order
-        (sym (ap (λ (m : Marks). m.begin) c.marks.ensures) ∙ c.in-Some.is)
-        (subst (λ end. IsGap runs begin.position end gap.0.begin gap.0.end)
-        c.in-Some-checked_add.ensures.1 gap.1) call),
-  )
+  λ yes. absurd (false≢true yes),
+  λ call.
+      let begin = c.in-Some.begin in
+      let runs = c.args.stream.now.runs in
+      let gap = gap_there c.gap.result _ _ c.if-is_some.ensures c.gap.ensures in
+      absurd (has_gap file shown c.args.stream.now begin gap.0.begin gap.0.end order
+      (sym (ap (λ (m : Marks). m.begin) c.marks.ensures) ∙ c.in-Some.is)
+      (subst (λ end. IsGap runs begin.position end gap.0.begin gap.0.end)
+      c.in-Some-checked_add.ensures.1 gap.1) call),
+)
 
 pub returns-in-Ok-clause-call : goal.returns-in-Ok-clause-call
 returns-in-Ok-clause-call g c = λ file shown allows order.

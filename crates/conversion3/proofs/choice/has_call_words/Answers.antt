@@ -1,5 +1,4 @@
-use Rattle.std.proofs.Common.{◌≡◌, ◌≤◌, ◌∙◌, List, length, nat_eq, sym, subst, arith}
-use Rattle.std.proofs.lemmas.Bool.{false≢true}
+use Rattle.std.proofs.Common.{◌≡◌, ◌≤◌, List, length, subst, arith}
 use Rattle.std.proofs.lemmas.Bool.Decides.{Decides-eqb}
 use Rattle.std.proofs.lemmas.Slice.Eq.{slice_eq-Decides}
 use Rattle.payload3.specs.Readings.{Allow, OffsetRead}
@@ -72,8 +71,7 @@ returns-else-count-eq-HEAD_SIZE-clause-call g c = λ file allows.
     has_read file c.payload-payload.result c.fill-filled.new.source c.args.runs.now block count
     c.payload-payload.ensures size few
     (λ lt. (c.in_ok-count.ensures.end (omega (arith, lt, size))).0) c.in_ok-count.ensures.bytes.1
-    (c.gives.ensures file both.1) in
-    (
+    (c.gives.ensures file both.1) in (
       λ yes. absurd (c.if-count-eq-HEAD_SIZE.false ((Decides-eqb count 16).0 yes)),
       λ has.
           absurd (c.if-count-eq-HEAD_SIZE.false (read_16 file c.args.runs.now block count few read has)),

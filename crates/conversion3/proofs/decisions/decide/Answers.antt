@@ -17,24 +17,24 @@ returns-in-Err-clause-more g c = λ file allows.
 
 pub returns-in-Ok-None-clause-decided : goal.returns-in-Ok-None-clause-decided
 returns-in-Ok-None-clause-decided g c = λ file connection allows order. (
-    (
-      (c.in_ok-is_chosen.ensures.chosen file connection (c.judge.ensures.more file allows) order).0
-      c.if-not-branch.false,
-      λ empty.
-          false≢true (sym c.if-is_empty.false ∙ (c.is_empty.ensures connection order).1 empty),
-    ),
-    subst (IsJudged file connection) c.in-Ok-None.field-0-is
-    (c.in-Ok-None.ensures.judged file connection allows order),
-  )
+  (
+    (c.in_ok-is_chosen.ensures.chosen file connection (c.judge.ensures.more file allows) order).0
+        c.if-not-branch.false,
+    λ empty.
+        false≢true (sym c.if-is_empty.false ∙ (c.is_empty.ensures connection order).1 empty),
+  ),
+  subst (IsJudged file connection) c.in-Ok-None.field-0-is
+      (c.in-Ok-None.ensures.judged file connection allows order),
+)
 
 pub returns-in-Ok-Some-clause-decided : goal.returns-in-Ok-Some-clause-decided
 returns-in-Ok-Some-clause-decided g c = λ file connection allows order. (
-    (
-      (c.in_ok-is_chosen.ensures.chosen file connection (c.judge.ensures.more file allows) order).0
-      c.if-not-branch.false,
-      λ empty.
-          false≢true (sym c.if-is_empty.false ∙ (c.is_empty.ensures connection order).1 empty),
-    ),
-    subst (IsJudged file connection) c.in-Ok-Some.field-0-is
-    (c.in-Ok-Some.ensures.judged file connection allows order),
-  )
+  (
+    (c.in_ok-is_chosen.ensures.chosen file connection (c.judge.ensures.more file allows) order).0
+        c.if-not-branch.false,
+    λ empty.
+        false≢true (sym c.if-is_empty.false ∙ (c.is_empty.ensures connection order).1 empty),
+  ),
+  subst (IsJudged file connection) c.in-Ok-Some.field-0-is
+      (c.in-Ok-Some.ensures.judged file connection allows order),
+)

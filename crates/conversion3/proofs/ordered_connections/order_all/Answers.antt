@@ -1,4 +1,4 @@
-use Rattle.std.proofs.Common.{◌≡◌, ◌∙◌, ◌++◌, List, [], ◌∷◌, sym, subst}
+use Rattle.std.proofs.Common.{◌∙◌, ◌++◌, List, [], ◌∷◌, sym, subst}
 use Rattle.std.specs.List.{AllZip}
 use Rattle.std.proofs.lemmas.Iterator.Adapters.{YieldsList-from_vec}
 use Rattle.std.proofs.lemmas.Iterator.Consumers.{YieldsList-end}
@@ -24,7 +24,8 @@ returns c =
     let end =
     YieldsList-end
     (YieldsList-from_vec {s = c.into_iter-connection-iterator.result} c.args.connections.items
-    gives.0 (gives.1 ∙ c.args.connections.ok.0)) c.loop-connection.yielded _
-    c.loop-connection.yielded_by _ _ c.in-None.is c.next.ensures.steps in
+    gives.0 (gives.1 ∙ c.args.connections.ok.0)) c.loop-connection.yielded
+    c.loop-connection.connection-iterator c.loop-connection.yielded_by c.next.result
+    c.next.new.self c.in-None.is c.next.ensures.steps in
     subst (λ (l : List Connection). AllZip IsOrderedConnection l c.loop-connection.ordered.items)
     (sym (map-id c.loop-connection.yielded) ∙ end.0) c.loop-connection.invariant

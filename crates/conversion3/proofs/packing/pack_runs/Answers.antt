@@ -1,8 +1,8 @@
-use Rattle.std.proofs.Common.{◌≡◌, ◌∙◌, ℕ, List, Option, None, Some, Err, Result, subst}
+use Rattle.std.proofs.Common.{◌≡◌, None, Some, Err, Result, subst}
 use Rattle.std.specs.Result.{MatchResult}
 use Rattle.capture3.specs.declared.fault.Error.{Error}
-use Rattle.packing3.specs.Packing.{HasAdded, ending_of}
-use Rattle.conversion3.proofs.PackingLemmas.{added_is, allow_three, contents, counts_reading, if_err, on_ok, stops_after}
+use Rattle.packing3.specs.Packing.{ending_of}
+use Rattle.conversion3.proofs.PackingLemmas.{added_is, allow_three, contents, if_err, on_ok, stops_after}
 use Rattle.conversion3.proofs.packing.pack_runs.Goals as goal
 
 pub returns-clause-packed : goal.returns-clause-packed
