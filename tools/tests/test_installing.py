@@ -1,4 +1,5 @@
 """Tests of the Makefile: what is installed is run elsewhere."""
+import contextlib
 import os
 import pathlib
 import re
@@ -83,7 +84,7 @@ def signals_leave_nothing(place: Place) -> None:
     name, bin = '.nfs3canon-0123456789abcdef', place.installed() / 'bin'
     os.mkdir(place.path('out'))
     os.mkfifo(place.path(f'out/{name}'))
-    fifo = os.open(place.path(f'out/{name}'), os.O_RDWR)
+    fifo = os.open(place.path(f'out/{name}'), os.O_RDWR | os.O_NONBLOCK)
     commands = [[str(launcher / name), *words] for launcher in (TOP, bin)
                 for name, *words in (['nfs3canon', 'canon'], ['nfs3mask'])]
     for command in commands:
@@ -100,6 +101,10 @@ def signals_leave_nothing(place: Place) -> None:
                        (True, -number, True, [name]))
             for pipe in (process.stdout, process.stderr):
                 pipe_of(pipe).close()
+            # (what the killed program had not read yet)
+            with contextlib.suppress(BlockingIOError):
+                while os.read(fifo, 1 << 16):
+                    pass
     os.close(fifo)
 
 
