@@ -7,8 +7,8 @@ ghost use Rattle.line3.specs.Asked.{AreRefused, Asks, IsLine, IsRefusedBy, IsUsa
 
 use crate::asked::{Job, LineFault};
 use crate::grammar::command;
-use clap::{ArgMatches, Command};
 use clap::error::ErrorKind;
+use clap::{ArgMatches, Command};
 use std::alloc::{AllocError, Global};
 
 const END: &str = "--";
