@@ -39,7 +39,7 @@ was_sent one other p same sent = (
   subst (λ (m : Marks). IsNotAfter p m.end) same.marks sent.1,
 )
 
-is_missing : (one other : Ordered) (p : ℕ) → AreAlike one other → IsMissing one p
+pub is_missing : (one other : Ordered) (p : ℕ) → AreAlike one other → IsMissing one p
     → IsMissing other p
 is_missing one other p same missing = record {
   from = subst (λ (m : Marks). begin_of m.begin ≤ p) same.marks missing.from;

@@ -16,14 +16,14 @@ use Rattle.conversion3.specs.Whole.{IsWholeStreamIn, recorded_of}
 use Rattle.conversion3.proofs.OrderedLemmas.{alike_of, is_whole, turned}
 
 -- behind its last byte runs in order have none
-record HasLast (runs : List Run) (low high : ℕ) : Type 0 where
+pub record HasLast (runs : List Run) (low high : ℕ) : Type 0 where
   pub end : ℕ
   pub low_end : low ≤ end
   pub high_end : end ≤ high
   pub none : (p : ℕ) → end ≤ p → spot_of runs p ≡ None
   pub last : low < end → spot_of runs (end - 1) ≢ None
 
-has_last : (runs : List Run) (low high : ℕ) → Lie low high runs → HasLast runs low high
+pub has_last : (runs : List Run) (low high : ℕ) → Lie low high runs → HasLast runs low high
 has_last [] low high lie = record {
   end = low;
   low_end = omega arith;

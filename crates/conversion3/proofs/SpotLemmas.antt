@@ -1,22 +1,10 @@
 -- Runs that have a byte.
-use Rattle.std.proofs.Common.{◌≡◌, ◌<◌, ℕ, ◌+◌, ◌-◌, List, Option, None, Some, length, get_or, take, drop, sym, ◌∙◌, ap, ap₂, take-append-drop, ◌⊎◌, inl, inr}
-use Rattle.std.proofs.lemmas.Bool.{cases_lt}
+use Rattle.std.proofs.Common.{◌≡◌, ◌<◌, ℕ, ◌+◌, ◌-◌, List, Option, None, Some, length, get_or, take, drop, sym, ◌∙◌, ap, ap₂, take-append-drop, inl, inr}
 use Rattle.std.proofs.lemmas.List.{drop_more, take_more}
 use Rattle.streams3.specs.declared.runs.Run.{Run}
 use Rattle.streams3.specs.Repeats.{Has}
 use Rattle.streams3.specs.Runs.{or_else, spot_in, spot_of}
-use Rattle.streams3.proofs.RunsLemmas.{has_after, has_before, has_it, some_none, spot_append, spot_last}
-
--- a byte is in a run, or not
-pub cases_has : (r : Run) (p : ℕ) → Has r p ⊎ (spot_in r p ≡ None)
-cases_has r p =
-    elim (cases_lt p r.position) [
-      | inl h ↦ inr (has_before r p h)
-      | inr h ↦ elim (cases_lt p (r.position + r.size)) [
-        | inl k ↦ inl (h, k)
-        | inr k ↦ inr (has_after r p k)
-      ]
-    ]
+use Rattle.streams3.proofs.RunsLemmas.{cases_has, has_it, some_none, spot_append, spot_last}
 
 -- where something lies is a byte
 pub has_there : (r : Run) (p : ℕ) (spot : ℕ × ℕ) → spot_in r p ≡ Some spot → Has r p

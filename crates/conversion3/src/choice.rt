@@ -1,11 +1,12 @@
 //! Which connections are chosen.
 
-ghost use Rattle.std.specs.Prelude.{◌≡◌, ◌⊎◌, ◌↔◌, ℕ, List, IfErr, IfOk, IsTrue};
+ghost use Rattle.std.specs.Prelude.{◌≡◌, ◌≤◌, ◌⊎◌, ◌↔◌, ℕ, List, IfErr, IfOk, IsTrue, length};
 ghost use Rattle.capture3.specs.Device.{Counts};
 ghost use Rattle.capture3.specs.Entries.{CountsReading};
 ghost use Rattle.capture3.specs.declared.fault.Error.TheVariants as errors;
 ghost use Rattle.connections3.specs.declared.connection.Connection.{Connection};
 ghost use Rattle.payload3.specs.Readings.{Allow};
+ghost use Rattle.streams3.specs.Content.{AreIn, content_of};
 ghost use Rattle.streams3.specs.Order.{IsOrderOf};
 ghost use Rattle.streams3.specs.Streams.{Shown};
 ghost use Rattle.conversion3.specs.Choice.{BeginsWithCall, IsChosen, has_port};
@@ -109,6 +110,8 @@ fn has_call_words<F: FileExt>(
         → Allow recorded.old.readings file }
     ensures call { IfOk result (λ call. (file : List ℕ) → Allow recorded.new.readings file
         → IsTrue call ↔ HasCallWords file runs.now) }
+    ensures within { IfOk result (λ call. (file : List ℕ) → Allow recorded.new.readings file
+        → length (content_of file runs.now) ≤ 16 → AreIn file runs.now) }
     ensures count { Counts recorded.old.failures recorded.new.failures result }
 {
     let mut payload = recorded.payload(runs);

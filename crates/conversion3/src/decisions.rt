@@ -1,14 +1,17 @@
 //! What is said of each connection.
 
-ghost use Rattle.std.specs.Prelude.{◌≡◌, ◌⊎◌, ◌↔◌, ℕ, List, IfErr, IfOk, IsTrue, MatchOption};
+ghost use Rattle.std.specs.Prelude.{◌≡◌, ◌⊎◌, ◌↔◌, ℕ, List, IfErr, IfOk, IsTrue, Option};
 ghost use Rattle.std.specs.Option.{option_copied};
 ghost use Rattle.capture3.specs.Entries.{CountsReading};
 ghost use Rattle.capture3.specs.declared.fault.Error.TheVariants as errors;
 ghost use Rattle.connections3.specs.declared.connection.Connection.{Connection};
 ghost use Rattle.connections3.specs.declared.connection.Flow.{Flow};
 ghost use Rattle.payload3.specs.Readings.{Allow};
-ghost use Rattle.conversion3.specs.Decisions.{AreDecidedIn, IsDecided, IsEmpty, IsEmptyFlow};
+ghost use Rattle.streams3.specs.Order.{IsOrderOf};
+ghost use Rattle.streams3.specs.Streams.{Shown};
+ghost use Rattle.conversion3.specs.Decisions.{AreDecidedIn, IsDecided, IsEmpty, IsEmptyFlow, IsEmptyStream};
 ghost use Rattle.conversion3.specs.OrderedConnections.{IsOrderedConnection, IsOrderedFlow};
+ghost use Rattle.conversion3.specs.Whole.{recorded_of};
 
 use crate::choice::is_chosen;
 use crate::judgment::{Flaw, judge};
@@ -17,6 +20,7 @@ use capture3::Error;
 use payload3::Recorded;
 use std::alloc::Global;
 use std::os::unix::fs::FileExt;
+use streams3::OrderedStream;
 
 /// What is said of a connection.
 #[derive(Clone, Copy, Debug, PartialEq, Eq, Drop)]
@@ -99,13 +103,23 @@ fn is_empty(connection: &OrderedConnection) -> bool
 
 /// Returns whether an end sent nothing.
 fn is_empty_flow(flow: Option<&OrderedFlow>) -> bool
-    ensures { (shown : Option Flow) → IsOrderedFlow shown (option_copied flow)
+    ensures { (shown : Option Flow) → IsOrderedFlow shown (option_copied flow.entry)
         → IsTrue result ↔ IsEmptyFlow shown }
 {
     match flow {
-        Some(OrderedFlow { stream, .. }) => {
-            stream.runs().is_empty() && stream.missing().is_none() && stream.marks().strays == 0
-        }
+        Some(sent) => is_empty_stream(&sent.stream),
         None => true,
     }
+}
+
+/// Returns whether no byte of a stream was recorded or is known to have been sent, and no number is
+/// a stray.
+fn is_empty_stream(stream: &OrderedStream) -> bool
+    ensures { (shown : Shown) → IsOrderOf shown stream.now
+        → IsTrue result ↔ IsEmptyStream (recorded_of shown) }
+{
+    if !stream.runs().is_empty() || stream.missing().is_some() {
+        return false;
+    }
+    stream.marks().strays == 0
 }

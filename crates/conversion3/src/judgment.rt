@@ -68,17 +68,17 @@ fn judge_end<F: FileExt>(
     ensures more { (file : List ℕ) → Allow recorded.new.readings file
         → Allow recorded.old.readings file }
     ensures judged { IfOk result (λ flaw. (file : List ℕ) (shown : Option Flow)
-        → Allow recorded.new.readings file → IsOrderedFlow shown (option_copied flow)
+        → Allow recorded.new.readings file → IsOrderedFlow shown (option_copied flow.entry)
         → IsEndJudged file shown flaw) }
     ensures count { Counts recorded.old.failures recorded.new.failures result }
 {
-    let Some(OrderedFlow { stream, .. }) = flow else {
+    let Some(sent) = flow else {
         return Ok(Some(StreamFlaw::NoSyn));
     };
-    if let Some(flaw) = order_flaw(stream) {
+    if let Some(flaw) = order_flaw(&sent.stream) {
         return Ok(Some(flaw));
     }
-    match first_changed(recorded, stream.pairs())? {
+    match first_changed(recorded, sent.stream.pairs())? {
         Some(run) => Ok(Some(StreamFlaw::Changed(run))),
         None => Ok(None),
     }

@@ -94,7 +94,7 @@ fn pack<F: FileExt, W: Sink>(
 /// Returns where the bytes lie that an end sent.
 fn runs_of(flow: Option<&OrderedFlow>, alloc: Global) -> Result<Vec<Run>, AllocError>
     ensures { IfOk result (λ runs. (file : List ℕ) (shown : Option Flow)
-        → IsOrderedFlow shown (option_copied flow) → IsWholeFlow file shown
+        → IsOrderedFlow shown (option_copied flow.entry) → IsWholeFlow file shown
         → AreIn file runs.items → IsSentBy file shown (content_of file runs.items)) }
 {
     match flow {

@@ -1,5 +1,5 @@
 -- Reads of a file by offsets, and the bytes of a stream in it.
-use Rattle.std.specs.Prelude.{◌≡◌, ℕ, Bool, true, List, [], ◌++◌, length, take, drop}
+use Rattle.std.specs.Prelude.{◌≡◌, ℕ, Bool, true, List, [], ◌∷◌, ◌++◌, length, take, drop}
 use Rattle.std.specs.List.{AllByRecursion}
 use Rattle.streams3.specs.declared.runs.Run.{Run}
 use Rattle.streams3.specs.Content.{AreIn, content_of}
@@ -36,6 +36,15 @@ pub record PayloadReads : Type 0 where
   pub given : List ℕ
   pub failures : ℕ
   pub is_spent : Bool
+
+-- The trail of a payload: its runs, and the bytes that it gave. A call that takes any source promises
+-- only what it appends to the trail, so this says that the payload still has its runs.
+abbrev pub numbers_of : List Run → List ℕ
+numbers_of [] = []
+numbers_of (run ∷ runs) = run.position ∷ run.at ∷ run.size ∷ run.frame ∷ numbers_of runs
+
+abbrev pub trail_of : PayloadReads → List ℕ
+trail_of reads = length reads.runs ∷ numbers_of reads.runs ++ reads.given
 
 -- in a file that the reads allow, the bytes given are the first of the runs' bytes, and these come
 -- after them

@@ -3,7 +3,7 @@
 ghost use Rattle.std.specs.Prelude.{◌≡◌, ◌≤◌, ◌<◌, ◌+◌, ◌∷◌, ◌++◌, ℕ, [], List, None, Some, Ok, false, true, drop, length, take, IfOk, OnErr};
 ghost use Rattle.capture3.specs.Device.{Counts};
 ghost use Rattle.capture3.specs.Observed.{ReadGives, UpdatesSpent};
-ghost use Rattle.payload3.specs.Readings.{Allow, GivesPayload};
+ghost use Rattle.payload3.specs.Readings.{Allow, GivesPayload, trail_of};
 
 use crate::notes::Notes;
 use crate::parts::{RunPart, next_part};
@@ -108,7 +108,7 @@ impl<'a, F> Payload<'a, F> {
 impl<F: FileExt> Source for Payload<'_, F> {
     ghost observed = { λ s. record {
       left = None;
-      given = Some s.given;
+      given = Some (trail_of s);
       is_spent = s.is_spent;
     } };
 

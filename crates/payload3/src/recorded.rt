@@ -62,10 +62,10 @@ impl<'a, F: FileExt> Recorded<'a, F> {
 
     /// Adds what the reads of a payload of the same file gave, and how many failed.
     pub fn note_payload(&mut self, payload: &Payload<'_, F>)
-        ensures { self.new ≡ record {
-          readings = self.old.readings ++ payload.now.readings;
-          failures = min (self.old.failures + payload.now.failures) (2 ^ 64 - 1);
-        } }
+        ensures noted { self.new.readings ≡ self.old.readings ++ payload.now.readings }
+        ensures count { self.new.failures
+            ≡ min (self.old.failures + payload.now.failures) (2 ^ 64 - 1) }
+        ensures none { payload.now.failures ≡ 0 → self.new.failures ≡ self.old.failures }
     {
         self.notes.note_all(payload.notes());
         self.failures = self.failures.saturating_add(payload.failures());

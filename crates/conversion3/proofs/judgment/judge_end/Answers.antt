@@ -1,13 +1,12 @@
-use Rattle.std.proofs.Common.{ℕ, List, Option, sym, subst}
+use Rattle.std.proofs.Common.{Bor, ℕ, List, Option, subst}
 use Rattle.std.specs.List.{All}
-use Rattle.std.specs.Option.{MatchOption}
-use Rattle.connections3.specs.declared.connection.Flow.{Flow}
+use Rattle.std.specs.Option.{MatchOption, option_copied}
 use Rattle.streams3.specs.declared.runs.Pair.{Pair}
 use Rattle.streams3.specs.declared.runs.Run.{Run}
-use Rattle.conversion3.specs.declared.flaws.StreamFlaw.TheVariants.{Changed}
-use Rattle.conversion3.specs.machinery.Ends.{HasEndFlaw, IsWholeEnd}
+use Rattle.conversion3.specs.OrderedConnections.{IsOrderedFlow}
+use Rattle.conversion3.specs.declared.ordered_connections.OrderedFlow.{OrderedFlow}
 use Rattle.conversion3.specs.machinery.Ordered.{HasSameBytes, IsAgainOf}
-use Rattle.conversion3.proofs.EndLemmas.{end_changed, end_is_whole, order_flawed}
+use Rattle.conversion3.proofs.EndLemmas.{changed_judged, order_judged, whole_judged}
 use Rattle.conversion3.proofs.judgment.judge_end.Goals as goal
 
 -- what is known of the pairs in a file
@@ -16,27 +15,26 @@ KnowsPairs file pairs found =
     MatchOption found (All (HasSameBytes file) pairs) (IsAgainOf file pairs)
 
 pub returns-in-Some-order_flaw-clause-judged : goal.returns-in-Some-order_flaw-clause-judged
-returns-in-Some-order_flaw-clause-judged g c = λ file allows.
-    let flaw = c.in-Some-order_flaw.flaw in
-    subst (λ (flow : Option Flow). HasEndFlaw file flow flaw) (sym c.in-Some.is)
-    (order_flawed file c.in-Some.flow c.in_ok-stream.stream flaw c.in_ok-stream.ensures
-    c.in-Some-order_flaw.ensures)
+returns-in-Some-order_flaw-clause-judged g c = λ file shown allows order.
+    order_judged file shown c.in-Some.sent.now c.in-Some-order_flaw.flaw
+    (subst (λ (f : Option (Bor OrderedFlow)). IsOrderedFlow shown (option_copied f)) c.in-Some.is
+    order) c.in-Some-order_flaw.ensures
 
-pub returns-in-Ok-None-clause-judged : goal.returns-in-Ok-None-clause-judged
-returns-in-Ok-None-clause-judged g c = λ file allows.
-    let stream = c.in_ok-stream.stream in
-    let known = subst (KnowsPairs file c.pairs.result.now) c.in-Ok-None.field-0-is
-    (c.in-Ok-None.ensures.found file allows) in
-    subst (λ (flow : Option Flow). IsWholeEnd file flow stream) (sym c.in-Some.is)
-    (end_is_whole file c.in-Some.flow stream c.in_ok-stream.ensures c.in_default.ensures
-    (subst (λ (pairs : List Pair). All (HasSameBytes file) pairs) c.pairs.ensures known))
+pub returns-in-Some-2-clause-judged : goal.returns-in-Some-2-clause-judged
+returns-in-Some-2-clause-judged g c = λ file shown allows order.
+    let run = c.in-Some-2.run' in
+    let known = subst (KnowsPairs file c.pairs.result.now) c.in-Some-2.is
+    (c.in_ok-run.ensures.found file allows) in
+    changed_judged file shown c.in-Some.sent.now run
+    (subst (λ (f : Option (Bor OrderedFlow)). IsOrderedFlow shown (option_copied f)) c.in-Some.is
+    order) c.in_default-order_flaw.ensures
+    (subst (λ (pairs : List Pair). IsAgainOf file pairs run) c.pairs.ensures known)
 
-pub returns-in-Ok-Some-clause-judged : goal.returns-in-Ok-Some-clause-judged
-returns-in-Ok-Some-clause-judged g c = λ file allows.
-    let run = c.in-Ok-Some.run' in
-    let stream = c.in_ok-stream.stream in
-    let known = subst (KnowsPairs file c.pairs.result.now) c.in-Ok-Some.field-0-is
-    (c.in-Ok-Some.ensures.found file allows) in
-    subst (λ (flow : Option Flow). HasEndFlaw file flow (Changed run)) (sym c.in-Some.is)
-    (end_changed file c.in-Some.flow stream run c.in_ok-stream.ensures c.in_default.ensures
-    (subst (λ (pairs : List Pair). IsAgainOf file pairs run) c.pairs.ensures known))
+pub returns-in-None-clause-judged : goal.returns-in-None-clause-judged
+returns-in-None-clause-judged g c = λ file shown allows order.
+    let known = subst (KnowsPairs file c.pairs.result.now) c.in-None.is
+    (c.in_ok-run.ensures.found file allows) in
+    whole_judged file shown c.in-Some.sent.now
+    (subst (λ (f : Option (Bor OrderedFlow)). IsOrderedFlow shown (option_copied f)) c.in-Some.is
+    order) c.in_default-order_flaw.ensures
+    (subst (λ (pairs : List Pair). All (HasSameBytes file) pairs) c.pairs.ensures known)
