@@ -5,10 +5,15 @@ use Rattle.capture3.specs.Entries.{CountsReading}
 use Rattle.capture3.specs.SidedChunks.{Streams}
 use Rattle.capture3.specs.declared.fault.Error.{Error}
 use Rattle.capture3.specs.declared.fault.Error.TheVariants as errors
-use Rattle.packing3.specs.Packing.{HasWrittenCapture}
+use Rattle.conversion3.specs.Packing.{AreSentIn}
+use Rattle.conversion3.specs.declared.decisions.Decision.{Decision}
+use Rattle.conversion3.specs.declared.ordered_connections.OrderedConnection.{OrderedConnection}
+use Rattle.packing3.specs.Packing.{Finishes, HasWrittenCapture}
+use Rattle.payload3.specs.Readings.{OffsetRead}
 use Rattle.program3.specs.Files.{WritesOut}
 use Rattle.nfs3streams.specs.Conversion.{IsCaptureOf}
-use Rattle.nfs3streams.specs.machinery.Converting.{CountsFailure}
+use Rattle.nfs3streams.specs.machinery.Converting.{CountsFailure, WritesWhole}
+use Rattle.nfs3streams.specs.declared.decided.Decided.{Decided}
 
 -- a write that failed is no success
 pub out_ok : (came now : Result (Unit {0}) Error) (gathered written : Option (List ℕ))
@@ -64,6 +69,34 @@ out_failed (Ok x) now gathered written errors.Read old new is stays out counts =
       | inl failed ↦ absurd (cc)
       | inr kept ↦ let e = kept.0 in absurd (cc)
     ]
+
+-- a capture that was finished
+pub finishes_whole : (d : Decided) (connections : List OrderedConnection)
+    (decisions : List Decision) (readings : List OffsetRead) (before after : Option (List ℕ))
+    (pairs : List Streams) (r : Result (Unit {0}) Error) → connections ≡ d.connections.items
+    → decisions ≡ d.decisions.items → Finishes before after pairs r
+    → AreSentIn readings connections decisions pairs → OnOk r (WritesWhole d readings before after)
+finishes_whole d connections decisions readings before after pairs (Ok x) same alike has sent =
+    record {
+      pairs = pairs;
+      written = has;
+      sent =
+          subst (λ ds. AreSentIn readings d.connections.items ds pairs) alike
+          (subst (λ cs. AreSentIn readings cs decisions pairs) same sent);
+    }
+finishes_whole d connections decisions readings before after pairs (Err error) same alike has sent =
+    tt
+
+-- no read fails when it is finished
+pub reads_on : (old new : ℕ) (before after : Option (List ℕ)) (pairs : List Streams)
+    (r : Result (Unit {0}) Error) → new ≡ old → Finishes before after pairs r
+    → CountsReading old new r
+reads_on old new before after pairs (Ok x) same has = same
+reads_on old new before after pairs (Err errors.Write) same has = same
+reads_on old new before after pairs (Err errors.Read) same has = let e = has.is in absurd (cc)
+reads_on old new before after pairs (Err errors.Memory) same has = let e = has.is in absurd (cc)
+reads_on old new before after pairs (Err (errors.Refused fault)) same has =
+    let e = has.is in absurd (cc)
 
 -- the capture is all that an empty writer has
 pub capture_of : (old new out : Option (List ℕ)) (pairs : List Streams) → old ≡ Some []

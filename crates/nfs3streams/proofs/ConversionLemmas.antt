@@ -1,7 +1,9 @@
 -- What a conversion shows of a recording.
-use Rattle.std.proofs.Common.{◌≡◌, ◌⊎◌, ◌∙◌, ◌++◌, ◌-◌, ◌+◌, ◌^◌, ℕ, min, List, [], Option, None, Some, Result, Ok, Err, IfOk, MatchResult, AllocError, inl, inr, refl, sym, ap, subst}
+use Rattle.std.proofs.Common.{◌≡◌, ◌⊎◌, ◌∙◌, ◌++◌, ◌-◌, ◌+◌, ◌^◌, ℕ, min, List, [], Option, None, Some, Result, Ok, Err, IfErr, IfOk, MatchResult, inl, inr, refl, sym, ap, subst}
+use Rattle.std.specs.declared.alloc.AllocError.{AllocError}
 use Rattle.std.specs.Io.KnownBytes.{Appends}
 use Rattle.std.proofs.lemmas.List.{append_cancel_left}
+use Rattle.capture3.specs.Device.{TracedReader}
 use Rattle.capture3.specs.Observed.{Gave, GavePrefix, IsSpent, Observed}
 use Rattle.capture3.specs.SidedChunks.{Streams}
 use Rattle.capture3.specs.declared.fault.Error.{Error}
@@ -11,7 +13,9 @@ use Rattle.connections3.specs.declared.connection.Connection.{Connection}
 use Rattle.connections3.specs.declared.taker.NotTaken.{NotTaken}
 use Rattle.connections3.specs.declared.taker.PacketTaker.{PacketTaker}
 use Rattle.conversion3.specs.Packing.{AreSentIn}
-use Rattle.payload3.specs.Readings.{Allow, OffsetRead}
+use Rattle.payload3.specs.Readings.{Allow, OffsetRead, RecordedReads}
+use Rattle.program3.specs.Readings.{BeginsWithReads, FileReading, IsUnread, reading_under}
+use Rattle.program3.proofs.FilesLemmas.{observed_of}
 use Rattle.program3.specs.declared.outcome.Outcome.{Outcome}
 use Rattle.program3.specs.declared.outcome.Outcome.TheVariants as outcomes
 use Rattle.program3.specs.declared.outcome.Report.{Report}
@@ -22,11 +26,12 @@ use Rattle.recording3.specs.declared.frames.Failed.{Failed}
 use Rattle.recording3.specs.declared.frames.Failed.TheVariants as failures
 use Rattle.recording3.specs.declared.frames.RecordingEnd.{RecordingEnd}
 use Rattle.recording3.specs.declared.outcomes.Tally.{Tally}
-use Rattle.nfs3streams.specs.Conversion.{HasFrames, IsCaptureOf, ShowFrames}
+use Rattle.nfs3streams.specs.Conversion.{HasFrames, IsCaptureOf, IsConversion, RecordingReading, ShowFrames}
 use Rattle.nfs3streams.specs.Printed.{PrintsNoRecording}
-use Rattle.nfs3streams.specs.Streams.{PrintsLimit, StopsWith}
+use Rattle.nfs3streams.specs.Streams.{EndsFrames, PrintsLimit, StopsBy, StopsWith, reading_of}
 use Rattle.nfs3streams.specs.machinery.Converting.{ConvertsTo, CountsFailure, DecidesOn, ReadsConnections, StopsAtStart, TellsFailed, found_of}
 use Rattle.nfs3streams.specs.declared.connections.RecordingRead.{RecordingRead}
+use Rattle.nfs3streams.specs.declared.conversion.RecordingReads.{RecordingReads}
 use Rattle.nfs3streams.specs.declared.decided.Decided.{Decided}
 
 -- ---- the frames of a file
@@ -108,14 +113,28 @@ took_some source Took end r = record {
   all = r.all;
 }
 
+-- a limit was passed
+pub tells_limit : (failed : Failed NotTaken) (report : Result Report AllocError) (outcome : Outcome)
+    → IfOk report PrintsLimit
+    → MatchResult report (λ told. outcome ≡ outcomes.Told told)
+    (λ _. outcome ≡ outcomes.Packed (Err errors.Memory))
+    → TellsFailed failed outcome
+tells_limit failed (Ok report) outcome limit is = inl (report, is, limit)
+tells_limit failed (Err error) outcome limit is = inr (errors.Memory, is, λ e. absurd (cc))
+
+pub limit_or : (report : Result Report AllocError) → (One : Report → Type 0)
+    → ((told : Report) → One told → PrintsLimit told) → IfOk report One → IfOk report PrintsLimit
+limit_or (Ok report) One is one = is report one
+limit_or (Err error) One is one = tt
+
 -- reading failed
-pub stops_failed : {X : Type 0} (source : Observed × Observed) (old new : ℕ)
+pub stops_failed : (X : Type 0) (source : Observed × Observed) (old new : ℕ)
     (failed : Failed NotTaken) (outcome : Outcome)
     → CountsFailedReads {X = X} {E = NotTaken} old new (Err failed) → TellsFailed failed outcome
     → StopsAtStart source (old, new) outcome
-stops_failed source old new failed outcome counts (inl (report, is, limit)) =
+stops_failed X source old new failed outcome counts (inl (report, is, limit)) =
     inl (report, is, inr limit)
-stops_failed source old new failed outcome counts (inr (error, is, only)) =
+stops_failed X source old new failed outcome counts (inr (error, is, only)) =
     inr (error, is, by_error error failed only counts)
   where
     by_error : (error : Error) (failed : Failed NotTaken)
@@ -153,3 +172,88 @@ converts old new read ports before after d written pairs r decides more capture 
         sent = sent file ports read.connections.items allows decides.ordered are;
       };
 }
+
+-- ---- of the files of a job
+
+pub stops_read : (old new : Observed) (counts others : ℕ × ℕ) (outcome : Outcome)
+    → StopsAtStart (old, new) counts outcome
+    → StopsWith
+    (λ end. (file : List ℕ) → GavePrefix old new file
+    → (frames : List Passed) × HasFrames file frames end)
+    (λ error. CountsFailure counts error ⊎ CountsFailure others error) outcome
+stops_read old new counts others outcome =
+    stops_still (λ end. ReadsFrames 0 (old, new) (λ frames. Unit {0}) end)
+    (λ end. (file : List ℕ) → GavePrefix old new file
+    → (frames : List Passed) × HasFrames file frames end) (CountsFailure counts)
+    (λ error. CountsFailure counts error ⊎ CountsFailure others error) outcome
+    (λ end r file gives. (
+      r.frames,
+      has_frames old new file r.file r.frames end r.gave r.reads r.all gives,
+    )) (λ error fails. inl fails)
+
+-- a file that begins with what its reads gave
+pub prefix_given : {R : Type 0} (remaining : R → Option (List ℕ)) (name : List ℕ)
+    (was now : TracedReader R) (reading : FileReading) → IsUnread remaining None was
+    → reading_under name now ≡ reading → (file : List ℕ) → BeginsWithReads reading file
+    → GavePrefix (observed_of remaining was) (observed_of remaining now) file
+prefix_given remaining name was now reading unread is file begins =
+    let b = subst (λ (r : FileReading). BeginsWithReads r file) (sym is) begins in
+    record {
+      start = [];
+      given = now.given;
+      rest = b.rest;
+      was = ap Some unread.given;
+      now = refl;
+      split = b.split;
+      all = λ spent. b.all spent.0;
+    }
+
+pub converts_still : {W : Type 0} (contents : W → Option (List ℕ))
+    (r : Result (Report × W) Outcome) (Gives Begins Allows May : List ℕ → Type 0)
+    (ports others : List ℕ) → ((file : List ℕ) → Begins file → Gives file)
+    → ((file : List ℕ) → May file → Allows file) → ports ≡ others
+    → IfOk r (λ done. ConvertsTo Gives Allows ports done.0 (contents done.1))
+    → IfOk r (λ done. ConvertsTo Begins May others done.0 (contents done.1))
+converts_still contents (Err outcome) Gives Begins Allows May ports others begins may same to = tt
+converts_still contents (Ok done) Gives Begins Allows May ports others begins may same to = record {
+  found = to.found;
+  pairs = to.pairs;
+  prints = to.prints;
+  capture = to.capture;
+  is = λ file begun allowed.
+      subst (λ (l : List ℕ). IsConversion file l to.found to.pairs) same
+      (to.is file (begins file begun) (may file allowed));
+}
+
+-- a read failed, if that is the error
+stops_by : (reading : RecordingReading) (one other : ℕ × ℕ) (error : Error) → one.0 ≡ 0
+    → other.0 ≡ 0 → one.1 ≡ reading.start.failures → other.1 ≡ reading.others.failures
+    → CountsFailure one error ⊎ CountsFailure other error → StopsBy reading error
+stops_by reading one other errors.Read none nothing first second fails = elim fails [
+  | inl failed ↦ inl (sym first ∙ failed none)
+  | inr failed ↦ inr (sym second ∙ failed nothing)
+]
+stops_by reading one other errors.Write none nothing first second fails = tt
+stops_by reading one other errors.Memory none nothing first second fails = tt
+stops_by reading one other (errors.Refused fault) none nothing first second fails = tt
+
+pub stops_job : {R W : Type 0} (remaining : R → Option (List ℕ)) (name : List ℕ)
+    (was now : TracedReader R) (before after : RecordedReads) (reads : RecordingReads)
+    (r : Result (Report × W) Outcome) → IsUnread remaining None was → before.failures ≡ 0
+    → reading_under name now ≡ (reading_of reads).start → after ≡ reads.others
+    → IfErr r (StopsWith
+    (λ end. (file : List ℕ) → GavePrefix (observed_of remaining was) (observed_of remaining now) file
+    → (frames : List Passed) × HasFrames file frames end)
+    (λ error. CountsFailure (was.failures, now.failures) error
+    ⊎ CountsFailure (before.failures, after.failures) error))
+    → IfErr r (StopsWith (EndsFrames (reading_of reads)) (StopsBy (reading_of reads)))
+stops_job remaining name was now before after reads (Ok done) unread none is same stops = tt
+stops_job remaining name was now before after reads (Err outcome) unread none is same stops =
+    stops_still _ (EndsFrames (reading_of reads)) _ (StopsBy (reading_of reads)) outcome
+    (λ end ends file may.
+    ends file
+    (prefix_given remaining name was now (reading_of reads).start unread is file may.start))
+    (λ error.
+    stops_by (reading_of reads) (was.failures, now.failures) (before.failures, after.failures) error
+    unread.failures none (ap (λ (r : FileReading). r.failures) is)
+    (ap (λ (r : RecordedReads). r.failures) same)) stops

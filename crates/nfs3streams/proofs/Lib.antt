@@ -1,5 +1,6 @@
 mod CaptureLemmas
 mod ConversionLemmas
+mod JobLemmas
 mod LineLemmas
 mod PortsLemmas
 mod PrintedLemmas

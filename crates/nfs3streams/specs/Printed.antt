@@ -9,6 +9,7 @@ use Rattle.conversion3.specs.declared.decisions.Decision.{Decision}
 use Rattle.conversion3.specs.declared.decisions.Decision.TheVariants.{Flawed, Whole}
 use Rattle.conversion3.specs.declared.flaws.StreamFlaw.{StreamFlaw}
 use Rattle.conversion3.specs.declared.flaws.StreamFlaw.TheVariants.{NoSyn, Missing, Beyond, Stray, Changed}
+use Rattle.conversion3.specs.declared.judgment.Flaw.{Flaw}
 use Rattle.program3.specs.Printed.{Prints, newline, side_of}
 use Rattle.program3.specs.declared.outcome.Report.{Report}
 use Rattle.recording3.specs.declared.contents.Ending.{Ending}
@@ -31,11 +32,11 @@ is_whole Whole = true
 is_whole _ = false
 
 -- how many frames had no segment, by the reason
-abbrev pub reasons_text : Tally → List ℕ
-reasons_text t = concat (codes " unknown_link=" ∷ decimal t.unknown_link ∷ codes " cut="
-    ∷ decimal t.cut ∷ codes " not_ip=" ∷ decimal t.not_ip ∷ codes " bad_ip=" ∷ decimal t.bad_ip
-    ∷ codes " fragment=" ∷ decimal t.fragment ∷ codes " not_tcp=" ∷ decimal t.not_tcp
-    ∷ codes " bad_tcp=" ∷ decimal t.bad_tcp ∷ [])
+unfoldable pub reasons_text : Tally → List ℕ
+reasons_text t = codes " unknown_link=" ++ (decimal t.unknown_link ++ (codes " cut="
+    ++ (decimal t.cut ++ (codes " not_ip=" ++ (decimal t.not_ip ++ (codes " bad_ip="
+    ++ (decimal t.bad_ip ++ (codes " fragment=" ++ (decimal t.fragment ++ (codes " not_tcp="
+    ++ (decimal t.not_tcp ++ (codes " bad_tcp=" ++ decimal t.bad_tcp))))))))))))
 
 abbrev pub counts_line : RecordingEnd → Tally → List Decision → List ℕ
 counts_line end tally decisions = concat (codes "frames=" ∷ decimal end.frames ∷ codes " segments="
@@ -75,27 +76,32 @@ abbrev pub begin_of_flow : Option Flow → ℕ
 begin_of_flow None = 0
 begin_of_flow (Some flow) = begin_of flow.stream.marks.begin
 
+-- a number that is none of the stream, and the frame that has it
+abbrev pub stray_text : Option ℕ → List ℕ
+stray_text None = codes "a number is none of the stream"
+stray_text (Some frame) = codes "a number is none of the stream, frame " ++ decimal frame
+
 -- What is wrong with a stream that begins at a position, and the frame that shows it. Bytes come
 -- after so many others.
 abbrev pub flaw_text : (begin : ℕ) → StreamFlaw → List ℕ
 flaw_text begin NoSyn = codes "NoSyn"
-flaw_text begin (Missing bytes frame) = concat (decimal (bytes.end - bytes.begin)
-    ∷ codes " bytes are missing after " ∷ decimal (bytes.begin - begin) ∷ codes ", frame "
-    ∷ decimal frame ∷ [])
-flaw_text begin (Beyond mark) = concat (codes "bytes follow FIN after "
-    ∷ decimal (mark.position - begin) ∷ codes ", frame " ∷ decimal mark.frame ∷ [])
-flaw_text begin (Stray None) = codes "a number is none of the stream"
-flaw_text begin (Stray (Some frame)) =
-    concat (codes "a number is none of the stream, frame " ∷ decimal frame ∷ [])
-flaw_text begin (Changed run) = concat (decimal run.size
-    ∷ codes " bytes differ that came again after " ∷ decimal (run.position - begin)
-    ∷ codes ", frame " ∷ decimal run.frame ∷ [])
+flaw_text begin (Missing bytes frame) = decimal (bytes.end - bytes.begin)
+    ++ (codes " bytes are missing after " ++ (decimal (bytes.begin - begin)
+    ++ (codes ", frame " ++ decimal frame)))
+flaw_text begin (Beyond mark) = codes "bytes follow FIN after " ++ (decimal (mark.position - begin)
+    ++ (codes ", frame " ++ decimal mark.frame))
+flaw_text begin (Stray frame) = stray_text frame
+flaw_text begin (Changed run) = decimal run.size ++ (codes " bytes differ that came again after "
+    ++ (decimal (run.position - begin) ++ (codes ", frame " ++ decimal run.frame)))
 
--- the line of the connection with a number, or none
-abbrev pub decision_text : (number : ℕ) → Connection → Decision → List ℕ
-decision_text number c (Flawed flaw) = concat (codes "connection " ∷ decimal number ∷ codes " "
+-- the line of the connection with a number
+abbrev pub flaw_line : (number : ℕ) → Connection → Flaw → List ℕ
+flaw_line number c flaw = concat (codes "connection " ∷ decimal number ∷ codes " "
     ∷ side_of flaw.side ∷ codes ": "
     ∷ flaw_text (begin_of_flow (side_flow c flaw.side)) flaw.kind ∷ newline ∷ [])
+
+abbrev pub decision_text : (number : ℕ) → Connection → Decision → List ℕ
+decision_text number c (Flawed flaw) = flaw_line number c flaw
 decision_text number c _ = []
 
 -- those of connections, from a number on

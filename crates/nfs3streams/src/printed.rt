@@ -6,7 +6,7 @@ ghost use Rattle.connections3.specs.declared.connection.Connection.{Connection};
 ghost use Rattle.conversion3.specs.OrderedConnections.{AreOrdered, IsOrderedConnection};
 ghost use Rattle.conversion3.specs.Whole.{side_flow};
 ghost use Rattle.program3.specs.Printed.{Prints};
-ghost use Rattle.nfs3streams.specs.Printed.{PrintsFindings, PrintsNoRecording, begin_of_flow, counts_line, decision_text, decisions_text, end_line, end_text, ending_name, findings_status, flaw_text, is_at_end, is_flawed, is_whole, reasons_text};
+ghost use Rattle.nfs3streams.specs.Printed.{PrintsFindings, PrintsNoRecording, begin_of_flow, counts_line, decision_text, decisions_text, end_line, end_text, ending_name, findings_status, flaw_line, flaw_text, is_at_end, is_flawed, is_whole, reasons_text, stray_text};
 
 use capture3::Side;
 use conversion3::{Decision, Flaw, OrderedConnection, StreamFlaw};
@@ -215,12 +215,26 @@ fn push_decision(
         → string_bytes text.new
         ≡ string_bytes text.old ++ decision_text number shown decision.now) }
 {
-    let Decision::Flawed(Flaw { side, kind }) = *decision else {
-        return Ok(());
-    };
-    let flaw = flaw_text(alloc, begin_of(connection, side), &kind)?;
-    let side = side_name(side);
-    let line: String = format!(in alloc; "connection {number} {side}: {flaw}\n")?;
+    match decision {
+        Decision::Flawed(flaw) => push_flaw(alloc, text, number, connection, flaw),
+        _ => Ok(()),
+    }
+}
+
+/// Appends the line of a connection with a flaw.
+fn push_flaw(
+    alloc: Global,
+    text: &mut String,
+    number: u64,
+    connection: &OrderedConnection,
+    flaw: &Flaw,
+) -> Result<(), AllocError>
+    ensures { OnOk result ((shown : Connection) → IsOrderedConnection shown connection.now
+        → string_bytes text.new ≡ string_bytes text.old ++ flaw_line number shown flaw.now) }
+{
+    let what = flaw_text(alloc, begin_of(connection, flaw.side), &flaw.kind)?;
+    let side = side_name(flaw.side);
+    let line: String = format!(in alloc; "connection {number} {side}: {what}\n")?;
     text.push_str(line.as_str())
 }
 
@@ -251,15 +265,22 @@ fn flaw_text(alloc: Global, begin: u64, flaw: &StreamFlaw) -> Result<String, All
             let frame = mark.frame;
             format!(in alloc; "bytes follow FIN after {before}, frame {frame}")
         }
-        StreamFlaw::Stray(Some(frame)) => {
-            format!(in alloc; "a number is none of the stream, frame {frame}")
-        }
-        StreamFlaw::Stray(None) => String::from_str(alloc, "a number is none of the stream"),
+        StreamFlaw::Stray(frame) => stray_text(alloc, frame),
         StreamFlaw::Changed(run) => {
             let before = run.position.saturating_sub(begin);
             let size = run.size;
             let frame = run.frame;
             format!(in alloc; "{size} bytes differ that came again after {before}, frame {frame}")
         }
+    }
+}
+
+/// Returns the text of a number that is none of the stream.
+fn stray_text(alloc: Global, frame: Option<u32>) -> Result<String, AllocError>
+    ensures { IfOk result (λ text. string_bytes text ≡ stray_text frame) }
+{
+    match frame {
+        Some(frame) => format!(in alloc; "a number is none of the stream, frame {frame}"),
+        None => String::from_str(alloc, "a number is none of the stream"),
     }
 }

@@ -1,0 +1,22 @@
+use Rattle.nfs3streams.proofs.ConversionLemmas.{converts, stops_read}
+use Rattle.nfs3streams.proofs.conversion.convert_read.Goals as goal
+
+pub returns-in-Err-clause-stops : goal.returns-in-Err-clause-stops
+returns-in-Err-clause-stops g c =
+    let observed = g.R.Source.observed in
+    let failures = g.R.Source.failures in
+    let was = c.args.source.now in
+    let now = c.read_connections.new.source in
+    let others = c.args.recorded.now.failures in
+    stops_read (observed was) (observed now) (failures was, failures now) (others, others)
+    c.in-Err.outcome c.in-Err.ensures.err
+
+pub returns-in-Ok-write_capture-clause-converts : goal.returns-in-Ok-write_capture-clause-converts
+returns-in-Ok-write_capture-clause-converts g c = λ empty.
+    let observed = g.R.Source.observed in
+    let (pairs, capture, sent) = c.in-Ok-write_capture.ensures.written empty in
+    converts (observed c.args.source.now) (observed c.read_connections.new.source) c.in-Ok.read
+    c.args.ports.now c.decide.new.recorded.readings c.write_capture.new.recorded.readings
+    c.in-Ok-decide.decided (g.W.Write.contents c.in-Ok-write_capture.output) pairs
+    c.in-Ok.ensures.ok c.in-Ok-decide.ensures.decides c.in-Ok-write_capture.ensures.more capture
+    sent
