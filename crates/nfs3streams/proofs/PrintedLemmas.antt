@@ -33,16 +33,15 @@ line_at n (c ∷ cs) (o ∷ os) (x ∷ ds) zero one d (more is rest) e low less 
 line_at n (c ∷ cs) (o ∷ os) (x ∷ ds) (suc k) one d (more is rest) e low less =
     let (at, ordered, line) =
     line_at (n + 1) cs os ds k one d rest e (omega (arith, low)) (omega (arith, less)) in
-    let same : k + (n + 1) ≡ suc k + n = omega arith in
-    (
+    let same : k + (n + 1) ≡ suc k + n = omega arith in (
       at,
       ordered,
       ap (λ l. decision_text n c x ++ l) line
-      ∙ sym (append_assoc (decision_text n c x)
-      (decisions_text (n + 1) (take k cs) (take k ds))
-      (decision_text (k + (n + 1)) at (get_or ds k d)))
-      ∙ ap (λ m. (decision_text n c x ++ decisions_text (n + 1) (take k cs) (take k ds))
-      ++ decision_text m at (get_or ds k d)) same,
+          ∙ sym (append_assoc (decision_text n c x)
+          (decisions_text (n + 1) (take k cs) (take k ds))
+          (decision_text (k + (n + 1)) at (get_or ds k d)))
+          ∙ ap (λ m. (decision_text n c x ++ decisions_text (n + 1) (take k cs) (take k ds))
+          ++ decision_text m at (get_or ds k d)) same,
     )
 
 -- the lines of all
