@@ -1,6 +1,5 @@
 -- What is printed, line by line.
-use Rattle.std.proofs.Common.{◌≡◌, ◌<◌, ◌≤◌, ◌+◌, ◌∙◌, ◌++◌, ℕ, zero, suc, List, [], ◌∷◌, length, get_or, take, min, refl, sym, ap, ap₂, subst, arith, append-nil, append_assoc}
-use Rattle.canon3.specs.Renaming.{Pairwise, more, none}
+use Rattle.std.proofs.Common.{◌≡◌, ◌<◌, ◌≤◌, ◌+◌, ◌∙◌, ◌++◌, ℕ, zero, suc, List, [], ◌∷◌, length, get_or, take, min, refl, sym, ap, ap₂, subst, arith, append-nil, append_assoc, Result, Ok, Err, OnOk, if◌then◌else◌, is_ok}
 use Rattle.connections3.specs.declared.connection.Connection.{Connection}
 use Rattle.conversion3.specs.OrderedConnections.{AreOrdered, IsOrderedConnection}
 use Rattle.conversion3.specs.declared.decisions.Decision.{Decision}
@@ -10,9 +9,9 @@ use Rattle.nfs3streams.specs.Printed.{decision_text, decisions_text}
 pub pair_length : (cs : List Connection) (os : List OrderedConnection) → AreOrdered cs os
     → length cs ≡ length os
 pair_length [] [] pairs = refl
-pair_length [] (o ∷ os) pairs = elim pairs [ ]
-pair_length (c ∷ cs) [] pairs = elim pairs [ ]
-pair_length (c ∷ cs) (o ∷ os) (more one rest) = ap suc (pair_length cs os rest)
+pair_length [] (o ∷ os) pairs = absurd pairs
+pair_length (c ∷ cs) [] pairs = absurd pairs
+pair_length (c ∷ cs) (o ∷ os) pairs = ap suc (pair_length cs os pairs.1)
 
 pub next_is : (k : ℕ) → k + 1 ≡ suc k
 next_is k = omega arith
@@ -25,15 +24,21 @@ pub line_at : (n : ℕ) (cs : List Connection) (os : List OrderedConnection) (ds
     × (decisions_text n (take (suc k) cs) (take (suc k) ds)
     ≡ decisions_text n (take k cs) (take k ds) ++ decision_text (k + n) c (get_or ds k d))
 line_at n [] [] ds k one d pairs e low less = absurd (omega (arith, low))
-line_at n [] (o ∷ os) ds k one d pairs e low less = elim pairs [ ]
+line_at n [] (o ∷ os) ds k one d pairs e low less = absurd pairs
 line_at n (c ∷ cs) [] ds k one d pairs e low less = absurd (omega (arith, low))
 line_at n (c ∷ cs) (o ∷ os) [] k one d pairs e low less = absurd (omega (arith, less))
-line_at n (c ∷ cs) (o ∷ os) (x ∷ ds) zero one d (more is rest) e low less =
-    (c, subst (λ o. IsOrderedConnection c o) (sym e) is, append-nil (decision_text n c x))
-line_at n (c ∷ cs) (o ∷ os) (x ∷ ds) (suc k) one d (more is rest) e low less =
+line_at n (c ∷ cs) (o ∷ os) (x ∷ ds) zero one d pairs e low less =
+    (c, subst (λ o. IsOrderedConnection c o) (sym e) pairs.0, append-nil (decision_text n c x))
+line_at n (c ∷ cs) (o ∷ os) (x ∷ ds) (suc k) one d pairs e low less =
     let (at, ordered, line) =
+<<<<<<< HEAD
     line_at (n + 1) cs os ds k one d rest e (omega (arith, low)) (omega (arith, less)) in
     let same : k + (n + 1) ≡ suc k + n = omega arith in (
+=======
+    line_at (n + 1) cs os ds k one d pairs.1 e (omega (arith, low)) (omega (arith, less)) in
+    let same : k + (n + 1) ≡ suc k + n = omega arith in
+    (
+>>>>>>> prog
       at,
       ordered,
       ap (λ l. decision_text n c x ++ l) line
@@ -55,3 +60,9 @@ all_lines n (x ∷ cs) [] (suc k) enough = refl
 all_lines n (x ∷ cs) (y ∷ ds) zero enough = absurd (omega (arith, enough))
 all_lines n (x ∷ cs) (y ∷ ds) (suc k) enough =
     ap (λ l. decision_text n x y ++ l) (all_lines (n + 1) cs ds k (omega (arith, enough)))
+
+-- what was appended, if there was memory for it
+pub pushed : {T E : Type 0} {new more old : List ℕ} (r : Result T E)
+    → new ≡ (if is_ok r then more else old) → OnOk r (new ≡ more)
+pushed (Ok x) is = is
+pushed (Err e) is = tt

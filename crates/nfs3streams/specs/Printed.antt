@@ -31,16 +31,20 @@ abbrev pub is_whole : Decision → Bool
 is_whole Whole = true
 is_whole _ = false
 
--- how many frames had no segment, by the reason
-unfoldable pub reasons_text : Tally → List ℕ
-reasons_text t = codes " unknown_link=" ++ (decimal t.unknown_link ++ (codes " cut="
-    ++ (decimal t.cut ++ (codes " not_ip=" ++ (decimal t.not_ip ++ (codes " bad_ip="
-    ++ (decimal t.bad_ip ++ (codes " fragment=" ++ (decimal t.fragment ++ (codes " not_tcp="
-    ++ (decimal t.not_tcp ++ (codes " bad_tcp=" ++ decimal t.bad_tcp))))))))))))
+-- how many frames had no segment, by the reason: none of IP was looked for, or there is none
+unfoldable pub below_text : Tally → List ℕ
+below_text t = codes " unknown_link=" ++ (decimal t.unknown_link ++ (codes " cut="
+    ++ (decimal t.cut ++ (codes " not_ip=" ++ decimal t.not_ip))))
+
+-- the datagram is not read, or has no segment that is
+unfoldable pub inside_text : Tally → List ℕ
+inside_text t = codes " bad_ip=" ++ (decimal t.bad_ip ++ (codes " fragment="
+    ++ (decimal t.fragment ++ (codes " not_tcp=" ++ (decimal t.not_tcp ++ (codes " bad_tcp="
+    ++ decimal t.bad_tcp))))))
 
 abbrev pub counts_line : RecordingEnd → Tally → List Decision → List ℕ
 counts_line end tally decisions = concat (codes "frames=" ∷ decimal end.frames ∷ codes " segments="
-    ∷ decimal tally.segments ∷ reasons_text tally ∷ codes " connections="
+    ∷ decimal tally.segments ∷ below_text tally ∷ inside_text tally ∷ codes " connections="
     ∷ decimal (length decisions) ∷ codes " packed=" ∷ decimal (count_by is_whole decisions)
     ∷ newline ∷ [])
 

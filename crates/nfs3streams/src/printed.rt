@@ -6,7 +6,7 @@ ghost use Rattle.connections3.specs.declared.connection.Connection.{Connection};
 ghost use Rattle.conversion3.specs.OrderedConnections.{AreOrdered, IsOrderedConnection};
 ghost use Rattle.conversion3.specs.Whole.{side_flow};
 ghost use Rattle.program3.specs.Printed.{Prints};
-ghost use Rattle.nfs3streams.specs.Printed.{PrintsFindings, PrintsNoRecording, begin_of_flow, counts_line, decision_text, decisions_text, end_line, end_text, ending_name, findings_status, flaw_line, flaw_text, is_at_end, is_flawed, is_whole, reasons_text, stray_text};
+ghost use Rattle.nfs3streams.specs.Printed.{PrintsFindings, PrintsNoRecording, begin_of_flow, below_text, counts_line, decision_text, decisions_text, end_line, end_text, ending_name, findings_status, flaw_line, flaw_text, inside_text, is_at_end, is_flawed, is_whole, stray_text};
 
 use capture3::Side;
 use conversion3::{Decision, Flaw, OrderedConnection, StreamFlaw};
@@ -119,30 +119,34 @@ fn counts(
 {
     let frames = end.frames;
     let segments = tally.segments;
-    let reasons = reasons(alloc, tally)?;
+    let below = below_text(alloc, tally)?;
+    let inside = inside_text(alloc, tally)?;
     let all = decisions.len();
     let packed = whole_count(decisions);
     format!(in alloc;
-        "frames={frames} segments={segments}{reasons} connections={all} packed={packed}\n"
+        "frames={frames} segments={segments}{below}{inside} connections={all} packed={packed}\n"
     )
 }
 
-fn reasons(alloc: Global, tally: &Tally) -> Result<String, AllocError>
-    ensures { IfOk result (λ text. string_bytes text ≡ reasons_text tally.now) }
+/// Returns how many frames have no IP.
+fn below_text(alloc: Global, tally: &Tally) -> Result<String, AllocError>
+    ensures { IfOk result (λ text. string_bytes text ≡ below_text tally.now) }
 {
-    let Tally {
-        segments: _,
-        unknown_link,
-        cut,
-        not_ip,
-        bad_ip,
-        fragment,
-        not_tcp,
-        bad_tcp,
-    } = *tally;
-    format!(in alloc;
-        " unknown_link={unknown_link} cut={cut} not_ip={not_ip} bad_ip={bad_ip} fragment={fragment} not_tcp={not_tcp} bad_tcp={bad_tcp}"
-    )
+    let unknown_link = tally.unknown_link;
+    let cut = tally.cut;
+    let not_ip = tally.not_ip;
+    format!(in alloc; " unknown_link={unknown_link} cut={cut} not_ip={not_ip}")
+}
+
+/// Returns how many frames have IP, and no segment.
+fn inside_text(alloc: Global, tally: &Tally) -> Result<String, AllocError>
+    ensures { IfOk result (λ text. string_bytes text ≡ inside_text tally.now) }
+{
+    let bad_ip = tally.bad_ip;
+    let fragment = tally.fragment;
+    let not_tcp = tally.not_tcp;
+    let bad_tcp = tally.bad_tcp;
+    format!(in alloc; " bad_ip={bad_ip} fragment={fragment} not_tcp={not_tcp} bad_tcp={bad_tcp}")
 }
 
 /// Appends the line of a recording that does not end at its end.

@@ -1,5 +1,6 @@
 //! Files that are no files of the system: a capture in memory, and its canonical form.
 
+use crate::payloads::InMemory;
 use crate::samples::{NULL, NUMBERED_NULL, hashers};
 use canon3::{Sink, Summary, canon};
 use capture3::{Error, Source};
@@ -18,6 +19,8 @@ struct MemFiles<'a> {
 
 impl<'a> Files for MemFiles<'a> {
     type Input = &'a [u8];
+
+    type Recording = InMemory<'a>;
 
     type Output = Vec<u8>;
 
@@ -55,6 +58,17 @@ impl<'a> Files for MemFiles<'a> {
                 },
             )),
             Err(_) => Err(Outcome::Counted(Err(Error::Memory))),
+        }
+    }
+
+    fn open_recording(
+        &self,
+        _recording: &str,
+        output: &str,
+    ) -> Result<(InMemory<'a>, Made<Vec<u8>, String>), Outcome> {
+        match self.make_apart(output, &[]) {
+            Ok(made) => Ok((InMemory { bytes: self.bytes }, made)),
+            Err(outcome) => Err(outcome),
         }
     }
 
