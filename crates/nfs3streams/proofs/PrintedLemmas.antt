@@ -31,14 +31,8 @@ line_at n (c ∷ cs) (o ∷ os) (x ∷ ds) zero one d pairs e low less =
     (c, subst (λ o. IsOrderedConnection c o) (sym e) pairs.0, append-nil (decision_text n c x))
 line_at n (c ∷ cs) (o ∷ os) (x ∷ ds) (suc k) one d pairs e low less =
     let (at, ordered, line) =
-<<<<<<< HEAD
-    line_at (n + 1) cs os ds k one d rest e (omega (arith, low)) (omega (arith, less)) in
-    let same : k + (n + 1) ≡ suc k + n = omega arith in (
-=======
     line_at (n + 1) cs os ds k one d pairs.1 e (omega (arith, low)) (omega (arith, less)) in
-    let same : k + (n + 1) ≡ suc k + n = omega arith in
-    (
->>>>>>> prog
+    let same : k + (n + 1) ≡ suc k + n = omega arith in (
       at,
       ordered,
       ap (λ l. decision_text n c x ++ l) line
