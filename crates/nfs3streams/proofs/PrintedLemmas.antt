@@ -28,7 +28,12 @@ line_at n [] (o ∷ os) ds k one d pairs e low less = absurd pairs
 line_at n (c ∷ cs) [] ds k one d pairs e low less = absurd (omega (arith, low))
 line_at n (c ∷ cs) (o ∷ os) [] k one d pairs e low less = absurd (omega (arith, less))
 line_at n (c ∷ cs) (o ∷ os) (x ∷ ds) zero one d pairs e low less =
-    (c, subst (λ o. IsOrderedConnection c o) (sym e) pairs.0, append-nil (decision_text n c x))
+    let same : n ≡ 0 + n = omega arith in
+    (
+      c,
+      subst (λ o. IsOrderedConnection c o) (sym e) pairs.0,
+      append-nil (decision_text n c x) ∙ ap (λ m. decision_text m c x) same,
+    )
 line_at n (c ∷ cs) (o ∷ os) (x ∷ ds) (suc k) one d pairs e low less =
     let (at, ordered, line) =
     line_at (n + 1) cs os ds k one d pairs.1 e (omega (arith, low)) (omega (arith, less)) in
@@ -56,7 +61,7 @@ all_lines n (x ∷ cs) (y ∷ ds) (suc k) enough =
     ap (λ l. decision_text n x y ++ l) (all_lines (n + 1) cs ds k (omega (arith, enough)))
 
 -- what was appended, if there was memory for it
-pub pushed : {T E : Type 0} {new more old : List ℕ} (r : Result T E)
+pub pushed : {T E : Type 0} (new more old : List ℕ) (r : Result T E)
     → new ≡ (if is_ok r then more else old) → OnOk r (new ≡ more)
-pushed (Ok x) is = is
-pushed (Err e) is = tt
+pushed new more old (Ok x) is = is
+pushed new more old (Err e) is = tt

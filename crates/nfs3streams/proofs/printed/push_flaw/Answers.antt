@@ -12,4 +12,4 @@ returns c =
     rw (← c.side_name-side.ensures, ← (c.begin_of.ensures shown is), ← c.in_ok-what.ensures)
     c.in_ok-line.ensures.ok in
     bytes ∙ ap (λ l. string_bytes c.args.text.now ++ l) (c.as_str.ensures.value ∙ line))
-    (pushed c.push_str.result c.push_str.ensures.bytes)
+    (pushed _ _ (string_bytes c.args.text.now) c.push_str.result c.push_str.ensures.bytes)
