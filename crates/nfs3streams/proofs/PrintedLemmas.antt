@@ -28,8 +28,7 @@ line_at n [] (o ∷ os) ds k one d pairs e low less = absurd pairs
 line_at n (c ∷ cs) [] ds k one d pairs e low less = absurd (omega (arith, low))
 line_at n (c ∷ cs) (o ∷ os) [] k one d pairs e low less = absurd (omega (arith, less))
 line_at n (c ∷ cs) (o ∷ os) (x ∷ ds) zero one d pairs e low less =
-    let same : n ≡ 0 + n = omega arith in
-    (
+    let same : n ≡ 0 + n = omega arith in (
       c,
       subst (λ o. IsOrderedConnection c o) (sym e) pairs.0,
       append-nil (decision_text n c x) ∙ ap (λ m. decision_text m c x) same,
