@@ -148,7 +148,7 @@ def flaws(folder: Folder) -> None:
             ('missing before FIN', [*WHOLE[:3], sent(109, b'', FIN | ACK)],
              'connection 1 client: 4 bytes are missing after 4, frame 4'),
             ('behind FIN', [*WHOLE, sent(109, b'', FIN | ACK, 506), sent(110, b'x', ACK, 506)],
-             'connection 1 client: bytes follow FIN after 8, frame 7'),
+             'connection 1 client: bytes follow FIN after 9, frame 7'),
             ('a wild number', [*WHOLE, sent(109 + 2 ** 31, b'x', ACK, 506)],
              'connection 1 client: a number is none of the stream, frame 6'),
             ('other content', [*WHOLE, sent(101, b'cell')],
@@ -193,7 +193,7 @@ def damaged_recordings(folder: Folder) -> None:
     folder.converts('a long frame', long, [pair], 2, COUNTS.format(4, 1, 1)
                     + f'file {at}: TooLong after frame 4\n')
     folder.converts('no frames', recording(), [], 0, COUNTS.format(0, 0, 0))
-    for name, content, why in (('empty', b'', 'End'), ('a text', b'NFS\n' * 9, 'NotRecording'),
+    for name, content, why in (('empty', b'', 'Cut'), ('a text', b'NFS\n' * 9, 'NotRecording'),
                                ('a compressed file', b'\x1f\x8b\x08' + bytes(40), 'NotRecording'),
                                ('half a header', frames[:12], 'Cut')):
         folder.converts(name, content, None, 2, f'file 0: {why} after frame 0\n')
