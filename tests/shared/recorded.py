@@ -67,8 +67,6 @@ def read_frames(content: bytes) -> tuple[list[Frame], int, str]:
 
 def records(content: bytes, frames: list[Frame]) -> Iterator[int]:
     """Iterates over the ends of the parts of a pcap."""
-    if not content:
-        raise Stop('End')
     orders = {b'\xa1\xb2\xc3\xd4': ('>', 1000), b'\xd4\xc3\xb2\xa1': ('<', 1000),
               b'\xa1\xb2\x3c\x4d': ('>', 1), b'\x4d\x3c\xb2\xa1': ('<', 1)}
     if len(content) < 4:
