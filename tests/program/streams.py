@@ -135,7 +135,7 @@ def numbers_that_wrap(folder: Folder) -> None:
 
 
 def flaws(folder: Folder) -> None:
-    """Of a connection that is not whole it is told what is wrong, and it is not packed."""
+    """A connection that is not whole is printed with what is wrong, and not packed."""
     for name, frames, line in (
             ('no SYN of the client', WHOLE[1:],
              'connection 1 client: NoSyn'),

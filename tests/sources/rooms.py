@@ -36,7 +36,7 @@ METHOD = re.compile(r' {4}pub fn \w+')
 STRUCT = re.compile(r'^pub struct (\w+)[^{;]*\{(.*?)^\}', re.M | re.S)
 PRIVATE = re.compile(r'^    (?:pub\(crate\) )?(\w+):', re.M)
 NAMED_FIELD = re.compile(r'\b(?:self\.(?:now|old|new)|result)\.(\w+)')
-GHOST = re.compile(r'^ *ghost (?!use\b).*?;$', re.M | re.S)
+GHOST = re.compile(r'^ *ghost (?!use\b)(?:[^{;]*|[^{;]*\{.*?\});$', re.M | re.S)
 
 
 class Exported(NamedTuple):

@@ -37,7 +37,8 @@ pub has_read : (file : List ℕ) (old reads : PayloadReads) (runs : List Run) (b
     → trail_of reads ≡ trail_of old ++ take count block → GivesPayload reads file
     → HasRead file runs block count
 has_read file old reads runs block count is size few spent trail gives =
-    let same = same_runs old reads (take count block) (ap (λ (r : PayloadReads). r.given) is) trail in
+    let same =
+    same_runs old reads (take count block) (ap (λ (r : PayloadReads). r.given) is) trail in
     let own : reads.runs ≡ runs = same.runs ∙ ap (λ (r : PayloadReads). r.runs) is in
     record {
       left = gives.left;

@@ -9,7 +9,7 @@ use Rattle.streams3.specs.Order.{IsMissing, IsOrderOf, Ordered}
 use Rattle.streams3.specs.Runs.{Lie, spot_of}
 use Rattle.streams3.specs.Streams.{Shown}
 use Rattle.streams3.proofs.RunsLemmas.{shown}
-use Rattle.conversion3.specs.Decisions.{AreDecidedIn, IsDecided, IsEmptyFlow, IsEmptyStream}
+use Rattle.conversion3.specs.Decisions.{AreDecidedIn, HasDecision, IsEmptyFlow, IsEmptyStream}
 use Rattle.conversion3.specs.OrderedConnections.{IsOrderedConnection, IsOrderedFlow}
 use Rattle.conversion3.specs.Whole.{recorded_of}
 use Rattle.conversion3.specs.declared.decisions.Decision.{Decision}
@@ -51,7 +51,8 @@ empty_is shown ordered order empty = record {
   none =
       no_runs ordered.runs 0 (2 ^ 63) order.runs.order (λ p. order.runs.same p ∙ empty.none p);
   full = λ p missing.
-      empty.full p (is_missing ordered (recorded_of shown) p (alike_of shown ordered order) missing);
+      empty.full p
+      (is_missing ordered (recorded_of shown) p (alike_of shown ordered order) missing);
   fits = subst (λ (m : Marks). m.strays ≡ 0) (sym order.marks) empty.fits;
 }
 
@@ -71,13 +72,13 @@ linked R S U f (x ∷ xs) (y ∷ ys) (z ∷ zs) r s =
 -- the decision is that of any connection that this is in order
 abbrev pub IsDecidedIn : (file ports : List ℕ) → OrderedConnection → Decision → Type 0
 IsDecidedIn file ports ordered decision =
-    (c : Connection) → IsOrderedConnection c ordered → IsDecided file ports c decision
+    (c : Connection) → IsOrderedConnection c ordered → HasDecision file ports c decision
 
 pub all_decided : (file ports : List ℕ) (ordered : List OrderedConnection)
     (decisions : List Decision) → AllZip (IsDecidedIn file ports) ordered decisions
     → AreDecidedIn file ports ordered decisions
 all_decided file ports ordered decisions decided connections order =
-    linked IsOrderedConnection (IsDecidedIn file ports) (IsDecided file ports)
+    linked IsOrderedConnection (IsDecidedIn file ports) (HasDecision file ports)
     (λ c o d is said. said c is) connections ordered decisions order decided
 
 -- ---- an end

@@ -24,7 +24,7 @@ use Rattle.conversion3.specs.Whole.{IsWholeConnection}
 use Rattle.conversion3.specs.declared.decisions.Decision.{Decision}
 use Rattle.conversion3.specs.declared.decisions.Decision.TheVariants.{NotChosen, Empty, Whole, Flawed}
 use Rattle.conversion3.specs.declared.ordered_connections.OrderedConnection.{OrderedConnection}
-use Rattle.conversion3.specs.machinery.Contents.{HasContent}
+use Rattle.conversion3.specs.machinery.Contents.{HoldsContent}
 use Rattle.conversion3.proofs.DecisionLemmas.{linked}
 
 -- ---- results
@@ -88,7 +88,7 @@ module _ {W : Type 0} where
 pub contents : (file : List ℕ) (runs : List Run) (old new : PayloadReads) (bytes : List ℕ)
     → old ≡ record { runs = runs; readings = []; given = []; failures = 0; is_spent = false }
     → trail_of new ≡ trail_of old ++ bytes → new.is_spent ≡ true → GivesPayload new file
-    → HasContent file runs bytes
+    → HoldsContent file runs bytes
 contents file runs old new bytes is trail spent gives =
     let same = same_runs old new bytes (ap (λ (r : PayloadReads). r.given) is) trail in
     let own : new.runs ≡ runs = same.runs ∙ ap (λ (r : PayloadReads). r.runs) is in (

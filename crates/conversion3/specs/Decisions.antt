@@ -31,15 +31,15 @@ IsEmpty c = IsEmptyFlow c.lower × IsEmptyFlow c.higher
 abbrev pub IsJudgedIn : (file ports : List ℕ) → Connection → Type 0
 IsJudgedIn file ports c = IsChosen file ports c × (IsEmpty c → ⊥)
 
-abbrev pub IsDecided : (file ports : List ℕ) → Connection → Decision → Type 0
-IsDecided file ports c NotChosen = IsChosen file ports c → ⊥
-IsDecided file ports c Empty = IsChosen file ports c × IsEmpty c
-IsDecided file ports c Whole = IsJudgedIn file ports c × IsWholeConnection file c
-IsDecided file ports c (Flawed flaw) = IsJudgedIn file ports c × HasFirstFlaw file c flaw
+abbrev pub HasDecision : (file ports : List ℕ) → Connection → Decision → Type 0
+HasDecision file ports c NotChosen = IsChosen file ports c → ⊥
+HasDecision file ports c Empty = IsChosen file ports c × IsEmpty c
+HasDecision file ports c Whole = IsJudgedIn file ports c × IsWholeConnection file c
+HasDecision file ports c (Flawed flaw) = IsJudgedIn file ports c × HasFirstFlaw file c flaw
 
 abbrev pub AreDecided : (file ports : List ℕ) → List Connection → List Decision → Type 0
 AreDecided file ports connections decisions =
-    AllZip (IsDecided file ports) connections decisions
+    AllZip (HasDecision file ports) connections decisions
 
 -- so of any connections that these are in order
 abbrev pub AreDecidedIn : (file ports : List ℕ) → List OrderedConnection → List Decision → Type 0

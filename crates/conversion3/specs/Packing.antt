@@ -30,7 +30,8 @@ abbrev pub AreSent : (file : List ℕ) → List Connection → List Decision →
 AreSent file connections decisions pairs =
     AllZip (HasSent file) (whole_of connections decisions) pairs
 
--- So in each file that the reads allow, of any connections that these are in order, if the decisions
+-- So in each file that the reads allow, of any connections that these are in order, if the
+-- decisions
 -- are right.
 abbrev pub AreSentIn : List OffsetRead → List OrderedConnection → List Decision → List Streams
     → Type 0

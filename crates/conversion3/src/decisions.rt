@@ -9,7 +9,7 @@ ghost use Rattle.connections3.specs.declared.connection.Flow.{Flow};
 ghost use Rattle.payload3.specs.Readings.{Allow};
 ghost use Rattle.streams3.specs.Order.{IsOrderOf};
 ghost use Rattle.streams3.specs.Streams.{Shown};
-ghost use Rattle.conversion3.specs.Decisions.{AreDecidedIn, IsDecided, IsEmpty, IsEmptyFlow, IsEmptyStream};
+ghost use Rattle.conversion3.specs.Decisions.{AreDecidedIn, HasDecision, IsEmpty, IsEmptyFlow, IsEmptyStream};
 ghost use Rattle.conversion3.specs.OrderedConnections.{IsOrderedConnection, IsOrderedFlow};
 ghost use Rattle.conversion3.specs.Whole.{recorded_of};
 
@@ -76,7 +76,7 @@ fn decide<F: FileExt>(
         → Allow recorded.old.readings file }
     ensures decided { IfOk result (λ decision. (file : List ℕ) (c : Connection)
         → Allow recorded.new.readings file → IsOrderedConnection c connection.now
-        → IsDecided file ports.now c decision) }
+        → HasDecision file ports.now c decision) }
     ensures err { IfErr result (λ error. (error ≡ errors.Memory) ⊎ (error ≡ errors.Read)) }
     ensures count { CountsReading recorded.old.failures recorded.new.failures result }
 {

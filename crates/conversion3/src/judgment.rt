@@ -26,14 +26,14 @@ pub struct Flaw {
     pub kind: StreamFlaw,
 }
 
-/// Returns what is wrong first with a connection, or nothing if it is whole: both SYNs were recorded,
-/// no byte that was sent is missing, none came again with other content, none lies behind FIN, and
-/// each number is of its stream. Only bytes that came again are read.
+/// Returns what is wrong first with a connection, or nothing if it is whole. Then both SYNs were
+/// recorded, no byte that was sent is missing, none came again with other content, none lies behind
+/// FIN, and each number is of its stream. Only bytes that came again are read.
 ///
 /// # Errors
 ///
-/// `DeviceFailed` if a read of the file failed, or the file ends before a payload does. It counts as
-/// a failure.
+/// `DeviceFailed` if a read of the file failed, or the file ends before a payload does. It counts
+/// as a failure.
 pub fn judge<F: FileExt>(
     recorded: &mut Recorded<'_, F>,
     connection: &OrderedConnection,

@@ -1,5 +1,5 @@
-//! Which connections of a recording are chosen, which of these are whole, why others are not, and what
-//! their ends sent.
+//! Which connections of a recording are chosen, which of these are whole, why others are not, and
+//! what their ends sent.
 #![tactic(auto)]
 
 mod choice;

@@ -34,8 +34,8 @@ pub struct OrderedConnection {
 }
 
 impl OrderedConnection {
-    /// Returns what the client sent, or the server: nothing if nothing was recorded, or if it is not
-    /// known which end is the client.
+    /// Returns what the client sent, or the server. It is nothing if nothing was recorded, or if it
+    /// is not known which end is the client.
     pub fn side(&self, side: Side) -> Option<&OrderedFlow>
         ensures { (connection : Connection) → IsOrderedConnection connection self.now
             → IsOrderedFlow (side_flow connection side) (option_copied result) }

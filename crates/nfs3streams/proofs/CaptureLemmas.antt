@@ -1,6 +1,6 @@
 -- What is written of a capture.
-use Rattle.std.proofs.Common.{◌≡◌, ◌≢◌, ◌⊎◌, ◌∙◌, ℕ, List, [], Option, None, Some, Result, Ok, Err, IfErr, OnOk, inl, inr, refl, sym, ap, subst}
-use Rattle.std.specs.Io.KnownBytes.{Appends, Keeps}
+use Rattle.std.proofs.Common.{◌≡◌, ◌≢◌, ◌∙◌, ℕ, List, [], Option, None, Some, Result, Ok, Err, OnOk, inl, inr, refl, ap, subst}
+use Rattle.std.specs.Io.KnownBytes.{Keeps}
 use Rattle.capture3.specs.Entries.{CountsReading}
 use Rattle.capture3.specs.SidedChunks.{Streams}
 use Rattle.capture3.specs.declared.fault.Error.{Error}
@@ -59,7 +59,8 @@ out_failed (Err errors.Memory) now gathered written errors.Read old new is stays
       | inl failed ↦ absurd (cc)
       | inr kept ↦ let e = kept.0 in absurd (cc)
     ]
-out_failed (Err (errors.Refused fault)) now gathered written errors.Read old new is stays out counts =
+out_failed (Err (errors.Refused fault)) now gathered written errors.Read old new is
+    stays out counts =
     elim (out (λ e. absurd (cc))) [
       | inl failed ↦ absurd (cc)
       | inr kept ↦ let e = kept.0 in absurd (cc)

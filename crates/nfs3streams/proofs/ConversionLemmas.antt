@@ -1,5 +1,5 @@
 -- What a conversion shows of a recording.
-use Rattle.std.proofs.Common.{◌≡◌, ◌⊎◌, ◌∙◌, ◌++◌, ◌-◌, ◌+◌, ◌^◌, ℕ, min, List, [], Option, None, Some, Result, Ok, Err, IfErr, IfOk, MatchResult, inl, inr, refl, sym, ap, subst}
+use Rattle.std.proofs.Common.{◌≡◌, ◌⊎◌, ◌∙◌, ◌++◌, ℕ, List, [], Option, None, Some, Result, Ok, Err, IfErr, IfOk, MatchResult, inl, inr, refl, sym, ap, subst}
 use Rattle.std.specs.declared.alloc.AllocError.{AllocError}
 use Rattle.std.specs.Io.KnownBytes.{Appends}
 use Rattle.std.proofs.lemmas.List.{append_cancel_left}
@@ -28,7 +28,7 @@ use Rattle.recording3.specs.declared.frames.RecordingEnd.{RecordingEnd}
 use Rattle.recording3.specs.declared.outcomes.Tally.{Tally}
 use Rattle.nfs3streams.specs.Conversion.{HasFrames, IsCaptureOf, IsConversion, RecordingReading, ShowFrames}
 use Rattle.nfs3streams.specs.Printed.{PrintsNoRecording}
-use Rattle.nfs3streams.specs.Streams.{EndsFrames, PrintsLimit, StopsBy, StopsWith, reading_of}
+use Rattle.nfs3streams.specs.Streams.{EndsFrames, PrintsLimit, StopsBy, StopsWith, reading_from}
 use Rattle.nfs3streams.specs.machinery.Converting.{ConvertsTo, CountsFailure, DecidesOn, ReadsConnections, StopsAtStart, TellsFailed, found_of}
 use Rattle.nfs3streams.specs.declared.connections.RecordingRead.{RecordingRead}
 use Rattle.nfs3streams.specs.declared.conversion.RecordingReads.{RecordingReads}
@@ -58,7 +58,8 @@ has_frames old new file front frames end gave reads all p = record {
 
 -- what was read of a recording
 pub read_all : (source : Observed × Observed) (none taker : PacketTaker) (read : RecordingRead)
-    → ShowsFrames none [] → ReadsFrames 0 source (Extends (ShowsFrames none) (ShowsFrames taker)) read.end
+    → ShowsFrames none []
+    → ReadsFrames 0 source (Extends (ShowsFrames none) (ShowsFrames taker)) read.end
     → read.tally ≡ taker.tally → read.connections.items ≡ taker.connections
     → ReadsConnections source read
 unfolding Extends
@@ -84,7 +85,8 @@ pub stops_still : (One Other : RecordingEnd → Type 0) (Fails Errs : Error → 
     (outcome : Outcome) → ((end : RecordingEnd) → One end → Other end)
     → ((error : Error) → Fails error → Errs error) → StopsWith One Fails outcome
     → StopsWith Other Errs outcome
-stops_still One Other Fails Errs outcome ends errs (inl (report, is, inl (end, front, one, prints))) =
+stops_still One Other Fails Errs outcome ends errs
+    (inl (report, is, inl (end, front, one, prints))) =
     inl (report, is, inl (end, front, ends end one, prints))
 stops_still One Other Fails Errs outcome ends errs (inl (report, is, inr limit)) =
     inl (report, is, inr limit)
@@ -240,20 +242,22 @@ stops_by reading one other (errors.Refused fault) none nothing first second fail
 pub stops_job : {R W : Type 0} (remaining : R → Option (List ℕ)) (name : List ℕ)
     (was now : TracedReader R) (before after : RecordedReads) (reads : RecordingReads)
     (r : Result (Report × W) Outcome) → IsUnread remaining None was → before.failures ≡ 0
-    → reading_under name now ≡ (reading_of reads).start → after ≡ reads.others
+    → reading_under name now ≡ (reading_from reads).start → after ≡ reads.others
     → IfErr r (StopsWith
-    (λ end. (file : List ℕ) → GavePrefix (observed_of remaining was) (observed_of remaining now) file
+    (λ end. (file : List ℕ)
+    → GavePrefix (observed_of remaining was) (observed_of remaining now) file
     → (frames : List Passed) × HasFrames file frames end)
     (λ error. CountsFailure (was.failures, now.failures) error
     ⊎ CountsFailure (before.failures, after.failures) error))
-    → IfErr r (StopsWith (EndsFrames (reading_of reads)) (StopsBy (reading_of reads)))
+    → IfErr r (StopsWith (EndsFrames (reading_from reads)) (StopsBy (reading_from reads)))
 stops_job remaining name was now before after reads (Ok done) unread none is same stops = tt
 stops_job remaining name was now before after reads (Err outcome) unread none is same stops =
-    stops_still _ (EndsFrames (reading_of reads)) _ (StopsBy (reading_of reads)) outcome
+    stops_still _ (EndsFrames (reading_from reads)) _ (StopsBy (reading_from reads)) outcome
     (λ end ends file may.
     ends file
-    (prefix_given remaining name was now (reading_of reads).start unread is file may.start))
+    (prefix_given remaining name was now (reading_from reads).start unread is file may.start))
     (λ error.
-    stops_by (reading_of reads) (was.failures, now.failures) (before.failures, after.failures) error
+    stops_by (reading_from reads) (was.failures, now.failures)
+    (before.failures, after.failures) error
     unread.failures none (ap (λ (r : FileReading). r.failures) is)
     (ap (λ (r : RecordedReads). r.failures) same)) stops

@@ -1,5 +1,5 @@
 -- What came of a job.
-use Rattle.std.proofs.Common.{◌≡◌, ◌⊎◌, ℕ, List, Option, Some, Result, Ok, Err, IfErr, IfOk, inl, inr, refl, sym, subst}
+use Rattle.std.proofs.Common.{◌≡◌, ℕ, List, Option, Some, Result, Ok, Err, IfErr, IfOk, inl, inr, refl, sym, subst}
 use Rattle.canon3.specs.WriteErrors.{IsOfWriting}
 use Rattle.capture3.specs.declared.fault.Error.{Error}
 use Rattle.capture3.specs.declared.fault.Error.TheVariants as errors
@@ -9,7 +9,7 @@ use Rattle.program3.specs.Readings.{BeginsWithReads}
 use Rattle.program3.specs.declared.outcome.Outcome.{Outcome}
 use Rattle.program3.specs.declared.outcome.Report.{Report}
 use Rattle.nfs3streams.specs.Conversion.{RecordingReading}
-use Rattle.nfs3streams.specs.Streams.{AnswersStreamsJob, EndsFrames, StopsBy, StopsWith, reading_of, streams_run}
+use Rattle.nfs3streams.specs.Streams.{AnswersStreamsJob, EndsFrames, StopsBy, StopsWith, reading_from, streams_run}
 use Rattle.nfs3streams.specs.declared.conversion.RecordingReads.{RecordingReads}
 use Rattle.nfs3streams.specs.declared.line.asked.StreamsJob.{StreamsJob}
 use Rattle.nfs3streams.specs.machinery.Converting.{ConvertsTo, FinishesFile}
@@ -27,18 +27,19 @@ pub answers_job : {W : Type 0} (contents : W → Option (List ℕ)) (reads : Rec
     (finished : List WrittenFile × List WrittenFile) (job : StreamsJob)
     (came : Result (Report × W) Outcome) (name : List ℕ) (outcome : Outcome)
     → name ≡ job.output.now
-    → IfOk came (λ done. ConvertsTo (BeginsWithReads (reading_of reads).start)
-    (Allow (reading_of reads).others.readings) job.ports.items done.0 (contents done.1))
-    → IfErr came (StopsWith (EndsFrames (reading_of reads)) (StopsBy (reading_of reads)))
+    → IfOk came (λ done. ConvertsTo (BeginsWithReads (reading_from reads).start)
+    (Allow (reading_from reads).others.readings) job.ports.items done.0 (contents done.1))
+    → IfErr came (StopsWith (EndsFrames (reading_from reads)) (StopsBy (reading_from reads)))
     → IfOk came (λ done. FinishesFile (name, contents done.1) finished done.0 outcome)
     → IfErr came (λ stopped. (outcome ≡ stopped) × FinishesNone finished)
     → AnswersStreamsJob (streams_run (Some reads) finished) job outcome
-answers_job contents reads finished job (Ok done) name outcome named to stops (inl (told, last)) none =
+answers_job contents reads finished job (Ok done) name outcome named to stops
+    (inl (told, last)) none =
     inl (record {
       found = to.found;
       pairs = to.pairs;
       report = done.0;
-      reading = reading_of reads;
+      reading = reading_from reads;
       read = refl;
       told = told;
       prints = to.prints;
@@ -51,17 +52,18 @@ answers_job contents reads finished job (Ok done) name outcome named to stops (i
 answers_job contents reads finished job (Ok done) name outcome named to stops
     (inr (error, is, of, kept)) none =
     inr (inl (record {
-      reading = reading_of reads;
+      reading = reading_from reads;
       read = refl;
       none = kept;
-      stops = inr (error, is, stops_writing (reading_of reads) error of);
+      stops = inr (error, is, stops_writing (reading_from reads) error of);
     }))
 answers_job contents reads finished job (Err stopped) name outcome named to stops whole (is, kept) =
     inr (inl (record {
-      reading = reading_of reads;
+      reading = reading_from reads;
       read = refl;
       none = kept;
       stops =
-          subst (StopsWith (EndsFrames (reading_of reads)) (StopsBy (reading_of reads))) (sym is)
+          subst (StopsWith (EndsFrames (reading_from reads)) (StopsBy (reading_from reads)))
+          (sym is)
           stops;
     }))

@@ -1,6 +1,6 @@
 -- What clap finds in a line.
 use Rattle.std.proofs.Common.{◌≡◌, ◌∙◌, ℕ, true, refl, sym, ap, subst, List, [], Option, None, Some, inl, inr, ◌⊎◌, codes, Ok, Err, unwrap_or, Global, IfErr, IfOk, Result, Vec}
-use Rattle.clap.specs.Words.{App, HasMatchesOf, Row, all_of, app_of, found_of, is_simple, is_simple_and_free, rows_of}
+use Rattle.clap.specs.Words.{App, HasMatchesOf, Row, all_of, found_of, is_simple, is_simple_and_free, rows_of}
 use Rattle.clap.specs.declared.parser.matches.ArgMatches.{ArgMatches}
 use Rattle.clap.proofs.OnLiterals.{clap_on_literals}
 use Rattle.line3.specs.Asked.{IsRefusedBy, IsUsage}
@@ -33,7 +33,8 @@ asks words rows job is in_rows = subst (λ (r : List Row). IsJobIn r job) is in_
 
 pub refused_in : (words : List (List ℕ)) (rows : List Row) (fault : LineFault)
     → rows ≡ found_in words → IsRefusedIn rows fault → AreStreamsWordsRefused words fault
-refused_in words rows fault is refused = inr (subst (λ (r : List Row). IsRefusedIn r fault) is refused)
+refused_in words rows fault is refused =
+    inr (subst (λ (r : List Row). IsRefusedIn r fault) is refused)
 
 -- clap refuses the words
 pub refused_by : (app : App) (words : List (List ℕ)) (fault : LineFault) → app ≡ streams_app

@@ -1,5 +1,5 @@
 -- What is printed, line by line.
-use Rattle.std.proofs.Common.{◌≡◌, ◌<◌, ◌≤◌, ◌+◌, ◌∙◌, ◌++◌, ℕ, zero, suc, List, [], ◌∷◌, length, get_or, take, min, refl, sym, ap, ap₂, subst, arith, append-nil, append_assoc, Result, Ok, Err, OnOk, if◌then◌else◌, is_ok}
+use Rattle.std.proofs.Common.{◌≡◌, ◌<◌, ◌≤◌, ◌+◌, ◌∙◌, ◌++◌, ℕ, zero, suc, List, [], ◌∷◌, length, get_or, take, min, refl, sym, ap, subst, arith, append-nil, append_assoc, Result, Ok, Err, OnOk, if◌then◌else◌, is_ok}
 use Rattle.connections3.specs.declared.connection.Connection.{Connection}
 use Rattle.conversion3.specs.OrderedConnections.{AreOrdered, IsOrderedConnection}
 use Rattle.conversion3.specs.declared.decisions.Decision.{Decision}

@@ -1,7 +1,6 @@
 -- What is printed of a recording that was converted.
-use Rattle.std.specs.Prelude.{◌≡◌, ℕ, ◌+◌, ◌-◌, Bool, true, false, ◌&&◌, not, cond, count_by, List, [], ◌∷◌, ◌++◌, length, Option, None, Some, codes, decimal}
+use Rattle.std.specs.Prelude.{ℕ, ◌+◌, ◌-◌, Bool, true, false, ◌&&◌, not, cond, count_by, List, [], ◌∷◌, ◌++◌, length, Option, None, Some, codes, decimal}
 use Rattle.std.specs.List.{concat, list_any}
-use Rattle.capture3.specs.declared.fault.Side.{Side}
 use Rattle.connections3.specs.declared.connection.Connection.{Connection}
 use Rattle.connections3.specs.declared.connection.Flow.{Flow}
 use Rattle.conversion3.specs.Whole.{side_flow}

@@ -50,12 +50,12 @@ pub record StreamsRun : Type 0 where
   pub reading : Option RecordingReading
   pub finished : List WrittenFile × List WrittenFile
 
-abbrev pub reading_of : RecordingReads → RecordingReading
-reading_of reads = record { start = reading_in reads.start; others = reads.others }
+abbrev pub reading_from : RecordingReads → RecordingReading
+reading_from reads = record { start = reading_in reads.start; others = reads.others }
 
 abbrev pub streams_run : Option RecordingReads → List WrittenFile × List WrittenFile → StreamsRun
 streams_run reads finished =
-    record { reading = option_map reading_of reads; finished = finished }
+    record { reading = option_map reading_from reads; finished = finished }
 
 module _ (run : StreamsRun) where
   -- A capture was finished under the output's name. Whatever the recording may have been, its pairs

@@ -27,7 +27,7 @@ use std::os::unix::fs::FileExt;
 /// - `Memory` if memory ran out.
 /// - `Read` if a read failed, or the recording ends before a payload does. `Write` if a write failed.
 /// - `Refused` if they are beyond a limit of captures.
-pub fn write_capture<F: FileExt, W: Write + Drop>(
+pub(crate) fn write_capture<F: FileExt, W: Write + Drop>(
     alloc: Global,
     recorded: &mut Recorded<'_, F>,
     decided: &Decided,

@@ -27,7 +27,10 @@ pub struct RecordingRead {
 ///
 /// - `Packed(Err(Error::Read))` if a read failed, `Packed(Err(Error::Memory))` if memory ran out.
 /// - `Told` with the report that refuses the recording, if it has no header, or is beyond a limit.
-pub fn read_connections<R: Source>(alloc: Global, source: &mut R) -> Result<RecordingRead, Outcome>
+pub(crate) fn read_connections<R: Source>(
+    alloc: Global,
+    source: &mut R,
+) -> Result<RecordingRead, Outcome>
     ensures ok { IfOk result
         (ReadsConnections (R.observed source.old, R.observed source.new)) }
     ensures err { IfErr result (StopsAtStart

@@ -6,7 +6,7 @@ ghost use Rattle.payload3.specs.Readings.{Allow};
 ghost use Rattle.program3.specs.Readings.{BeginsWithReads};
 ghost use Rattle.recording3.specs.Places.{Passed};
 ghost use Rattle.nfs3streams.specs.Conversion.{HasFrames};
-ghost use Rattle.nfs3streams.specs.Streams.{EndsFrames, StopsBy, StopsWith, reading_of};
+ghost use Rattle.nfs3streams.specs.Streams.{EndsFrames, StopsBy, StopsWith, reading_from};
 ghost use Rattle.nfs3streams.specs.machinery.Converting.{ConvertsTo, CountsFailure};
 
 use crate::capture::write_capture;
@@ -35,19 +35,19 @@ pub struct Converted<W: Drop> {
 }
 
 /// Reads a recording, and writes the capture of the connections that a job chooses and that are whole.
-pub fn convert<F: FileExt, W: Write + Drop>(
+pub(crate) fn convert<F: FileExt, W: Write + Drop>(
     alloc: Global,
     job: &StreamsJob<'_>,
     recording: &F,
     output: W,
 ) -> Converted<W>
-    ensures named { (reading_of result.reads).start.name ≡ job.now.recording.now }
+    ensures named { (reading_from result.reads).start.name ≡ job.now.recording.now }
     ensures converts { W.contents output ≡ Some [] → IfOk result.came (λ done. ConvertsTo
-        (BeginsWithReads (reading_of result.reads).start)
-        (Allow (reading_of result.reads).others.readings)
+        (BeginsWithReads (reading_from result.reads).start)
+        (Allow (reading_from result.reads).others.readings)
         job.now.ports.items done.0 (W.contents done.1)) }
-    ensures stops { IfErr result.came (StopsWith (EndsFrames (reading_of result.reads))
-        (StopsBy (reading_of result.reads))) }
+    ensures stops { IfErr result.came (StopsWith (EndsFrames (reading_from result.reads))
+        (StopsBy (reading_from result.reads))) }
 {
     let mut opened = Opened::new(job.recording, FromStart::new(recording));
     let mut recorded = Recorded::new(recording);

@@ -26,7 +26,7 @@ pub struct Decided {
 ///
 /// - `Memory` if memory ran out.
 /// - `Read` if a read failed, or the recording ends before a payload does.
-pub fn decide<F: FileExt>(
+pub(crate) fn decide<F: FileExt>(
     alloc: Global,
     recorded: &mut Recorded<'_, F>,
     ports: &[u16],

@@ -115,7 +115,8 @@ fn counts(
     tally: &Tally,
     decisions: &[Decision],
 ) -> Result<String, AllocError>
-    ensures { IfOk result (λ line. string_bytes line ≡ counts_line end.now tally.now decisions.now) }
+    ensures { IfOk result
+        (λ line. string_bytes line ≡ counts_line end.now tally.now decisions.now) }
 {
     let frames = end.frames;
     let segments = tally.segments;

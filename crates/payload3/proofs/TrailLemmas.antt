@@ -2,7 +2,7 @@
 use Rattle.std.proofs.Common.{◌≡◌, ℕ, List, [], ◌∷◌, ◌++◌, length, refl, ap, ◌∙◌, arith}
 use Rattle.std.proofs.lemmas.List.{append-nil}
 use Rattle.streams3.specs.declared.runs.Run.{Run}
-use Rattle.payload3.specs.Readings.{Allow, OffsetRead, PayloadReads, numbers_of, trail_of}
+use Rattle.payload3.specs.Readings.{Allow, OffsetRead, PayloadReads, octets_in, trail_of}
 
 -- ---- what a trail says
 
@@ -18,7 +18,7 @@ same_run : {p q a b s t f g : ℕ} → p ≡ q → a ≡ b → s ≡ t → f ≡
 same_run p a s f = cc
 
 same_numbers : (one other : List Run) (given bytes : List ℕ) → length one ≡ length other
-    → numbers_of one ++ given ≡ numbers_of other ++ bytes → AreSameRuns one other given bytes
+    → octets_in one ++ given ≡ octets_in other ++ bytes → AreSameRuns one other given bytes
 same_numbers [] [] given bytes size is = record { runs = refl; given = is }
 same_numbers [] (b ∷ other) given bytes size is = absurd (omega (arith, size))
 same_numbers (a ∷ one) [] given bytes size is = absurd (omega (arith, size))
@@ -27,7 +27,7 @@ same_numbers (a ∷ one) (b ∷ other) given bytes size is =
     let at : a.at ≡ b.at = cc in
     let count : a.size ≡ b.size = cc in
     let frame : a.frame ≡ b.frame = cc in
-    let later : numbers_of one ++ given ≡ numbers_of other ++ bytes = cc in
+    let later : octets_in one ++ given ≡ octets_in other ++ bytes = cc in
     let rest = same_numbers one other given bytes (omega (arith, size)) later in
     let run : a ≡ b = same_run position at count frame in
     let all = rest.runs in
@@ -39,9 +39,10 @@ pub same_runs : (old new : PayloadReads) (bytes : List ℕ) → old.given ≡ []
     → trail_of new ≡ trail_of old ++ bytes → AreSameRuns new.runs old.runs new.given bytes
 same_runs old new bytes none is =
     let size : length new.runs ≡ length old.runs = cc in
-    let front : numbers_of old.runs ++ old.given ≡ numbers_of old.runs =
-    ap (λ (l : List ℕ). numbers_of old.runs ++ l) none ∙ append-nil (numbers_of old.runs) in
-    let tail : numbers_of new.runs ++ new.given ≡ (numbers_of old.runs ++ old.given) ++ bytes = cc in
+    let front : octets_in old.runs ++ old.given ≡ octets_in old.runs =
+    ap (λ (l : List ℕ). octets_in old.runs ++ l) none ∙ append-nil (octets_in old.runs) in
+    let tail : octets_in new.runs ++ new.given ≡ (octets_in old.runs ++ old.given) ++ bytes =
+    cc in
     same_numbers new.runs old.runs new.given bytes size
     (tail ∙ ap (λ (l : List ℕ). l ++ bytes) front)
 

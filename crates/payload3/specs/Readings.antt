@@ -37,14 +37,14 @@ pub record PayloadReads : Type 0 where
   pub failures : ℕ
   pub is_spent : Bool
 
--- The trail of a payload: its runs, and the bytes that it gave. A call that takes any source promises
--- only what it appends to the trail, so this says that the payload still has its runs.
-abbrev pub numbers_of : List Run → List ℕ
-numbers_of [] = []
-numbers_of (run ∷ runs) = run.position ∷ run.at ∷ run.size ∷ run.frame ∷ numbers_of runs
+-- The trail of a payload: its runs, and the bytes that it gave. A call that takes any source
+-- promises only what it appends to the trail, so this says that the payload still has its runs.
+abbrev pub octets_in : List Run → List ℕ
+octets_in [] = []
+octets_in (run ∷ runs) = run.position ∷ run.at ∷ run.size ∷ run.frame ∷ octets_in runs
 
 abbrev pub trail_of : PayloadReads → List ℕ
-trail_of reads = length reads.runs ∷ numbers_of reads.runs ++ reads.given
+trail_of reads = length reads.runs ∷ octets_in reads.runs ++ reads.given
 
 -- in a file that the reads allow, the bytes given are the first of the runs' bytes, and these come
 -- after them

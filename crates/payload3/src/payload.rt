@@ -79,8 +79,8 @@ impl<'a, F: FileExt> Payload<'a, F> {
     }
 
     /// Says what was given: in any file that the reads allow the first bytes of the runs. If the
-    /// last read gave none, it was all of them, and the runs lie in the file. Nothing is done when it
-    /// runs.
+    /// last read gave none, it was all of them, and the runs lie in the file. Nothing is done when
+    /// it runs.
     pub fn gives(&self)
         ensures { (file : List ℕ) → Allow self.now.readings file → GivesPayload self.now file }
     {

@@ -212,7 +212,8 @@ joined (r ∷ rs) file from to most le l full none within =
     let end = r.position + r.size in
     let bytes = take r.size (drop r.at file) in
     let size : length bytes ≡ r.size =
-    length-take-le r.size (drop r.at file) (omega (arith, length-drop r.at file, within.0 l.1.0.0)) in
+    length-take-le r.size (drop r.at file)
+    (omega (arith, length-drop r.at file, within.0 l.1.0.0)) in
     let rest : Joined file rs end to =
     joined rs file end to most (omega (arith, f.0, f.1)) l.1.1
     (λ p low high e. full p (omega (arith, f.0, low)) high (ap₂ or_else (has_after r p low) e))

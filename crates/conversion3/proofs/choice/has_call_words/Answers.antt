@@ -32,10 +32,12 @@ returns-then-count-eq-HEAD_SIZE-clause-call g c = λ file allows.
           has_words file c.args.runs.now block count c.if-count-eq-HEAD_SIZE.true read
           (decides.0 yes),
       λ has.
-          decides.1 (words_are file c.args.runs.now block count c.if-count-eq-HEAD_SIZE.true read has),
+          decides.1
+          (words_are file c.args.runs.now block count c.if-count-eq-HEAD_SIZE.true read has),
     )
 
-pub returns-then-count-eq-HEAD_SIZE-clause-within : goal.returns-then-count-eq-HEAD_SIZE-clause-within
+pub returns-then-count-eq-HEAD_SIZE-clause-within :
+    goal.returns-then-count-eq-HEAD_SIZE-clause-within
 returns-then-count-eq-HEAD_SIZE-clause-within g c = λ file allows.
     let both =
     allow_append file c.args.recorded.now.readings c.fill-filled.new.source.readings
@@ -74,10 +76,12 @@ returns-else-count-eq-HEAD_SIZE-clause-call g c = λ file allows.
     (c.gives.ensures file both.1) in (
       λ yes. absurd (c.if-count-eq-HEAD_SIZE.false ((Decides-eqb count 16).0 yes)),
       λ has.
-          absurd (c.if-count-eq-HEAD_SIZE.false (read_16 file c.args.runs.now block count few read has)),
+          absurd (c.if-count-eq-HEAD_SIZE.false
+          (read_16 file c.args.runs.now block count few read has)),
     )
 
-pub returns-else-count-eq-HEAD_SIZE-clause-within : goal.returns-else-count-eq-HEAD_SIZE-clause-within
+pub returns-else-count-eq-HEAD_SIZE-clause-within :
+    goal.returns-else-count-eq-HEAD_SIZE-clause-within
 returns-else-count-eq-HEAD_SIZE-clause-within g c = λ file allows.
     let both =
     allow_append file c.args.recorded.now.readings c.fill-filled.new.source.readings

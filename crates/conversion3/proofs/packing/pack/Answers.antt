@@ -3,7 +3,7 @@ use Rattle.capture3.specs.declared.fault.Side.TheVariants.{Client, Server}
 use Rattle.streams3.specs.declared.runs.Run.{Run}
 use Rattle.conversion3.specs.Sent.{IsSentBy}
 use Rattle.conversion3.specs.Whole.{side_flow}
-use Rattle.conversion3.specs.machinery.Contents.{HasContent}
+use Rattle.conversion3.specs.machinery.Contents.{HoldsContent}
 use Rattle.conversion3.proofs.PackingLemmas.{on_ok_map}
 use Rattle.conversion3.proofs.packing.pack.Goals as goal
 
@@ -15,11 +15,11 @@ returns-clause-packed g c = on_ok_map c.pack_runs.result _ _
       one.1,
       λ file connection allows order whole.
           let all = one.2 file allows in
-          let client : HasContent file c.in_ok-client.client.items one.0.client =
-          subst (λ (runs : List Run). HasContent file runs one.0.client) c.deref.ensures.value
+          let client : HoldsContent file c.in_ok-client.client.items one.0.client =
+          subst (λ (runs : List Run). HoldsContent file runs one.0.client) c.deref.ensures.value
           all.0 in
-          let server : HasContent file c.in_ok-server.server.items one.0.server =
-          subst (λ (runs : List Run). HasContent file runs one.0.server) c.deref-2.ensures.value
+          let server : HoldsContent file c.in_ok-server.server.items one.0.server =
+          subst (λ (runs : List Run). HoldsContent file runs one.0.server) c.deref-2.ensures.value
           all.1 in
           record {
             client =

@@ -34,5 +34,6 @@ returns-clause-stopped g c = if_err c.add-result.result _
     stops_after g.W.Sink.written c.add-result.new.self _ before earlier c.add-result.result error is
     (subst
     (λ (r : Result (Unit {0}) Error). MatchResult r (λ _. ending_of c.add-result.new.self ≡ None)
-    (λ e. ending_of c.add-result.new.self ≡ Some (Err e))) is (c.add-result.ensures.ended has.going))
+    (λ e. ending_of c.add-result.new.self ≡ Some (Err e))) is
+    (c.add-result.ensures.ended has.going))
     (c.add-result.ensures.adds before earlier has))

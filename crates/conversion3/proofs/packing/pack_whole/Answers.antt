@@ -68,7 +68,8 @@ loop-connection-preserved g c =
           let was = inv.packed before earlier has in (
             was.0,
             was.1,
-            λ file allows. same_whole file cs ds i n one said was.0 at next is_not (was.2 file allows),
+            λ file allows.
+                same_whole file cs ds i n one said was.0 at next is_not (was.2 file allows),
           );
       ended = inv.ended;
       read = inv.read;

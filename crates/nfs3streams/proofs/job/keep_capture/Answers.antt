@@ -1,4 +1,3 @@
-use Rattle.std.proofs.Common.{sym, ◌∙◌}
 use Rattle.nfs3streams.proofs.JobLemmas.{answers_job}
 use Rattle.nfs3streams.proofs.job.keep_capture.Goals as goal
 

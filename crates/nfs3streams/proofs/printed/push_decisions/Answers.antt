@@ -1,4 +1,4 @@
-use Rattle.std.proofs.Common.{◌≡◌, ◌<◌, ◌+◌, ◌++◌, ◌∙◌, append_assoc, ap, arith, get_or, length, string_bytes, sym, take}
+use Rattle.std.proofs.Common.{◌<◌, ◌+◌, ◌++◌, ◌∙◌, append_assoc, ap, arith, get_or, length, string_bytes, sym, take}
 use Rattle.conversion3.specs.declared.decisions.Decision.TheVariants.{NotChosen}
 use Rattle.nfs3streams.specs.Printed.{decision_text, decisions_text}
 use Rattle.nfs3streams.proofs.PrintedLemmas.{all_lines, line_at, next_is, pair_length}
@@ -14,7 +14,8 @@ loop-index-preserved c = λ shown ordered.
     omega (arith, c.loop-index-test.true, c.min-index-end.ensures) in
     let less : k < length ds = omega (arith, c.loop-index-test.true, c.min-index-end.ensures) in
     let (at, is, line) =
-    line_at 1 shown c.args.connections.now ds k one NotChosen ordered c.index-connections-index.is low less in
+    line_at 1 shown c.args.connections.now ds k one NotChosen ordered
+    c.index-connections-index.is low less in
     let d = get_or ds k NotChosen in
     c.in_ok-push_decision.ensures at is
     ∙ ap (λ l. l ++ decision_text (k + 1) at d) (c.loop-index.invariant shown ordered)

@@ -1,4 +1,4 @@
-use Rattle.std.proofs.Common.{None, Some, ap, codes, inl, inr, sym, ◌∙◌}
+use Rattle.std.proofs.Common.{Some, ap, codes, inl, inr, sym, ◌∙◌}
 use Rattle.clap.specs.Words.{found_of, rows_of}
 use Rattle.clap.proofs.WalkLemmas.{first_value-rows}
 use Rattle.std.specs.Cmp.Lexicographic.{other_text, same_text}

@@ -14,6 +14,7 @@ returns c =
     let limit = c.end_of_sent.result in
     let is : IsLimit stream limit = c.end_of_sent.ensures in
     match_map c.gap.result
-    (λ none. none_missing stream limit is (subst (λ n. HasNoGap stream.runs n limit) c.begin.ensures none))
+    (λ none. none_missing stream limit is
+    (subst (λ n. HasNoGap stream.runs n limit) c.begin.ensures none))
     (λ g some. first_missing stream limit g is
     (subst (λ n. IsGap stream.runs n limit g.begin g.end) c.begin.ensures some)) c.gap.ensures
