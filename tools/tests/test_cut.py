@@ -16,7 +16,6 @@ from examples.packets import ACK, Talk, ethernet, pcap, recording
 from tests.shared.running import ended
 
 from ..nfs3tools.commands import cut
-from ..nfs3tools.recordings.extract import frames_of
 from ..nfs3tools.shared.places import Place
 from .comparisons import conversation_of
 from .recordings import cooked, enhanced, fragments, fragments_6, interface, part_of, section
@@ -209,28 +208,6 @@ def parts_and_pcapng(tools: Tools) -> None:
                cut_out(tools, 'b.pcapng', 'connection 1 client record 1', 'b.pcap')[0], 0)
 
 
-def datagrams_in_fragments(tools: Tools) -> None:
-    """Of a datagram all fragments are taken as they are, and that is said."""
-    for cut_up, hosts in ((fragments, ('192.0.2.7', '192.0.2.1')),
-                          (fragments_6, ('2001:db8::7', '2001:db8::1'))):
-        talk = Talk(hosts=hosts)
-        opened, other = talk.opened(), Talk(701, hosts=hosts).datagram(0, ACK, bytes(900))
-        first, second, *others = [ethernet(piece) for piece in cut_up(other, 400, 78)]
-        pieces = [ethernet(piece) for piece in cut_up(talk.datagram(0, ACK, ALL[0]), 400)]
-        frames = [*opened, first, *pieces[:2], second, *pieces[2:], *others,
-                  talk.frame(1, ACK, ALL[1])]
-        tools.write('a.pcap', pcap(frames))
-        numbers, place = [frames.index(frame) + 1 for frame in pieces], \
-            'connection 1 client record 39'
-        status, lines, _ = cut_out(tools, 'a.pcap', place, f'{cut_up.__name__}.pcap')
-        told = 'cannot be trimmed to these records, and a dissector may not find them'
-        tools.want('lines', (status, lines[0], lines[-2]), (
-            1, f'{place}: {place}, frame {numbers[-1]}', f'frame {numbers[-1]} {told}'))
-        parts = parts_of(frames, {len(frames): (38 * 28, 39 * 28)})
-        tools.want('OUT', tools.read(f'{cut_up.__name__}.pcap')
-                   == extract(parts, [1, 2, *numbers, len(frames)]), True)
-
-
 def exchanges_in_the_extract(tools: Tools) -> None:
     """`calls` says the same of OUT as of the recording, and it is judged."""
     for name in ('ganesha_a', 'concurrent_a'):
@@ -275,8 +252,8 @@ def openings_that_do_not_fit(tools: Tools) -> None:
         one = cut.cut_of(connection._replace(opened_by=opened_by),
                          cut.wanted_at(taken, [Place(1, 'client', 9)])[1])
         wanted = {4, 5}.union(opened_by)
-        found = [cut.extract_of(tools.program, frames_of(tools.path('a.pcap'), some), [], [one],
-                                'a') for some in (wanted, {4, 5})]
+        found = [cut.extract_of(tools.program, cut.frames_of(taken_of(pcap(frames)), some), [],
+                                [one], 'a') for some in (wanted, {4, 5})]
         tools.want(f'records with {opened_by}', [extract_of.number for extract_of in found],
                    [0 if opened_by else 2, 2])
         tools.want('frames', found[1].content == extract(frames, numbers), True)
