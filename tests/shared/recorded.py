@@ -343,7 +343,7 @@ class Stream:
             if s.size and not (is_probe or s.flags & RST):
                 self.log.append(Run(position, at, s.size, frame))
                 self.top = max(self.top, position + s.size)
-        if s.missing:
+        if s.missing and not s.flags & RST:
             self.acknowledge((first + s.size + s.missing) % SPACE, frame)
 
     def acknowledge(self, value: int, frame: int) -> None:
@@ -385,14 +385,15 @@ class Connection:
     def take(self, frame: Frame, s: Segment) -> None:
         side = self.side(s)
         first = (s.sequence + (s.flags & SYN > 0)) % SPACE
-        behind = (first + s.size + s.missing) % SPACE
+        sent = 0 if s.flags & RST else s.size + s.missing
+        behind = (first + sent) % SPACE
         own = self.streams[side]
         if own is None:
             own = self.streams[side] = Stream(first, behind)
         elif (behind - own.next) % SPACE <= HALF:
             own.next = behind
         own.take(s, frame.at + s.begin, frame.number)
-        other, acknowledges = self.streams[1 - side], s.flags & ACK and not s.flags & RST
+        other, acknowledges = self.streams[1 - side], s.flags & ACK
         if other is not None and acknowledges:
             other.acknowledge(s.acknowledged, frame.number)
         if s.flags & SYN and self.client is None:

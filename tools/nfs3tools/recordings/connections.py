@@ -6,7 +6,8 @@ from collections.abc import Iterator
 from .index import ConnectionRow, Index, StreamRow
 from .streams import PlacesReader, Stream
 
-NOTHING_SENT = StreamRow(0, (0,) * 12, memoryview(b'').cast('Q'))
+NO_WORDS = memoryview(b'').cast('Q')
+NOTHING_SENT = StreamRow(0, (0,) * 10, NO_WORDS, NO_WORDS)
 
 
 class Connection:

@@ -13,13 +13,16 @@ INDEX_HEADER = struct.Struct('<8s4Q')
 # Its time, where its octets are in the recording, how many there are and were on the wire, its link
 # type, and whether it has a segment.
 FRAME_ROW = struct.Struct('<2Q4I')
-# Each end's address, version of IP and port; which end is the client, and what is said of it.
-CONNECTION_ROW = struct.Struct('<16s2I16s2I7Q')
+DECISION = struct.Struct('<Q')  # what is said of a connection
+# Each end's address, version of IP and port; and which end is the client.
+CONNECTION_ROW = struct.Struct('<16s2I16s2IQ')
 # Whether something was sent; the number of position 2^30; where the stream begins and ends, up to
-# where it was acknowledged, where it was reset, each with its frame; strays and changed bytes, each
-# with the first frame; how many runs there are.
-STREAM_ROW = struct.Struct('<15Q')
-RUN_WORDS = 3  # of 64 bits: the position, the place in the recording, the frame and the size
+# where it was acknowledged, where it was reset, each with its frame, which is 0 if that is not
+# known; strays and the frame of the first; how many pairs and runs follow.
+STREAM_ROW = struct.Struct('<14Q')
+# Words of 64 bits of a run: the position, the place in the recording, the frame above the size; and
+# of a pair: the position, the place of the bytes that count, and the same three of the others.
+RUN_WORDS, PAIR_WORDS = 3, 4
 FIRST_POSITION = 1 << 30
 SEQUENCE_SPACE = 1 << 32
 NANOSECONDS = 1_000_000_000
@@ -59,11 +62,11 @@ class End(typing.NamedTuple):
 
 
 class StreamRow(typing.NamedTuple):
-    """What one end sent, by `STREAM_ROW`, and its runs: of each the position, the place in the
-    recording, and the frame above the size."""
+    """What one end sent, by `STREAM_ROW`, with its runs and pairs."""
     first: int
     marks: tuple[int, ...]
     runs: memoryview
+    pairs: memoryview
 
 
 class ConnectionRow(typing.NamedTuple):
@@ -87,11 +90,12 @@ class Index:
             raise BadIndex
         head = INDEX_HEADER.unpack_from(content)
         magic, self.frames, self.connections, self.read, self.ended = head
-        self.begin = INDEX_HEADER.size + self.frames * FRAME_ROW.size
+        self.decisions = INDEX_HEADER.size + self.frames * FRAME_ROW.size
+        self.begin = self.decisions + self.connections * DECISION.size
         if magic != MAGIC or self.begin > len(content):
             raise BadIndex
         self.content = content
-        rows = content[INDEX_HEADER.size:self.begin]
+        rows = content[INDEX_HEADER.size:self.decisions]
         self.times, words = rows.cast('Q')[::4], rows.cast('I')
         self.sizes, self.wires, self.outcomes = words[4::8], words[5::8], words[7::8]
 
@@ -103,22 +107,23 @@ class Index:
     def rows(self) -> Iterator[ConnectionRow]:
         """Iterates over the connections, in the order of their first segments."""
         at = self.begin
-        for _ in range(self.connections):
-            lower, version, port, higher, other_version, other_port, client, decision, *_ = (
+        for number in range(self.connections):
+            lower, version, port, higher, other_version, other_port, client = (
                 CONNECTION_ROW.unpack_from(self.content, at))
             at += CONNECTION_ROW.size
             heads = [STREAM_ROW.unpack_from(self.content, at + side * STREAM_ROW.size)
                      for side in (0, 1)]
             at += 2 * STREAM_ROW.size
             streams = list[typing.Optional[StreamRow]]()
-            for is_there, first, *marks, runs in heads:
-                end = at + runs * RUN_WORDS * 8
-                words = self.content[at:end].cast('Q')
-                streams.append(StreamRow(first, tuple(marks), words) if is_there else None)
+            for is_there, first, *marks, pairs, runs in heads:
+                middle = at + runs * RUN_WORDS * 8
+                end = middle + pairs * PAIR_WORDS * 8
+                words = self.content[at:middle].cast('Q'), self.content[middle:end].cast('Q')
+                streams.append(StreamRow(first, tuple(marks), *words) if is_there else None)
                 at = end
-            yield ConnectionRow((end_of(lower, version, port), end_of(higher, other_version,
-                                                                      other_port)),
-                                client - 1 if client else None, (streams[0], streams[1]),
+            decision, = DECISION.unpack_from(self.content, self.decisions + number * DECISION.size)
+            ends = end_of(lower, version, port), end_of(higher, other_version, other_port)
+            yield ConnectionRow(ends, client - 1 if client else None, (streams[0], streams[1]),
                                 decision == WHOLE)
 
 

@@ -105,12 +105,12 @@ def select(connection: Connection, is_growing: bool = False) -> Selected:
 
 def add_uncertain(stream: Stream, kept: KeptRanges, side: Side) -> None:
     """Adds what is said of bytes that are not taken, and of others that may be missing."""
-    if stream.changed:
+    changed, first = stream.changed()
+    if changed:
         kept.notes.append(
-            f'{count(stream.changed, "frame")} {plural(stream.changed, "repeats", "repeat")} '
-            f'bytes with other content, first frame {stream.changed_by}; '
-            'the bytes that came first are taken')
-        kept.reasons.append(f'{count(stream.changed, "frame")} with other content')
+            f'{count(changed, "frame")} {plural(changed, "repeats", "repeat")} bytes with other '
+            f'content, first frame {first}; the bytes that came first are taken')
+        kept.reasons.append(f'{count(changed, "frame")} with other content')
     left_out = stream.left_out
     if left_out:
         kept.notes.append(

@@ -50,25 +50,33 @@ class Stream:
     first: the sequence number of position 0
     opened, end, acknowledged, reset: SYN, FIN, the highest acknowledgment, and RST, as far as they
         were recorded
-    strays, changed: how many segments have a number that is none of the stream, and how often bytes
-        came again with other content; beside each the first frame
+    strays, stray: how many segments have a number that is none of the stream, and the first frame
     """
 
     def __init__(self, row: StreamRow, file: PlacesReader, times: memoryview) -> None:
         self.file, self.times, self.runs = file, times, row.runs
         begin, end, acknowledged, reset = (
-            Mark(row.marks[at] - 1, row.marks[at + 1]) if row.marks[at] else None
-            for at in (0, 2, 4, 6))
+            Mark(*row.marks[at:at + 2]) if row.marks[at + 1] else None for at in (0, 2, 4, 6))
         base = begin.position if begin else self.runs[0] if self.runs else FIRST_POSITION
         self.base, self.first = base, (row.first + base - FIRST_POSITION) % SEQUENCE_SPACE
         self.opened, self.end, self.acknowledged, self.reset = (
             mark and Mark(mark.position - base, mark.frame)
             for mark in (begin, end, acknowledged, reset))
-        self.strays, self.stray, self.changed, self.changed_by = row.marks[8:]
+        self.strays, self.stray = row.marks[8:]
+        self.pairs = row.pairs
         self.positions = self.runs[::RUN_WORDS]
         self.low = self.run_at(0)
         self.high = (len(self.positions) if self.end is None
                      else bisect.bisect_left(self.positions, base + self.end.position))
+
+    def changed(self) -> tuple[int, int]:
+        """Returns how many frames repeat bytes with other content, and the first of them."""
+        words, frames = iter(self.pairs), set[int]()
+        for _, first, again, last in zip(words, words, words, words):
+            size, frame = last & SIZE_OF_RUN, last >> 32
+            if self.file.joined([(first, size)]) != self.file.joined([(again, size)]):
+                frames.add(frame)
+        return len(frames), min(frames, default=0)
 
     def run_at(self, position: int) -> int:
         """Returns the index of the first run that ends behind a position."""
