@@ -1,0 +1,42 @@
+-- The rows of frames.
+use Rattle.std.specs.Prelude.{◌≡◌, ◌⊎◌, List, [], ◌∷◌, length, Option, None, Some}
+use Rattle.connections3.specs.Frames.{HasNotTaken, ShowsFrames}
+use Rattle.connections3.specs.declared.taker.NotTaken.{NotTaken}
+use Rattle.connections3.specs.declared.taker.NotTaken.TheVariants.{Memory, TooMany}
+use Rattle.recording3.specs.Places.{Passed}
+use Rattle.recording3.specs.Segments.{IsSegment, LacksSegment}
+use Rattle.recording3.specs.declared.parts.NoSegment.{NoSegment}
+use Rattle.recording3.specs.declared.parts.Segment.{Segment}
+use Rattle.index3.specs.declared.frames.FrameRow.{FrameRow}
+use Rattle.index3.specs.declared.frames.FrameTable.{FrameTable}
+
+-- a frame has a segment, or lacks one for a reason
+abbrev pub LacksOnly : Passed → Option NoSegment → Type 0
+LacksOnly frame None = (s : Segment) × IsSegment frame.head.link frame.octets frame.head.wire s
+LacksOnly frame (Some why) = LacksSegment frame.head.link frame.octets frame.head.wire why
+
+-- the row is that of a frame
+pub record IsRow (frame : Passed) (row : FrameRow) : Type 0 where
+  pub time : row.time ≡ frame.head.time
+  pub at : row.at ≡ frame.head.at
+  pub size : row.size ≡ length frame.octets
+  pub wire : row.wire ≡ frame.head.wire
+  pub link : row.link ≡ frame.head.link
+  pub lacks : LacksOnly frame row.lacks
+
+-- the rows are those of frames, in their order
+abbrev pub AreRows : List Passed → List FrameRow → Type 0
+AreRows [] [] = Unit {0}
+AreRows (frame ∷ frames) (row ∷ rows) = IsRow frame row × AreRows frames rows
+AreRows _ _ = ⊥
+
+-- a table took exactly these frames
+pub record Keeps (table : FrameTable) (frames : List Passed) : Type 0 where
+  pub shows : ShowsFrames table.taker frames
+  pub rows : AreRows frames table.rows.items
+
+-- A table did not take the last of these frames: its taker did not, or memory ran out for the row,
+-- or the frame has 2^32 octets.
+abbrev pub HasNotKept : FrameTable → NotTaken → List Passed → Type 0
+HasNotKept table error frames =
+    HasNotTaken table.taker error frames ⊎ ((error ≡ Memory) ⊎ (error ≡ TooMany))
