@@ -23,7 +23,7 @@ TOP = Path(__file__).resolve().parent.parent
 # The scripts in the order in which they begin: those that run the programs, whoever built them,
 ON_PROGRAMS = ('program/run', 'program/streams', 'program/captures', 'program/fuzz',
                'program/large', 'program/instructions', 'faults/failures', 'faults/hostile',
-               'sources/agreement')
+               'faults/recordings', 'sources/agreement')
 # those that look at dist/, or run other things that `rt` built, and those that run `rt`.
 ON_DIST, ON_BUILT, WITH_RT = 'program/shipped', 'faults/memory', 'sources/must_fail'
 OF_THE_TOOLS = ('-m', 'tools.tests')

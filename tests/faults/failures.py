@@ -22,6 +22,7 @@ from typing import NamedTuple
 sys.path.insert(0, str(pathlib.Path(__file__).resolve().parents[2]))
 from examples import messages
 from examples.messages import NFS, NFSACL, call, fragment, success
+from tests.program.streams import OPENED, WHOLE, answered, ported, recording, sent
 from tests.shared import outputs, tracing
 from tests.shared.outputs import AS_IT_WAS, PACKED, SETTINGS, Found, Setting
 from tests.shared.running import Runs, Try, command_of, try_all, words_of
@@ -55,6 +56,12 @@ LOOKING = (errno.ENOMEM, errno.EIO, errno.EACCES)
 FAILING = {'stat': (*LOOKING, errno.ENOENT), 'open': LOOKING, 'readlink': LOOKING,
            'rename': (errno.EIO,), 'unlink': (errno.EIO,), 'mode': (errno.EPERM,),
            'sync': (errno.EIO,), 'random': (errno.EAGAIN,)}
+# A recording whose connections are whole, also with bytes that came twice, of no chosen port, and
+# not whole; and how many bytes of it the system gives at once.
+RECORDED = recording(
+    *WHOLE, sent(105, b'more', acknowledged=506), answered(501, b'reply'), *ported(80, WHOLE),
+    *OPENED, sent(105, b'beyond a gap'))
+OF_RECORDINGS, GIVEN_OF_RECORDING = ('nfs3streams a out', 'nfs3streams a new'), 7
 MIXED = messages.interleaved(messages.in_turn([call(1, NFS, 3, 0)], [success(1)]))
 
 
@@ -186,10 +193,10 @@ def reads(line: str, capture: bytes, piece: int, place: Place) -> None:
     place.want('files', place.files() == written, True)
 
 
-def interrupted(line: str, place: Place) -> None:
+def interrupted(line: str, capture: bytes, piece: int, place: Place) -> None:
     """A read that a signal interrupts is tried again."""
-    place.put(example('two_connections'))
-    pieces = {'read': GIVEN_AT_ONCE['two_connections']}
+    place.put(capture)
+    pieces = {'read': piece}
     plain = place.fail(line, pieces=pieces)
     written, last = place.files(), plain.counts['read']
     for number in (1, 2, last // 2, last):
@@ -461,8 +468,15 @@ def tries() -> Iterator[tuple[str, Callable[..., None], *tuple[object, ...]]]:
             yield 'writes: %s of %s' % (line, name), writes, line, examples[name]
     for line in COMMANDS:
         yield 'reads: %s of version 2 byte by byte' % line, reads, line, MIXED, 1
+    for line in OF_RECORDINGS:
+        yield f'growths: {line}', growths, line, RECORDED
+        yield f'reads: {line}', reads, line, RECORDED, GIVEN_OF_RECORDING
+        yield f'writes: {line}', writes, line, RECORDED
     for line in COMMANDS:
-        yield 'interrupted reads: ' + line, interrupted, line
+        yield ('interrupted reads: ' + line, interrupted, line, examples['two_connections'],
+               GIVEN_AT_ONCE['two_connections'])
+    yield ('interrupted reads: ' + OF_RECORDINGS[0], interrupted, OF_RECORDINGS[0], RECORDED,
+           GIVEN_OF_RECORDING)
     for line in ('canon a out', 'canon a new', 'nfs3mask a out', 'nfs3mask a new', 'pack out a a',
                  'pack new a a'):
         yield 'syncs: ' + line, syncs, line
