@@ -422,22 +422,18 @@ CLAIM = re.compile(r'`(\w+)` \(`([\w/]+\.rt)`\): ((?:`\w+`(?:, )?)+)')
 
 
 def clauses_of_the_claims(tools: Tools) -> None:
-    """docs/PROOFS.md names clauses of functions, laws and files that are there."""
-    table = TEXTS['docs/PROOFS.md'].partition('## From claim to clause')[2].partition('\n## ')[0]
-    head_from = runpy.run_path(str(TOP / 'dev/api'))['head_from']
-    claims = CLAIM.findall(table)
-    tools.want('claims', len(claims) > 15, True)
+    """The table of docs/PROOFS.md from claim to clause names clauses of functions, laws and
+    definitions that are there, and nothing else."""
+    page = TEXTS['docs/PROOFS.md'].partition('## From claim to clause')[2].partition('\n## ')[0]
+    table = '\n'.join(re.findall(r'^\|.*\| (.*) \|$', page, re.M))
+    claims, others = CLAIM.findall(table), re.findall(r'`([^`]*)`', CLAIM.sub('', table))
+    tools.want('claims', len(claims) > 35, True)
     for name, path, named in claims:
-        lines = (TOP / 'crates' / path).read_text().splitlines()
-        heads = [head_from(lines, at) for at, line in enumerate(lines)
-                 if re.match(rf' *(?:pub )?fn {name}\b', line)]
-        clauses = {clause or 'ensures' for head in heads
-                   for clause in re.findall(r'^ +ensures\*?(?: (\w+))? \{', head, re.M)}
+        clauses = crate_pages.clauses_in(TOP / 'crates' / path).get(name, set())
         tools.want(f'{name} of {path}', {*re.findall(r'\w+', named)} - clauses, set())
-    laws = '\n'.join(path.read_text() for path in sorted(TOP.glob('crates/*/src/laws.rt')))
-    named_laws = [law for some in re.findall(r'laws? ((?:`\w+`(?:, )?)+)', table)
-                  for law in re.findall(r'\w+', some)]
-    tools.want('laws', [law for law in named_laws if f'pub fn {law}' not in laws], [])
+    tools.want('laws and definitions', [
+        name for name in others if name not in crate_pages.laws()
+        and not (TOP / 'crates' / name).with_suffix('.antt').exists()], [])
 
 
 def clauses_are_whole(tools: Tools) -> None:
@@ -463,11 +459,15 @@ def clauses_of_each_function(tools: Tools) -> None:
 
 
 def pages_of_the_crates(tools: Tools) -> None:
-    """Each library has a page, which quotes proved code and names files that exist; and dev/api
-    prints what it exports."""
+    """Each library has a page, which quotes proved code; the pages name files and clauses that
+    exist; and dev/api prints what a library exports."""
     tools.want('crates without a page', crate_pages.without_a_page(), [])
     tools.want('code that no proved caller has', crate_pages.not_quoted(), [])
     tools.want('files that are not there', crate_pages.files_not_there(), [])
+    tools.want('clauses that are not there', crate_pages.clauses_not_there(), [])
+    for cell, wrong in (('`concludes`, `whole`', []), ('`ok`', ['ok']), ('`decides`', ['decides']),
+                        ('`gave`; `whole`', ['gave']), ('`gave` of `same`; `one_verdict`', [])):
+        tools.want(cell, crate_pages.not_of_the_row('canon3', '`check` returns', cell), wrong)
     exports = crate_pages.rows_of_exports()
     tools.want('what dev/api prints', (sorted(exports), min(exports.values()) > 0),
                (sorted(crate_pages.libraries()), True))
