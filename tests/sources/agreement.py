@@ -26,7 +26,7 @@ from tests.sources import call_trees, command_lines, crate_pages, pages, tool_ro
 from tests.sources.relations import nested, relations, with_many_arguments
 from tests.sources.rooms import (
     crowded_folders, in_the_wrong_room, long_lines, of_private_fields, of_several_meanings,
-    of_two_files, scans_without_values, types_of_two_crates)
+    of_two_files, resting_on_machines, scans_without_values, types_of_two_crates)
 from tools.nfs3tools.comparison.values import classes as values
 from tools.tests.scripts import TOP, Tools, sums
 
@@ -279,6 +279,18 @@ def what_is_believed(tools: Tools) -> None:
     tools.want('a call that is not there', believed(tools, 'canon3::absent')[0], 1)
 
 
+def what_rests_on_machines(tools: Tools) -> None:
+    """docs/PROOFS.md names the calls and laws that rest on a state machine."""
+    rows = runpy.run_path(str(TOP / 'dev/api'))['rows']
+    found = {(crate, name.removeprefix('laws::')) for crate in crate_pages.libraries()
+             for name in resting_on_machines(crate, [item.name for item in rows(crate)])}
+    told = re.split(r'rest on no state machine\.|No other call or law rests on one\.',
+                    TEXTS['docs/PROOFS.md'])[1]
+    tools.want('calls and laws', len(found), 7)
+    tools.want('names', {name for pair in found for name in pair},
+               set(re.findall(r'`(\w+)`', told)))
+
+
 def rooms_stand_apart(tools: Tools) -> None:
     """What public calls believe, and machinery; each definition and each file of a crate has a name
     of its own; no folder of proofs is crowded; and clauses are short and name no private field."""
@@ -495,7 +507,7 @@ def classes_of_the_mask(tools: Tools) -> None:
 TESTS = [commands_of_the_pages, command_lines_of_the_pages, clause_on_the_page,
          lines_for_many_captures, examples_are_used, answers_of_the_examples,
          examples_are_made_alike, pages_agree, pages_of_the_tools, what_is_believed,
-         rooms_stand_apart, rooms_of_the_tools, names_of_the_tools, lines_of_the_tools,
+         what_rests_on_machines, rooms_stand_apart, rooms_of_the_tools, names_of_the_tools, lines_of_the_tools,
          pages_are_plain, tables_are_whole, names_lead_somewhere, trees_are_of_the_code,
          what_is_not_proved, clauses_of_each_function, clauses_of_the_claims, clauses_are_whole,
          pages_of_the_crates,
