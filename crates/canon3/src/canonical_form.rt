@@ -28,10 +28,10 @@ use std::alloc::Global;
 use std::hash::BuildHasher;
 
 /// Reads a capture to its end, writes its canonical form as it comes, and flushes the sink. Each
-/// file handle that is not empty (`nfs_fh3`, RFC 1813), write verifier (`writeverf3`) and xid (RFC
-/// 5531, section 9) is written as its number. It keeps one block of the source's bytes, one record,
-/// the calls of the open connection, and the values that have numbers. What is written of a whole
-/// capture has no more stream bytes than the capture.
+/// file handle that is not empty (RFC 1813, section 2.5), write verifier and xid (RFC 5531, section
+/// 9) is written as its number. It keeps one block of the source's bytes, one record, the calls of
+/// the open connection, and the values that have numbers. What is written of a whole capture has no
+/// more stream bytes than the capture.
 ///
 /// # Errors
 ///

@@ -24,7 +24,8 @@ quoted_byte b = if is_plain b then b ∷ [] else 92 ∷ 120 ∷ encode_lower (b 
 abbrev pub quoted : List ℕ → List ℕ
 quoted bytes = 34 ∷ (flat_map quoted_byte bytes ++ 34 ∷ [])
 
--- opaque data (RFC 4506, section 4.10), a string (section 4.11), a file handle (nfs_fh3, RFC 1813)
+-- opaque data (RFC 4506, section 4.10), a string (section 4.11), a file handle (RFC 1813, section
+-- 2.5)
 abbrev pub opaque_value : Kind → List ℕ → List ℕ
 opaque_value Var bytes = encode_lower bytes
 opaque_value Text bytes = quoted bytes
