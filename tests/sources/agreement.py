@@ -507,11 +507,11 @@ def classes_of_the_mask(tools: Tools) -> None:
 TESTS = [commands_of_the_pages, command_lines_of_the_pages, clause_on_the_page,
          lines_for_many_captures, examples_are_used, answers_of_the_examples,
          examples_are_made_alike, pages_agree, pages_of_the_tools, what_is_believed,
-         what_rests_on_machines, rooms_stand_apart, rooms_of_the_tools, names_of_the_tools, lines_of_the_tools,
-         pages_are_plain, tables_are_whole, names_lead_somewhere, trees_are_of_the_code,
-         what_is_not_proved, clauses_of_each_function, clauses_of_the_claims, clauses_are_whole,
-         pages_of_the_crates,
-         completions_of_the_tools, classes_of_the_mask]
+         what_rests_on_machines, rooms_stand_apart, rooms_of_the_tools, names_of_the_tools,
+         lines_of_the_tools, pages_are_plain, tables_are_whole, names_lead_somewhere,
+         trees_are_of_the_code, what_is_not_proved, clauses_of_each_function,
+         clauses_of_the_claims, clauses_are_whole, pages_of_the_crates, completions_of_the_tools,
+         classes_of_the_mask]
 
 
 def main() -> None:

@@ -19,8 +19,8 @@ PROMISE = re.compile(r'^\| (.*) \| (.*) \| P \|$', re.M)
 OWNER = re.compile(r'pub trait (\w+)|impl\b(?:<[^{]*?>)? ?(?:.* for )?(\w+)[^{]*\{$')
 FUNCTION = re.compile(r' *(?:pub(?:\(crate\))? )?fn (\w+)')
 LAW = re.compile(r'^pub fn (\w+)', re.M)
-DEFINED = re.compile(r'^ *(?:(?:abbrev|unfoldable) )?(?:pub )?(?:record |data )?([A-Z]\w*)(?= [:({])',
-                     re.M)
+DEFINED = re.compile(r'^ *(?:(?:abbrev|unfoldable) )?(?:pub )?(?:record |data )?([A-Z]\w*)'
+                     r'(?= [:({])', re.M)
 RECORD_FIELD = re.compile(r'^ +pub (\w+) :', re.M)
 FIRST_NAME = re.compile(r'`(\w+(?:::\w+)?)[^`]*`')
 # Whose the clauses are: `FUNCTION`: `CLAUSE`, or `CLAUSE` of `FUNCTION`. The fields of a clause are
