@@ -26,7 +26,7 @@ from tests.sources import call_trees, command_lines, crate_pages, pages, tool_ro
 from tests.sources.relations import nested, relations, with_many_arguments
 from tests.sources.rooms import (
     crowded_folders, in_the_wrong_room, long_lines, of_private_fields, of_several_meanings,
-    of_two_files, scans_without_values, types_of_two_crates)
+    of_two_files, resting_on_machines, scans_without_values, types_of_two_crates)
 from tools.nfs3tools.comparison.values import classes as values
 from tools.tests.scripts import TOP, Tools, sums
 
@@ -279,6 +279,18 @@ def what_is_believed(tools: Tools) -> None:
     tools.want('a call that is not there', believed(tools, 'canon3::absent')[0], 1)
 
 
+def what_rests_on_machines(tools: Tools) -> None:
+    """docs/PROOFS.md names the calls and laws that rest on a state machine."""
+    rows = runpy.run_path(str(TOP / 'dev/api'))['rows']
+    found = {(crate, name.removeprefix('laws::')) for crate in crate_pages.libraries()
+             for name in resting_on_machines(crate, [item.name for item in rows(crate)])}
+    told = re.split(r'rest on no state machine\.|No other call or law rests on one\.',
+                    TEXTS['docs/PROOFS.md'])[1]
+    tools.want('calls and laws', len(found), 7)
+    tools.want('names', {name for pair in found for name in pair},
+               set(re.findall(r'`(\w+)`', told)))
+
+
 def rooms_stand_apart(tools: Tools) -> None:
     """What public calls believe, and machinery; each definition and each file of a crate has a name
     of its own; no folder of proofs is crowded; and clauses are short and name no private field."""
@@ -422,22 +434,18 @@ CLAIM = re.compile(r'`(\w+)` \(`([\w/]+\.rt)`\): ((?:`\w+`(?:, )?)+)')
 
 
 def clauses_of_the_claims(tools: Tools) -> None:
-    """docs/PROOFS.md names clauses of functions, laws and files that are there."""
-    table = TEXTS['docs/PROOFS.md'].partition('## From claim to clause')[2].partition('\n## ')[0]
-    head_from = runpy.run_path(str(TOP / 'dev/api'))['head_from']
-    claims = CLAIM.findall(table)
-    tools.want('claims', len(claims) > 15, True)
+    """The table of docs/PROOFS.md from claim to clause names clauses of functions, laws and
+    definitions that are there, and nothing else."""
+    page = TEXTS['docs/PROOFS.md'].partition('## From claim to clause')[2].partition('\n## ')[0]
+    table = '\n'.join(re.findall(r'^\|.*\| (.*) \|$', page, re.M))
+    claims, others = CLAIM.findall(table), re.findall(r'`([^`]*)`', CLAIM.sub('', table))
+    tools.want('claims', len(claims) > 35, True)
     for name, path, named in claims:
-        lines = (TOP / 'crates' / path).read_text().splitlines()
-        heads = [head_from(lines, at) for at, line in enumerate(lines)
-                 if re.match(rf' *(?:pub )?fn {name}\b', line)]
-        clauses = {clause or 'ensures' for head in heads
-                   for clause in re.findall(r'^ +ensures\*?(?: (\w+))? \{', head, re.M)}
+        clauses = crate_pages.clauses_in(TOP / 'crates' / path).get(name, set())
         tools.want(f'{name} of {path}', {*re.findall(r'\w+', named)} - clauses, set())
-    laws = '\n'.join(path.read_text() for path in sorted(TOP.glob('crates/*/src/laws.rt')))
-    named_laws = [law for some in re.findall(r'laws? ((?:`\w+`(?:, )?)+)', table)
-                  for law in re.findall(r'\w+', some)]
-    tools.want('laws', [law for law in named_laws if f'pub fn {law}' not in laws], [])
+    tools.want('laws and definitions', [
+        name for name in others if name not in crate_pages.laws()
+        and not (TOP / 'crates' / name).with_suffix('.antt').exists()], [])
 
 
 def clauses_are_whole(tools: Tools) -> None:
@@ -463,11 +471,15 @@ def clauses_of_each_function(tools: Tools) -> None:
 
 
 def pages_of_the_crates(tools: Tools) -> None:
-    """Each library has a page, which quotes proved code and names files that exist; and dev/api
-    prints what it exports."""
+    """Each library has a page, which quotes proved code; the pages name files and clauses that
+    exist; and dev/api prints what a library exports."""
     tools.want('crates without a page', crate_pages.without_a_page(), [])
     tools.want('code that no proved caller has', crate_pages.not_quoted(), [])
     tools.want('files that are not there', crate_pages.files_not_there(), [])
+    tools.want('clauses that are not there', crate_pages.clauses_not_there(), [])
+    for cell, wrong in (('`concludes`, `whole`', []), ('`ok`', ['ok']), ('`decides`', ['decides']),
+                        ('`gave`; `whole`', ['gave']), ('`gave` of `same`; `one_verdict`', [])):
+        tools.want(cell, crate_pages.not_of_the_row('canon3', '`check` returns', cell), wrong)
     exports = crate_pages.rows_of_exports()
     tools.want('what dev/api prints', (sorted(exports), min(exports.values()) > 0),
                (sorted(crate_pages.libraries()), True))
@@ -495,11 +507,11 @@ def classes_of_the_mask(tools: Tools) -> None:
 TESTS = [commands_of_the_pages, command_lines_of_the_pages, clause_on_the_page,
          lines_for_many_captures, examples_are_used, answers_of_the_examples,
          examples_are_made_alike, pages_agree, pages_of_the_tools, what_is_believed,
-         rooms_stand_apart, rooms_of_the_tools, names_of_the_tools, lines_of_the_tools,
-         pages_are_plain, tables_are_whole, names_lead_somewhere, trees_are_of_the_code,
-         what_is_not_proved, clauses_of_each_function, clauses_of_the_claims, clauses_are_whole,
-         pages_of_the_crates,
-         completions_of_the_tools, classes_of_the_mask]
+         what_rests_on_machines, rooms_stand_apart, rooms_of_the_tools, names_of_the_tools,
+         lines_of_the_tools, pages_are_plain, tables_are_whole, names_lead_somewhere,
+         trees_are_of_the_code, what_is_not_proved, clauses_of_each_function,
+         clauses_of_the_claims, clauses_are_whole, pages_of_the_crates, completions_of_the_tools,
+         classes_of_the_mask]
 
 
 def main() -> None:

@@ -155,6 +155,18 @@ def in_the_wrong_room() -> list[str]:
     return wrong
 
 
+# The files of definitions that are state machines, but for those in machinery.
+MACHINE = re.compile(r'\w*Machine|BodyProgram|Joining')
+
+
+def resting_on_machines(crate: str, names: list[str]) -> set[str]:
+    """Returns which public calls of a crate rest on a state machine: of methods the type."""
+    believed = tool()
+    found = {name: believed.gather(crate, name.removeprefix('laws::')).believed for name in names}
+    return {re.split('(?<!laws)::', name)[0] for name, reached in found.items()
+            if any(MACHINE.fullmatch(one.file.module) for one in reached.seen)}
+
+
 def private_fields(text: str) -> set[str]:
     """Returns the private fields of a file's public structs, except those whose clauses speak of
     the value of a Model."""

@@ -37,7 +37,7 @@ def explained(tools: Tools, name: str, place: str, *options: str) -> list[str]:
 
 
 def fields_of_a_reply(tools: Tools) -> None:
-    """The places of RFC 5531, section 9, and of RFC 1813, sections 2.6 and 3.3.1. Bits of the type
+    """The places of RFC 5531, section 9, and of RFC 1813, section 3.3.1 (fattr3). Bits of the type
     in a mode, and a second in nanoseconds, are said to be odd."""
     plain = fattr(2, 12, size=34, mode=0o1755, nlink=3, uid=7, gid=8)
     attributes = plain[:60] + word(9) + word(10**9) + plain[68:]

@@ -1,7 +1,7 @@
 -- Streams that are packed pair by pair.
-use Rattle.std.specs.Prelude.{drop}
-use Rattle.std.proofs.lemmas.List.{take-append-drop}
-use Rattle.nfs3canon.proofs.Common.{◌≡◌, ◌⊎◌, ◌<◌, ◌+◌, ◌*◌, ◌/◌, ap, ap₂, sym, refl, subst, inl, inr, arith, false, is_ok, is_err, if◌then◌else◌, append_assoc, ◌∙◌, zero, suc, ℕ, List, [], ◌∷◌, ◌++◌, Option, Result, Ok, Err, Any, String, Global, length, map, take, slice_index_or, string_bytes, length-map, map-append, take_more, TracedReader, Streams, Gave, IsSpent, Error, CountsReadings, IsUnread, FileReading, reading_in, reading_under, Outcome, one_failed, observed_of, AreOfFirst, AreReadStreams, OneHasFailed, IsReadWhole, PacksFile, PacksNone, RefusesStreams}
+use Rattle.std.specs.Prelude.{◌-◌, drop}
+use Rattle.std.proofs.lemmas.List.{get_or-drop, length-drop, take-append-drop}
+use Rattle.nfs3canon.proofs.Common.{◌≡◌, ◌⊎◌, ◌<◌, ◌+◌, ◌*◌, ◌/◌, ap, ap₂, sym, refl, subst, inl, inr, arith, false, is_ok, is_err, if◌then◌else◌, append_assoc, ◌∙◌, zero, suc, ℕ, List, [], ◌∷◌, ◌++◌, Option, Result, Ok, Err, String, Global, length, map, take, slice_index_or, string_bytes, length-map, map-append, take_more, TracedReader, Streams, Gave, IsSpent, Error, CountsReadings, IsUnread, FileReading, reading_in, reading_under, Outcome, one_failed, observed_of, AreOfFirst, AreReadStreams, FailsToOpenLater, OneHasFailed, IsReadWhole, PacksFile, PacksNone, RefusesStreams}
 use Rattle.capture3.specs.declared.fault.Error.TheVariants as errors
 use Rattle.capture3.proofs.Lemmas.Reader.ObservedLemmas.{prefix_of_observed}
 use Rattle.capture3.specs.declared.fault.Fault.{Fault}
@@ -20,22 +20,26 @@ names_read readings = map (λ reading. reading.name) readings
 module _ (holds : List ℕ → Option (List ℕ)) (names : List (List ℕ))
     (readings : List FileReading) where
   -- a stream was not opened
-  pub stops : (outcome : Outcome) → Any (λ name. FailsToOpenStream name outcome) names
+  pub stops : (outcome : Outcome) → FailsToOpenLater names readings outcome
       → StopsPacking holds names readings outcome
-  stops (outcomes.Packed (Ok done)) (k, name, within, is, inl named) = absurd named
-  stops (outcomes.Packed (Ok done)) (k, name, within, is, inr (inl other)) = absurd (cc)
-  stops (outcomes.Packed (Ok done)) (k, name, within, is, inr (inr other)) = absurd (cc)
-  stops (outcomes.Packed (Err (errors.Refused fault))) (k, name, within, is, inl named) =
+  stops (outcomes.Packed (Ok done)) (first, (k, name, within, is, inl named)) = absurd named
+  stops (outcomes.Packed (Ok done)) (first, (k, name, within, is, inr (inl other))) = absurd (cc)
+  stops (outcomes.Packed (Ok done)) (first, (k, name, within, is, inr (inr other))) = absurd (cc)
+  stops (outcomes.Packed (Err (errors.Refused fault))) (first, (k, name, within, is, inl named)) =
       absurd named
-  stops (outcomes.Packed (Err (errors.Refused fault))) (k, name, within, is, inr (inl other)) =
+  stops (outcomes.Packed (Err (errors.Refused fault)))
+      (first, (k, name, within, is, inr (inl other))) =
       absurd (cc)
-  stops (outcomes.Packed (Err (errors.Refused fault))) (k, name, within, is, inr (inr other)) =
+  stops (outcomes.Packed (Err (errors.Refused fault)))
+      (first, (k, name, within, is, inr (inr other))) =
       absurd (cc)
-  stops (outcomes.Packed (Err errors.Read)) (k, name, within, is, inl named) = absurd named
-  stops (outcomes.Packed (Err errors.Read)) (k, name, within, is, inr (inl other)) = absurd (cc)
-  stops (outcomes.Packed (Err errors.Read)) (k, name, within, is, inr (inr other)) = absurd (cc)
-  stops (outcomes.Packed (Err error)) any = tt
-  stops outcome any = any
+  stops (outcomes.Packed (Err errors.Read)) (first, (k, name, within, is, inl named)) = absurd named
+  stops (outcomes.Packed (Err errors.Read)) (first, (k, name, within, is, inr (inl other))) =
+      absurd (cc)
+  stops (outcomes.Packed (Err errors.Read)) (first, (k, name, within, is, inr (inr other))) =
+      absurd (cc)
+  stops (outcomes.Packed (Err error)) later = tt
+  stops outcome later = later
 
   -- the packing met an error
   pub stops_error : (error : Error) → (error ≡ errors.Read → OneHasFailed readings)
@@ -61,21 +65,21 @@ module _ (run : FilesRun) (output : List ℕ) (names : List (List ℕ))
   packs_stopped (outcomes.Packed (Err (errors.Refused fault))) stopped = (stopped, none)
   packs_stopped (outcomes.Packed (Err errors.Read)) stopped = (stopped, none)
   packs_stopped (outcomes.Packed (Err error)) stopped = none
-  packs_stopped outcome stopped = (inr stopped, none)
+  packs_stopped outcome stopped = inr (stopped, none.1)
 
-  not_made : (outcome : Outcome) → FailsToOpenStream output outcome
+  not_made : (outcome : Outcome) → run.readings ≡ [] → FailsToOpenStream output outcome
       → PacksFile run output names outcome
-  not_made (outcomes.Packed (Ok done)) (inl named) = absurd named
-  not_made (outcomes.Packed (Ok done)) (inr (inl other)) = absurd (cc)
-  not_made (outcomes.Packed (Ok done)) (inr (inr other)) = absurd (cc)
-  not_made (outcomes.Packed (Err (errors.Refused fault))) (inl named) = absurd named
-  not_made (outcomes.Packed (Err (errors.Refused fault))) (inr (inl other)) = absurd (cc)
-  not_made (outcomes.Packed (Err (errors.Refused fault))) (inr (inr other)) = absurd (cc)
-  not_made (outcomes.Packed (Err errors.Read)) (inl named) = absurd named
-  not_made (outcomes.Packed (Err errors.Read)) (inr (inl other)) = absurd (cc)
-  not_made (outcomes.Packed (Err errors.Read)) (inr (inr other)) = absurd (cc)
-  not_made (outcomes.Packed (Err error)) fails = none
-  not_made outcome fails = (inl fails, none)
+  not_made (outcomes.Packed (Ok done)) nothing (inl named) = absurd named
+  not_made (outcomes.Packed (Ok done)) nothing (inr (inl other)) = absurd (cc)
+  not_made (outcomes.Packed (Ok done)) nothing (inr (inr other)) = absurd (cc)
+  not_made (outcomes.Packed (Err (errors.Refused fault))) nothing (inl named) = absurd named
+  not_made (outcomes.Packed (Err (errors.Refused fault))) nothing (inr (inl other)) = absurd (cc)
+  not_made (outcomes.Packed (Err (errors.Refused fault))) nothing (inr (inr other)) = absurd (cc)
+  not_made (outcomes.Packed (Err errors.Read)) nothing (inl named) = absurd named
+  not_made (outcomes.Packed (Err errors.Read)) nothing (inr (inl other)) = absurd (cc)
+  not_made (outcomes.Packed (Err errors.Read)) nothing (inr (inr other)) = absurd (cc)
+  not_made (outcomes.Packed (Err error)) nothing fails = none
+  not_made outcome nothing fails = inl (fails, (nothing, none.1))
 
 -- the output was not made
 pub packs_none : (run : FilesRun) (output : List ℕ) (names : List (List ℕ)) → run.readings ≡ []
@@ -83,7 +87,8 @@ pub packs_none : (run : FilesRun) (output : List ℕ) (names : List (List ℕ)) 
     → PacksFile run output names outcome
 packs_none run output names nothing same outcome fails =
     not_made run output names
-    ((names, ap (λ readings. names_read readings ++ names) (sym nothing)), same) outcome fails
+    ((names, ap (λ readings. names_read readings ++ names) (sym nothing)), same) outcome nothing
+    fails
 
 -- the name of the stream at an index
 pub name_at : (streams : List (String Global)) (k : ℕ) (stream : String Global)
@@ -93,21 +98,36 @@ name_at [] k stream is = refl
 name_at (x ∷ streams) zero stream is = ap string_bytes (sym is)
 name_at (x ∷ streams) (suc k) stream is = name_at streams k stream is
 
+-- the names after the first ones
+pub names_after : (names : List (List ℕ)) (k : ℕ) (readings : List FileReading)
+    → names_read readings ≡ take k names → names ≡ names_read readings ++ drop k names
+names_after names k readings are =
+    sym (take-append-drop k names) ∙ ap (λ (l : List (List ℕ)). l ++ drop k names) (sym are)
+
+-- of the streams after the first k, which were read, that at i was not opened
 pub stops_at : (holds : List ℕ → Option (List ℕ)) (streams : List (String Global))
-    (readings : List FileReading) (k : ℕ) (stream : String Global) (name : List ℕ)
-    (outcome : Outcome) → k < length streams
-    → stream ≡ slice_index_or streams k stream → name ≡ string_bytes stream
-    → FailsToOpenStream name outcome
+    (readings : List FileReading) (k i index : ℕ) (stream : String Global) (name : List ℕ)
+    (outcome : Outcome) → index ≡ k + i → index < length streams
+    → stream ≡ slice_index_or streams index stream → name ≡ string_bytes stream
+    → names_read readings ≡ take k (map string_bytes streams) → FailsToOpenStream name outcome
     → StopsPacking holds (map string_bytes streams) readings outcome
-stops_at holds streams readings k stream name outcome low is named fails =
-    let within : k < length (map string_bytes streams) =
-    omega (arith, low, length-map streams string_bytes) in
-    stops holds (map string_bytes streams) readings outcome (
-      k,
-      string_bytes stream,
-      within,
-      name_at streams k stream is,
-      subst (λ (n : List ℕ). FailsToOpenStream n outcome) named fails,
+stops_at holds streams readings k i index stream name outcome at low is named are fails =
+    let names = map string_bytes streams in
+    let left : length (drop k names) ≡ length names - k = length-drop k names in
+    let within : i < length (drop k names) =
+    omega (arith, at, low, left, length-map streams string_bytes) in
+    let other = string_bytes stream in
+    stops holds names readings outcome (
+      (drop k names, names_after names k readings are),
+      (
+        i,
+        other,
+        within,
+        get_or-drop k names i other
+            ∙ ap (λ j. slice_index_or names j other) (sym at)
+            ∙ name_at streams index stream is,
+        subst (λ (n : List ℕ). FailsToOpenStream n outcome) named fails,
+      ),
     )
 
 -- ---- one pair more
@@ -236,10 +256,7 @@ module _ (holds : List ℕ → Option (List ℕ)) where
 
 pub of_first : (names : List (List ℕ)) (k : ℕ) (readings : List FileReading)
     → names_read readings ≡ take k names → AreOfFirst names readings
-of_first names k readings are = (
-  drop k names,
-  sym (take-append-drop k names) ∙ ap (λ (l : List (List ℕ)). l ++ drop k names) (sym are),
-)
+of_first names k readings are = (drop k names, names_after names k readings are)
 
 pub pairs_first : (holds : List ℕ → Option (List ℕ)) (names : List (List ℕ)) (k : ℕ)
     (readings : List FileReading) (pairs : List Streams)

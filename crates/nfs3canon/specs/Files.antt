@@ -13,7 +13,7 @@ use Rattle.canon3.specs.declared.comparison.verdict.Which.TheVariants.{First, Se
 use Rattle.listing3.specs.Listing.{shown}
 use Rattle.packing3.specs.Packed.{IsPacked}
 use Rattle.packing3.specs.Stopped.{BreaksOff, HasNoRoom}
-use Rattle.program3.specs.Files.{FailsToOpenStream, FilesRun, FinishesNone, ReadsFile}
+use Rattle.program3.specs.Files.{FailsToOpenStream, FilesRun, FinishesNone, ReadsFile, TouchesNone}
 use Rattle.program3.specs.Opening.{IsOfName}
 use Rattle.program3.specs.Readings.{FileReading, MayContain}
 use Rattle.program3.specs.declared.outcome.Outcome.{Outcome}
@@ -124,14 +124,19 @@ abbrev pub AreOfFirst : (names : List (List ℕ)) → List FileReading → Type 
 AreOfFirst names readings =
     (others : List (List ℕ)) × (names ≡ map (λ reading. reading.name) readings ++ others)
 
+-- the same, and one of the other names is that of a stream that was not opened
+abbrev pub FailsToOpenLater : (names : List (List ℕ)) → List FileReading → Outcome → Type 0
+FailsToOpenLater names readings outcome = (first : AreOfFirst names readings)
+    × Any (λ stream. FailsToOpenStream stream outcome) first.0
+
 -- no file was finished, and the files that were read have the first of these names
 abbrev pub PacksNone : FilesRun → (names : List (List ℕ)) → Type 0
 PacksNone run names = AreOfFirst names run.readings × FinishesNone run.finished
 
 -- What came of packing the streams of these names. All were read to their ends, and the one file
 -- that was finished has the output's name and is a capture of them. Or no file was finished: the
--- streams were refused, or a read failed, or a write, or memory ran out, or the output was not
--- made, or a stream not opened.
+-- streams were refused, or a read failed, or a write, or memory ran out, or the output was not made
+-- and nothing read, or a stream was not opened that comes after those that were read.
 abbrev pub PacksFile : FilesRun → (output : List ℕ) → (names : List (List ℕ)) → Outcome → Type 0
 PacksFile run output names (outcomes.Packed (Ok done)) = (pairs : List Streams)
     × AreReadStreams run.holds names run.readings pairs × ((file : List ℕ) × IsPacked file pairs
@@ -142,5 +147,5 @@ PacksFile run output names (outcomes.Packed (Err (errors.Refused fault))) =
 PacksFile run output names (outcomes.Packed (Err errors.Read)) =
     OneHasFailed run.readings × PacksNone run names
 PacksFile run output names (outcomes.Packed (Err error)) = PacksNone run names
-PacksFile run output names outcome = (FailsToOpenStream output outcome
-    ⊎ Any (λ stream. FailsToOpenStream stream outcome) names) × PacksNone run names
+PacksFile run output names outcome = (FailsToOpenStream output outcome × TouchesNone run)
+    ⊎ (FailsToOpenLater names run.readings outcome × FinishesNone run.finished)

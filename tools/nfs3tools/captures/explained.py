@@ -187,8 +187,8 @@ def item_line(item: PlacedItem, label: str, byte: int) -> str:
 
 
 def remark_on_item(item: PlacedItem) -> str:
-    """What is valid in an item and still not as RFC 1813 means it (section 2.5): bits of
-    a mode beyond its twelve, and a second in nanoseconds."""
+    """What is valid in an item and still not as RFC 1813 means it: bits of a mode beyond its twelve
+    (mode3), and a second in nanoseconds (nfstime3)."""
     if item.is_whole and item.name == 'mode' and int(item.value) & ~0o7777:
         return 'has bits of the type'
     if item.is_whole and item.name in NANOSECOND_ITEMS and int(item.value) >= 10**9:

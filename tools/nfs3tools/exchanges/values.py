@@ -161,8 +161,8 @@ def handle_found(procedure: str, said: str) -> str:
 
 
 class Attributes(NamedTuple):
-    """What a reply says of an object: its attributes (RFC 1813, section 2.5, fattr3), or of what it
-    was before an operation the first three (section 2.6, wcc_attr)."""
+    """What a reply says of an object: its attributes (fattr3, RFC 1813), or of what it was before
+    an operation the first three (wcc_attr)."""
     size: int
     mtime: Time
     ctime: Time

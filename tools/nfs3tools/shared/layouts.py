@@ -10,7 +10,8 @@ from typing import NamedTuple, Protocol
 
 NFS, MOUNT = 100003, 100005
 
-# The names of numbers (RFC 1813, sections 2.5, 2.6, 3.3 and 5.1; RFC 5531, sections 8 to 10).
+# The names of numbers (RFC 1813: nfsstat3, mountstat3, ftype3, stable_how, createmode3, time_how;
+# RFC 5531, sections 8 to 10).
 ERRORS = {1: 'PERM', 2: 'NOENT', 5: 'IO', 6: 'NXIO', 13: 'ACCES', 17: 'EXIST', 18: 'XDEV',
           19: 'NODEV', 20: 'NOTDIR',
           21: 'ISDIR', 22: 'INVAL', 27: 'FBIG', 28: 'NOSPC', 30: 'ROFS', 31: 'MLINK',

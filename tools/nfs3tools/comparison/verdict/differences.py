@@ -82,8 +82,8 @@ class Bindings:
 
     def renamed(self, rest: str) -> str:
         """Returns raw bytes, in hexadecimal, with each bound handle that is in them in place of the
-        first run's. A handle is spelled as its length, a word, its bytes, and padding (RFC 1813,
-        section 2.5)."""
+        first run's. A handle is spelled as its length, a word, its bytes, and padding (nfs_fh3,
+        RFC 1813)."""
         out, at = [], 0
         while at < len(rest):
             word = rest[at:at + 8]

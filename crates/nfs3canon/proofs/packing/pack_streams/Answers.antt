@@ -13,20 +13,21 @@ pub returns-in_err-client-clause-failed : goal.returns-in_err-client-clause-fail
 returns-in_err-client-clause-failed g c fresh =
     rw (error_is _ _ c.from_residual.ensures)
     (stops_at (g.F.Files.holds c.args.files.now) c.args.streams.now
-    (map reading_in c.loop-index.closed.items) (2 * c.loop-index.index)
-    c.index-streams-index.result c.as_str.result.now c.in_err-client.field-0.0
+    (map reading_in c.loop-index.closed.items) (2 * c.loop-index.index) 0 (2 * c.loop-index.index)
+    c.index-streams-index.result c.as_str.result.now c.in_err-client.field-0.0 (omega (arith))
     (omega (arith, c.loop-index-test.true)) c.index-streams-index.is c.as_str.ensures.value
-    c.in_err-client.ensures.failed)
+    (names_are_read _ _ _ _ c.loop-index.invariant.packed.1) c.in_err-client.ensures.failed)
 
 pub returns-in_err-server-clause-failed : goal.returns-in_err-server-clause-failed
 returns-in_err-server-clause-failed g c fresh =
     rw (error_is _ _ c.from_residual-in_err-server.ensures)
     (stops_at (g.F.Files.holds c.args.files.now) c.args.streams.now
-    (map reading_in c.loop-index.closed.items) (2 * c.loop-index.index + 1)
-    c.index-streams-index-in-loop-index.result c.as_str-in-loop-index.result.now
-    c.in_err-server.field-0.0 (omega (arith, c.loop-index-test.true))
-    c.index-streams-index-in-loop-index.is c.as_str-in-loop-index.ensures.value
-    c.in_err-server.ensures.failed)
+    (map reading_in c.loop-index.closed.items) (2 * c.loop-index.index) 1
+    (2 * c.loop-index.index + 1) c.index-streams-index-in-loop-index.result
+    c.as_str-in-loop-index.result.now c.in_err-server.field-0.0 (omega (arith))
+    (omega (arith, c.loop-index-test.true)) c.index-streams-index-in-loop-index.is
+    c.as_str-in-loop-index.ensures.value
+    (names_are_read _ _ _ _ c.loop-index.invariant.packed.1) c.in_err-server.ensures.failed)
 
 -- Nothing was read yet.
 pub returns-in-Err-clause-first : goal.returns-in-Err-clause-first
