@@ -2,7 +2,7 @@
 
 ghost use Rattle.std.specs.Prelude.{◌≡◌, IfOk, false};
 ghost use Rattle.clap.specs.Words.{app_of, rule_of};
-ghost use Rattle.nfs3streams.specs.Grammar.{port_rule, streams_app};
+ghost use Rattle.nfs3streams.specs.Grammar.{index_rule, port_rule, streams_app};
 
 use clap::{Arg, ArgAction, Command};
 use line3::file;
@@ -16,6 +16,9 @@ RECORDING is a file in the format pcap or pcapng, as tcpdump and Wireshark write
 it. It is read twice, so it must be a regular file. OUT gets exactly the bytes
 that both ends sent of each chosen connection that is whole; it is written beside
 its name and gets the name when it is complete.
+
+With --index OUT gets an index in place of the capture: where each frame lies, and
+the bytes of all connections, whole or not. What is printed is the same.
 
 Chosen are connections that use one of the ports of --port. Without it these are
 the ports 2049, 20048 and 111, and each other connection whose client first sends
@@ -34,7 +37,18 @@ Exit status:
 
 Examples:
   nfs3streams run.pcap run.nfs3cap && nfs3canon check run.nfs3cap
-  nfs3streams --port 20490 run.pcap run.nfs3cap";
+  nfs3streams --port 20490 run.pcap run.nfs3cap
+  nfs3streams --index run.pcap run.nfs3idx";
+
+fn index<'a>(alloc: Global) -> Arg<'a>
+    ensures rule { rule_of result ≡ index_rule }
+    ensures local { result.global ≡ false }
+{
+    Arg::new(alloc, "index")
+        .long("index")
+        .action(ArgAction::Count)
+        .help("Writes an index of the recording to OUT, in place of a capture")
+}
 
 fn port<'a>(alloc: Global) -> Arg<'a>
     ensures rule { rule_of result ≡ port_rule }
@@ -54,6 +68,7 @@ pub(crate) fn command<'a>(alloc: Global) -> Result<Command<'a>, AllocError>
     Command::new(alloc, "nfs3streams")
         .about(ABOUT)
         .after_help(ENDINGS)
+        .arg(index(alloc))?
         .arg(port(alloc))?
         .arg(file(alloc, "RECORDING", "A recording of packets"))?
         .arg(file(alloc, "OUT", "The capture to write"))

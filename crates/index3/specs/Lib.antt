@@ -1,0 +1,5 @@
+-- The index of a recording.
+pub mod Numbers
+pub mod Frames
+pub mod Indexes
+pub mod Written

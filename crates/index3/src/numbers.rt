@@ -1,0 +1,20 @@
+//! Numbers as an index spells them, the lowest octet first.
+
+ghost use Rattle.std.specs.Prelude.{◌≡◌, ◌++◌, OnOk};
+ghost use Rattle.index3.specs.Numbers.{long, short};
+
+use std::alloc::AllocError;
+
+/// Appends a number of eight octets.
+pub(crate) fn push_long(out: &mut Vec<u8>, number: u64) -> Result<(), AllocError>
+    ensures { OnOk result (out.new.items ≡ out.old.items ++ long number) }
+{
+    out.extend_from_slice(&number.to_le_bytes())
+}
+
+/// Appends a number of four octets.
+pub(crate) fn push_short(out: &mut Vec<u8>, number: u32) -> Result<(), AllocError>
+    ensures { OnOk result (out.new.items ≡ out.old.items ++ short number) }
+{
+    out.extend_from_slice(&number.to_le_bytes())
+}
