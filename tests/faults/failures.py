@@ -22,6 +22,7 @@ from typing import NamedTuple
 sys.path.insert(0, str(pathlib.Path(__file__).resolve().parents[2]))
 from examples import messages
 from examples.messages import NFS, NFSACL, call, fragment, success
+from tests.program.streams import random_recording
 from tests.shared import outputs, tracing
 from tests.shared.outputs import AS_IT_WAS, PACKED, SETTINGS, Found, Setting
 from tests.shared.running import Runs, Try, command_of, try_all, words_of
@@ -41,6 +42,8 @@ COMMANDS = ['check a', 'show a', 'canon a out', 'canon a /dev/stdout', 'same a a
 OTHER_LINES = ['check absent', 'same a absent', 'canon a ./a', 'canon a new', 'pack new a a',
                'pack out a', 'check', 'shou a', '--help', 'nfs3mask a new', 'nfs3mask a ./a',
                'nfs3mask a out times', 'nfs3mask a']
+# The commands that read a recording, which is then `a`.
+OF_RECORDINGS = ['nfs3streams a out', 'nfs3streams --index a out']
 # The commands that read one capture and write another.
 REWRITING = ('canon', 'nfs3mask')
 # Examples, and how many bytes of each the system gives at once if reads are to fail.
@@ -461,6 +464,10 @@ def tries() -> Iterator[tuple[str, Callable[..., None], *tuple[object, ...]]]:
             yield 'writes: %s of %s' % (line, name), writes, line, examples[name]
     for line in COMMANDS:
         yield 'reads: %s of version 2 byte by byte' % line, reads, line, MIXED, 1
+    for seed, line in itertools.product((12, 27, 41), OF_RECORDINGS):
+        for test in (growths, writes):
+            yield f'{test.__name__}: {line} of recording {seed}', test, line, random_recording(seed)
+        yield f'reads: {line} of recording {seed}', reads, line, random_recording(seed), 211
     for line in COMMANDS:
         yield 'interrupted reads: ' + line, interrupted, line
     for line in ('canon a out', 'canon a new', 'nfs3mask a out', 'nfs3mask a new', 'pack out a a',

@@ -34,7 +34,7 @@ BREAKPOINT = b'\xcc'
 GROWING = ('malloc', 'realloc', 'calloc', 'aligned_alloc', 'posix_memalign')
 NOWHERE = 16  # Addresses below the least that may be mapped, so many bytes apart.
 # Calls of the system by their numbers: what they do with a file that is open, and then with names.
-MOVING = {0: 'read', 1: 'write'}
+MOVING = {0: 'read', 1: 'write', 17: 'read'}
 KINDS = {**MOVING, 74: 'sync', 75: 'sync', 4: 'stat', 5: 'stat', 6: 'stat', 262: 'stat',
          332: 'stat', 2: 'open', 257: 'open',
          82: 'rename', 264: 'rename', 316: 'rename', 87: 'unlink', 263: 'unlink', 89: 'readlink',

@@ -8,7 +8,7 @@ use clap::{Arg, ArgAction, Command};
 use line3::file;
 use std::alloc::{AllocError, Global};
 
-const ABOUT: &str = "Write a capture of the connections of a recording of packets";
+const ABOUT: &str = "Write a capture of the connections of a recording of packets, or an index";
 
 /// What stands below the list of the arguments.
 const ENDINGS: &str = "\
@@ -17,8 +17,8 @@ it. It is read twice, so it must be a regular file. OUT gets exactly the bytes
 that both ends sent of each chosen connection that is whole; it is written beside
 its name and gets the name when it is complete.
 
-With --index OUT gets an index in place of the capture: where each frame lies, and
-the bytes of all connections, whole or not. What is printed is the same.
+With --index OUT gets an index in place of the capture: all frames, and where the
+bytes of all connections lie, whole or not. What is printed is the same.
 
 Chosen are connections that use one of the ports of --port. Without it these are
 the ports 2049, 20048 and 111, and each other connection whose client first sends
@@ -47,7 +47,7 @@ fn index<'a>(alloc: Global) -> Arg<'a>
     Arg::new(alloc, "index")
         .long("index")
         .action(ArgAction::Count)
-        .help("Writes an index of the recording to OUT, in place of a capture")
+        .help("Writes an index of the recording, in place of a capture")
 }
 
 fn port<'a>(alloc: Global) -> Arg<'a>
@@ -71,5 +71,5 @@ pub(crate) fn command<'a>(alloc: Global) -> Result<Command<'a>, AllocError>
         .arg(index(alloc))?
         .arg(port(alloc))?
         .arg(file(alloc, "RECORDING", "A recording of packets"))?
-        .arg(file(alloc, "OUT", "The capture to write"))
+        .arg(file(alloc, "OUT", "The file to write"))
 }
