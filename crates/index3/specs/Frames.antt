@@ -30,7 +30,7 @@ abbrev pub AreRows : List Passed → List FrameRow → Type 0
 AreRows frames rows = AllZip IsRow frames rows
 
 -- a table took exactly these frames
-pub record Keeps (table : FrameTable) (frames : List Passed) : Type 0 where
+pub record KeepsFrames (table : FrameTable) (frames : List Passed) : Type 0 where
   pub shows : ShowsFrames table.taker frames
   pub rows : AreRows frames table.rows.items
 
@@ -40,7 +40,7 @@ pub record HasHugeLast (table : FrameTable) (frames : List Passed) : Type 0 wher
   pub last : Passed
   pub split : frames ≡ front ++ last ∷ []
   pub huge : 2 ^ 32 ≤ length last.octets
-  pub keeps : Keeps table front
+  pub keeps : KeepsFrames table front
 
 -- A table did not take the last of these frames: its taker did not; or that did, and there was no
 -- memory for the row; or the frame is too long for one.

@@ -142,8 +142,8 @@ bytes_of_index i = index_head i.end (length i.frames) (length i.connections)
     ++ flat_map connection_bytes i.connections))
 
 -- what contracts see of what is to be written
-abbrev pub index_of : Indexed → Index
-index_of i = record {
+abbrev pub index_seen : Indexed → Index
+index_seen i = record {
   end = i.end;
   frames = i.frames.now;
   connections = i.connections.now;

@@ -1,7 +1,7 @@
 //! The frames of a recording, a row each.
 
 ghost use Rattle.std.specs.Prelude.{◌≤◌, ◌^◌, [], MatchOption, length};
-ghost use Rattle.index3.specs.Frames.{HasNotKept, IsRow, Keeps};
+ghost use Rattle.index3.specs.Frames.{HasNotKept, IsRow, KeepsFrames};
 
 use connections3::{NotTaken, PacketTaker};
 use recording3::{FrameHead, FrameTaker, NoSegment, read_segment};
@@ -36,7 +36,7 @@ pub struct FrameTable {
 impl FrameTable {
     /// Returns a table of no frames. It allocates nothing yet.
     pub fn new(alloc: Global) -> FrameTable
-        ensures { Keeps result [] }
+        ensures { KeepsFrames result [] }
     {
         FrameTable {
             taker: PacketTaker::new(alloc),
@@ -48,7 +48,7 @@ impl FrameTable {
 impl FrameTaker for FrameTable {
     type Error = NotTaken;
 
-    ghost took = { Keeps };
+    ghost took = { KeepsFrames };
 
     ghost failed = { HasNotKept };
 

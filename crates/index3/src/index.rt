@@ -3,7 +3,7 @@
 ghost use Rattle.std.specs.Prelude.{◌≡◌};
 ghost use Rattle.std.specs.List.{flat_map};
 ghost use Rattle.canon3.specs.WriteErrors.{CountsWriting};
-ghost use Rattle.index3.specs.Indexes.{bytes_of_index, connection_bytes, flow_rows, index_of};
+ghost use Rattle.index3.specs.Indexes.{bytes_of_index, connection_bytes, flow_rows, index_seen};
 ghost use Rattle.index3.specs.Written.{WritesBytes};
 
 use crate::frames::FrameRow;
@@ -42,7 +42,7 @@ pub fn write_index<W: Sink>(
     indexed: &Indexed<'_>,
 ) -> Result<(), Error>
     ensures writes { WritesBytes (W.written sink.old) (W.written sink.new)
-        (bytes_of_index (index_of indexed.now)) result }
+        (bytes_of_index (index_seen indexed.now)) result }
     ensures count { CountsWriting (W.failures sink.old) (W.failures sink.new) result }
 {
     let mut block = Vec::new(alloc);

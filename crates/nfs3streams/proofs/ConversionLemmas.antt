@@ -11,7 +11,7 @@ use Rattle.connections3.specs.Frames.{ShowsFrames}
 use Rattle.connections3.specs.declared.connection.Connection.{Connection}
 use Rattle.connections3.specs.declared.taker.NotTaken.{NotTaken}
 use Rattle.connections3.specs.declared.taker.PacketTaker.{PacketTaker}
-use Rattle.index3.specs.Frames.{AreRows, Keeps}
+use Rattle.index3.specs.Frames.{AreRows, KeepsFrames}
 use Rattle.index3.specs.declared.frames.FrameRow.{FrameRow}
 use Rattle.index3.specs.declared.frames.FrameTable.{FrameTable}
 use Rattle.payload3.specs.Readings.{Allow, OffsetRead, RecordedReads}
@@ -94,16 +94,16 @@ read_by_taker source none taker end read empty r same tally connections =
 
 -- what a table kept of it
 pub read_by_table : (source : Observed × Observed) (none table : FrameTable) (end : RecordingEnd)
-    (read : RecordingRead) → Keeps none []
-    → ReadsFrames 0 source (Extends (Keeps none) (Keeps table)) end → read.end ≡ end
+    (read : RecordingRead) → KeepsFrames none []
+    → ReadsFrames 0 source (Extends (KeepsFrames none) (KeepsFrames table)) end → read.end ≡ end
     → read.tally ≡ table.taker.tally → read.connections.items ≡ table.taker.connections
     → read.frames ≡ table.rows → ReadsConnections source Index read
 unfolding Extends
 read_by_table source none table end read empty r same tally connections rows =
     subst (ReadsFrames 0 source (IsReadOf Index read)) (sym same)
-    (took_still source (Extends (Keeps none) (Keeps table)) (IsReadOf Index read) end
+    (took_still source (Extends (KeepsFrames none) (KeepsFrames table)) (IsReadOf Index read) end
     (λ frames extends.
-    let kept : Keeps table frames = extends [] empty in
+    let kept : KeepsFrames table frames = extends [] empty in
     let took = kept.shows in
     (
       subst (λ (t : Tally). Tallied frames t) (sym tally) took.tallied,

@@ -57,8 +57,8 @@ streams_run reads finished =
     record { reading = option_map reading_from reads; finished = finished }
 
 module _ (run : StreamsRun) where
-  -- What was wanted was finished under the output's name. Whatever the recording may have been, this
-  -- was found in it.
+  -- What was wanted was finished under the output's name. Whatever the recording may have been,
+  -- this was found in it.
   pub record ConvertsRecording (job : StreamsJob) (outcome : Outcome) : Type 0 where
     pub found : Findings
     pub report : Report
