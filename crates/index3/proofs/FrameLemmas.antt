@@ -45,10 +45,13 @@ pub frame_too_long : (table : FrameTable) (frame : Passed) → 2 ^ 32 ≤ length
     → Extends (KeepsFrames table) (HasNotKept table TooMany) (frame ∷ [])
 unfolding Extends
 frame_too_long table frame huge = λ before h.
-    inr (inr (refl, record {
-      front = before;
-      last = frame;
-      split = refl;
-      huge = huge;
-      keeps = h;
-    }))
+    inr (inr (
+      refl,
+      record {
+        front = before;
+        last = frame;
+        split = refl;
+        huge = huge;
+        keeps = h;
+      },
+    ))

@@ -57,7 +57,7 @@ module _ {X : Type 0} (bytes_of : X → List ℕ) (xs : List X) (i : ℕ) (x : X
       let rest : drop i xs ≡ x ∷ drop (suc i) xs =
       drop-cons xs i x low ∙ ap (λ (y : X). y ∷ drop (suc i) xs) (sym is) in
       let all : flat_map bytes_of xs
-          ≡ flat_map bytes_of (take i xs) ++ (bytes_of x ++ flat_map bytes_of (drop (suc i) xs)) =
+      ≡ flat_map bytes_of (take i xs) ++ (bytes_of x ++ flat_map bytes_of (drop (suc i) xs)) =
       ap (flat_map bytes_of) (sym (take-append-drop i xs))
       ∙ flat_map-append bytes_of (take i xs) (drop i xs)
       ∙ ap (λ (l : List X). flat_map bytes_of (take i xs) ++ flat_map bytes_of l) rest in

@@ -36,11 +36,7 @@ pub struct Indexed<'a> {
 /// - `Write` if a write failed.
 ///
 /// After an error a front of the index was written.
-pub fn write_index<W: Sink>(
-    alloc: Global,
-    sink: &mut W,
-    indexed: &Indexed<'_>,
-) -> Result<(), Error>
+pub fn write_index<W: Sink>(alloc: Global, sink: &mut W, indexed: &Indexed<'_>) -> Result<(), Error>
     ensures writes { WritesBytes (W.written sink.old) (W.written sink.new)
         (bytes_of_index (index_seen indexed.now)) result }
     ensures count { CountsWriting (W.failures sink.old) (W.failures sink.new) result }
@@ -59,11 +55,7 @@ pub fn write_index<W: Sink>(
 }
 
 /// Writes rows, each by way of a block.
-fn write_rows<W: Sink, R: Row>(
-    sink: &mut W,
-    block: &mut Vec<u8>,
-    rows: &[R],
-) -> Result<(), Error>
+fn write_rows<W: Sink, R: Row>(sink: &mut W, block: &mut Vec<u8>, rows: &[R]) -> Result<(), Error>
     ensures writes { WritesBytes (W.written sink.old) (W.written sink.new)
         (flat_map R.octets rows.now) result }
     ensures count { CountsWriting (W.failures sink.old) (W.failures sink.new) result }

@@ -84,8 +84,7 @@ read_by_taker source none taker end read empty r same tally connections =
     subst (ReadsFrames 0 source (IsReadOf Capture read)) (sym same)
     (took_still source (Extends (ShowsFrames none) (ShowsFrames taker)) (IsReadOf Capture read) end
     (λ frames extends.
-    let took : ShowsFrames taker frames = extends [] empty in
-    (
+    let took : ShowsFrames taker frames = extends [] empty in (
       subst (λ (t : Tally). Tallied frames t) (sym tally) took.tallied,
       subst (λ (cs : List Connection). ShowFrames cs frames) (sym connections)
           (record { packets = took.packets; have = took.have; shows = took.shows }),
@@ -104,8 +103,7 @@ read_by_table source none table end read empty r same tally connections rows =
     (took_still source (Extends (KeepsFrames none) (KeepsFrames table)) (IsReadOf Index read) end
     (λ frames extends.
     let kept : KeepsFrames table frames = extends [] empty in
-    let took = kept.shows in
-    (
+    let took = kept.shows in (
       subst (λ (t : Tally). Tallied frames t) (sym tally) took.tallied,
       subst (λ (cs : List Connection). ShowFrames cs frames) (sym connections)
           (record { packets = took.packets; have = took.have; shows = took.shows }),
@@ -218,11 +216,11 @@ converts old new job read before after d written r decides more w = record {
       writes_found job.wanted (λ file. GavePrefix old new file × Allow after file) read
       job.ports.items before after d r.frames written r.took decides (λ file one. one.1) more w;
   is = λ file one. record {
-      has = has_frames old new file r.file r.frames read.end r.gave r.reads r.all one.0;
-      tallied = r.took.0;
-      show = r.took.1;
-      decided = decides.are file (more file one.1);
-    };
+    has = has_frames old new file r.file r.frames read.end r.gave r.reads r.all one.0;
+    tallied = r.took.0;
+    show = r.took.1;
+    decided = decides.are file (more file one.1);
+  };
 }
 
 -- ---- of the files of a job

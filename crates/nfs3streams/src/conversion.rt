@@ -8,10 +8,10 @@ ghost use Rattle.nfs3streams.specs.Conversion.{HasFrames, MayHave};
 ghost use Rattle.nfs3streams.specs.Streams.{EndsFrames, StopsBy, StopsWith, reading_from};
 ghost use Rattle.nfs3streams.specs.machinery.Converting.{ConvertsTo, CountsFailure};
 
-use crate::output::write_wanted;
 use crate::connections::read_connections;
 use crate::decided::decide;
 use crate::line::asked::StreamsJob;
+use crate::output::write_wanted;
 use capture3::Source;
 use payload3::{Reads, Recorded};
 use program3::{Closed, FromStart, Opened, Outcome, Report};

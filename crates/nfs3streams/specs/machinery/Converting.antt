@@ -59,7 +59,7 @@ abbrev pub StopsAtStart : Observed × Observed → (counts : ℕ × ℕ) → Out
 StopsAtStart source counts outcome =
     StopsWith (λ end. ReadsFrames 0 source (λ frames. Unit {0}) end) (CountsFailure counts) outcome
 
--- the limit that is told, or the error
+-- the outcome names the limit, or the error
 abbrev pub TellsFailed : Failed NotTaken → Outcome → Type 0
 TellsFailed failed outcome = ((report : Report) × (outcome ≡ outcomes.Told report)
     × PrintsLimit report)
@@ -121,7 +121,7 @@ WritesWanted outputs.Index decided readings written =
 
 -- ---- all of it
 
--- what was found in any file that is one of these is told, and what is wanted of it is written
+-- what was found in any file that is one of these is printed, and what is wanted of it is written
 pub record ConvertsTo (IsOneOf : List ℕ → Type 0) (job : StreamsJob) (report : Report)
     (written : Option (List ℕ)) : Type 0 where
   pub found : Findings
@@ -131,8 +131,8 @@ pub record ConvertsTo (IsOneOf : List ℕ → Type 0) (job : StreamsJob) (report
 
 -- ---- the file
 
--- the file was finished under the name, and the report is told; or it was not, and an error of
--- writing is
+-- The file was finished under the name, and the outcome is the report; or it was not, and the
+-- outcome is an error of writing.
 abbrev pub FinishesFile : (List ℕ × Option (List ℕ)) → List WrittenFile × List WrittenFile
     → Report → Outcome → Type 0
 FinishesFile file finished report outcome =
