@@ -1,7 +1,6 @@
 -- The rows of frames, with one more frame.
-use Rattle.std.proofs.Common.{◌≡◌, ◌≤◌, ◌^◌, List, [], ◌∷◌, ◌++◌, Global, Option, None, Some, Result, Ok, Err, Vec, IfErr, IfOk, inl, inr, length, refl, subst, sym}
+use Rattle.std.proofs.Common.{◌≡◌, ◌≤◌, ◌^◌, List, [], ◌∷◌, ◌++◌, Global, Option, None, Some, Result, Ok, Err, Vec, IfErr, MatchResult, OnOk, inl, inr, length, refl, subst, sym}
 use Rattle.std.specs.List.{AllZip}
-use Rattle.std.specs.Result.{err}
 use Rattle.std.proofs.lemmas.Slice.Zip.{all_zipped_more}
 use Rattle.connections3.specs.Frames.{HasNotTaken, ShowsFrames}
 use Rattle.connections3.specs.declared.taker.NotTaken.{NotTaken}
@@ -55,3 +54,15 @@ frame_too_long table frame huge = λ before h.
         keeps = h;
       },
     ))
+
+-- what keeping its row came to, once the taker took it
+pub frame_row : (old new : FrameTable) (frame : Passed) (row : FrameRow)
+    (r : Result (Unit {0}) NotTaken)
+    → Extends (ShowsFrames old.taker) (ShowsFrames new.taker) (frame ∷ []) → IsRow frame row
+    → OnOk r (new.rows.items ≡ old.rows.items ++ row ∷ []) → IfErr r (λ error. error ≡ Memory)
+    → MatchResult r (λ _. Extends (KeepsFrames old) (KeepsFrames new) (frame ∷ []))
+    (λ error. Extends (KeepsFrames old) (HasNotKept new error) (frame ∷ []))
+frame_row old new frame row (Ok done) extends is ok err = frame_kept old new frame row extends is ok
+frame_row old new frame row (Err error) extends is ok err =
+    subst (λ (e : NotTaken). Extends (KeepsFrames old) (HasNotKept new e) (frame ∷ [])) (sym err)
+    (frame_without_row old new frame extends)

@@ -20,6 +20,8 @@ use Rattle.recording3.specs.declared.parts.NoSegment.TheVariants as reasons
 use Rattle.streams3.specs.declared.runs.Pair.{Pair}
 use Rattle.streams3.specs.declared.runs.Run.{Run}
 use Rattle.streams3.specs.declared.segments.Mark.{Mark}
+use Rattle.streams3.specs.declared.segments.Marks.{Marks}
+use Rattle.streams3.specs.Order.{Ordered}
 use Rattle.index3.specs.Numbers.{long, short}
 use Rattle.index3.specs.declared.frames.FrameRow.{FrameRow}
 use Rattle.index3.specs.declared.index.Indexed.{Indexed}
@@ -75,16 +77,18 @@ abbrev pub mark_bytes : Option Mark → List ℕ
 mark_bytes None = long 0 ++ long 0
 mark_bytes (Some mark) = long mark.position ++ long mark.frame
 
--- Fourteen numbers: whether the end sent something; the number of the byte at position 2^30; where
--- the stream begins and ends, up to where it was acknowledged, and where it was reset; how many
--- strays there are, and the frame of the first; and how many pairs and runs follow.
+-- where the stream begins and ends, up to where it was acknowledged, and where it was reset; how
+-- many strays there are, and the frame of the first
+abbrev pub marks_bytes : Marks → List ℕ
+marks_bytes m = concat (mark_bytes m.begin ∷ mark_bytes m.end ∷ mark_bytes m.acknowledged
+    ∷ mark_bytes m.reset ∷ long m.strays ∷ long (unwrap_or m.stray 0) ∷ [])
+
+-- Fourteen numbers: whether the end sent something; the number of the byte at position 2^30; the
+-- marks; and how many pairs and runs follow.
 abbrev pub flow_head : Option OrderedFlow → List ℕ
 flow_head None = replicate 112 0
-flow_head (Some f) = concat (long 1 ∷ long f.numbers.first ∷ mark_bytes f.stream.marks.begin
-    ∷ mark_bytes f.stream.marks.end ∷ mark_bytes f.stream.marks.acknowledged
-    ∷ mark_bytes f.stream.marks.reset ∷ long f.stream.marks.strays
-    ∷ long (unwrap_or f.stream.marks.stray 0) ∷ long (length f.stream.pairs)
-    ∷ long (length f.stream.runs) ∷ [])
+flow_head (Some f) = concat (long 1 ∷ long f.numbers.first ∷ marks_bytes f.stream.marks
+    ∷ long (length f.stream.pairs) ∷ long (length f.stream.runs) ∷ [])
 
 -- bytes of the stream: their position, and where they lie
 abbrev pub run_bytes : Run → List ℕ
@@ -96,9 +100,12 @@ abbrev pub pair_bytes : Pair → List ℕ
 pair_bytes pair = concat (long pair.again.position ∷ long pair.first.at ∷ long pair.again.at
     ∷ short pair.again.size ∷ short pair.again.frame ∷ [])
 
+unfoldable pub stream_rows : Ordered → List ℕ
+stream_rows stream = flat_map run_bytes stream.runs ++ flat_map pair_bytes stream.pairs
+
 abbrev pub flow_rows : Option OrderedFlow → List ℕ
 flow_rows None = []
-flow_rows (Some f) = flat_map run_bytes f.stream.runs ++ flat_map pair_bytes f.stream.pairs
+flow_rows (Some f) = stream_rows f.stream
 
 -- ---- connections
 
@@ -106,7 +113,7 @@ abbrev pub connection_head : OrderedConnection → List ℕ
 connection_head c = concat (end_bytes c.ends.lower ∷ end_bytes c.ends.higher
     ∷ long (client_code c.client) ∷ flow_head c.lower ∷ flow_head c.higher ∷ [])
 
-abbrev pub connection_bytes : OrderedConnection → List ℕ
+unfoldable pub connection_bytes : OrderedConnection → List ℕ
 connection_bytes c = connection_head c ++ (flow_rows c.lower ++ flow_rows c.higher)
 
 -- ---- all of it

@@ -2,4 +2,3 @@
 pub mod Numbers
 pub mod Frames
 pub mod Indexes
-pub mod Written

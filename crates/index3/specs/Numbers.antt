@@ -3,9 +3,9 @@ use Rattle.std.specs.Prelude.{ℕ, List}
 use Rattle.std.specs.Int.{bytes_low_first}
 
 -- in eight octets
-abbrev pub long : ℕ → List ℕ
+unfoldable pub long : ℕ → List ℕ
 long number = bytes_low_first 0 8 number
 
 -- in four octets
-abbrev pub short : ℕ → List ℕ
+unfoldable pub short : ℕ → List ℕ
 short number = bytes_low_first 0 4 number

@@ -1,7 +1,7 @@
 //! The frames of a recording, a row each.
 
-ghost use Rattle.std.specs.Prelude.{◌≤◌, ◌^◌, [], MatchOption, length};
-ghost use Rattle.index3.specs.Frames.{HasNotKept, IsRow, KeepsFrames};
+ghost use Rattle.std.specs.Prelude.{◌≡◌, ◌≤◌, ◌^◌, ◌∷◌, ◌++◌, [], IfErr, MatchOption, OnOk, length};
+ghost use Rattle.index3.specs.Frames.{HasNotKept, IsRow, KeepsFrames, Lacks};
 
 use connections3::{NotTaken, PacketTaker};
 use recording3::{FrameHead, FrameTaker, NoSegment, read_segment};
@@ -53,16 +53,25 @@ impl FrameTaker for FrameTable {
     ghost failed = { HasNotKept };
 
     fn take(&mut self, head: &FrameHead, octets: &[u8]) -> Result<(), NotTaken> {
-        let Some(row) = row_of(head, octets) else {
-            return Err(NotTaken::TooMany);
+        let row = match row_of(head, octets) {
+            Some(row) => row,
+            None => return Err(NotTaken::TooMany),
         };
-        if let Err(error) = self.taker.take(head, octets) {
-            return Err(error);
+        match self.taker.take(head, octets) {
+            Ok(()) => keep(&mut self.rows, row),
+            Err(error) => Err(error),
         }
-        match self.rows.push(row) {
-            Ok(()) => Ok(()),
-            Err(_) => Err(NotTaken::Memory),
-        }
+    }
+}
+
+/// Keeps a row behind the others.
+fn keep(rows: &mut Vec<FrameRow>, row: FrameRow) -> Result<(), NotTaken>
+    ensures ok { OnOk result (rows.new.items ≡ rows.old.items ++ row ∷ []) }
+    ensures err { IfErr result (λ error. error ≡ NotTaken.Memory) }
+{
+    match rows.push(row) {
+        Ok(()) => Ok(()),
+        Err(_) => Err(NotTaken::Memory),
     }
 }
 
@@ -78,6 +87,16 @@ fn row_of(head: &FrameHead, octets: &[u8]) -> Option<FrameRow>
         size,
         wire: head.wire,
         link: head.link,
-        lacks: read_segment(head.link, octets, head.wire).err(),
+        lacks: lack_of(head, octets),
     })
+}
+
+/// Returns why there is no segment in a frame, if there is none.
+fn lack_of(head: &FrameHead, octets: &[u8]) -> Option<NoSegment>
+    ensures { Lacks (record { head = head.now; octets = octets.now }) result }
+{
+    match read_segment(head.link, octets, head.wire) {
+        Ok(_) => None,
+        Err(why) => Some(why),
+    }
 }

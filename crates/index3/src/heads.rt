@@ -1,14 +1,14 @@
 //! Heads of an index: its own, and those of connections.
 
 ghost use Rattle.std.specs.Prelude.{◌≡◌, ◌++◌, Some, OnOk};
-ghost use Rattle.index3.specs.Indexes.{address_bytes, client_code, connection_head, end_bytes, ending_code, flow_head, index_head, mark_bytes};
+ghost use Rattle.index3.specs.Indexes.{address_bytes, client_code, connection_head, end_bytes, ending_code, flow_head, index_head, mark_bytes, marks_bytes};
 
 use crate::numbers::{push_long, push_short};
 use connections3::OneEnd;
 use conversion3::{OrderedConnection, OrderedFlow};
 use recording3::{Address, End, Ending, RecordingEnd};
 use std::alloc::AllocError;
-use streams3::Mark;
+use streams3::{Mark, Marks};
 
 const MAGIC: [u8; 8] = *b"NFS3IDX1";
 
@@ -113,17 +113,23 @@ fn push_flow_head(out: &mut Vec<u8>, flow: &Option<OrderedFlow>) -> Result<(), A
 fn push_sent_head(out: &mut Vec<u8>, flow: &OrderedFlow) -> Result<(), AllocError>
     ensures { OnOk result (out.new.items ≡ out.old.items ++ flow_head (Some flow.now)) }
 {
-    let marks = flow.stream.marks();
     push_long(out, 1)?;
     push_long(out, flow.numbers.first as u64)?;
+    push_marks(out, flow.stream.marks())?;
+    push_long(out, flow.stream.pairs().len() as u64)?;
+    push_long(out, flow.stream.runs().len() as u64)
+}
+
+/// Appends the marks of a stream.
+fn push_marks(out: &mut Vec<u8>, marks: Marks) -> Result<(), AllocError>
+    ensures { OnOk result (out.new.items ≡ out.old.items ++ marks_bytes marks) }
+{
     push_mark(out, marks.begin)?;
     push_mark(out, marks.end)?;
     push_mark(out, marks.acknowledged)?;
     push_mark(out, marks.reset)?;
     push_long(out, marks.strays)?;
-    push_long(out, marks.stray.unwrap_or(0) as u64)?;
-    push_long(out, flow.stream.pairs().len() as u64)?;
-    push_long(out, flow.stream.runs().len() as u64)
+    push_long(out, marks.stray.unwrap_or(0) as u64)
 }
 
 /// Appends a mark.

@@ -6,6 +6,7 @@ ghost use Rattle.index3.specs.Numbers.{long, short};
 use std::alloc::AllocError;
 
 /// Appends a number of eight octets.
+#[tactic(auto, unfolding(crate::specs::Numbers::long))]
 pub(crate) fn push_long(out: &mut Vec<u8>, number: u64) -> Result<(), AllocError>
     ensures { OnOk result (out.new.items ≡ out.old.items ++ long number) }
 {
@@ -13,6 +14,7 @@ pub(crate) fn push_long(out: &mut Vec<u8>, number: u64) -> Result<(), AllocError
 }
 
 /// Appends a number of four octets.
+#[tactic(auto, unfolding(crate::specs::Numbers::short))]
 pub(crate) fn push_short(out: &mut Vec<u8>, number: u32) -> Result<(), AllocError>
     ensures { OnOk result (out.new.items ≡ out.old.items ++ short number) }
 {
