@@ -1,7 +1,7 @@
 //! The grammar of a command line, which clap reads, and the help.
 
 ghost use Rattle.std.specs.Prelude.{◌≡◌, IfOk, false};
-ghost use Rattle.clap.specs.Words.{app_of, rule_of};
+ghost use Rattle.clap.specs.Words.{app_of, rule_of, with_rule};
 ghost use Rattle.nfs3streams.specs.Grammar.{index_rule, port_rule, streams_app};
 
 use clap::{Arg, ArgAction, Command};
@@ -61,15 +61,22 @@ fn port<'a>(alloc: Global) -> Arg<'a>
         .help("Chooses the connections that use one of these ports")
 }
 
+/// Adds the options.
+fn with_options<'a>(alloc: Global, command: Command<'a>) -> Result<Command<'a>, AllocError>
+    ensures { IfOk result (λ c. app_of c
+        ≡ with_rule (with_rule (app_of command.entry) index_rule) port_rule) }
+{
+    command.arg(index(alloc))?.arg(port(alloc))
+}
+
 /// Returns the program.
 pub(crate) fn command<'a>(alloc: Global) -> Result<Command<'a>, AllocError>
     ensures { IfOk result (λ c. app_of c ≡ streams_app) }
 {
-    Command::new(alloc, "nfs3streams")
+    let program = Command::new(alloc, "nfs3streams")
         .about(ABOUT)
-        .after_help(ENDINGS)
-        .arg(index(alloc))?
-        .arg(port(alloc))?
+        .after_help(ENDINGS);
+    with_options(alloc, program)?
         .arg(file(alloc, "RECORDING", "A recording of packets"))?
         .arg(file(alloc, "OUT", "The file to write"))
 }

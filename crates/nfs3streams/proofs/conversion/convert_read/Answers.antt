@@ -1,3 +1,5 @@
+use Rattle.std.proofs.Common.{ℕ, List, subst}
+use Rattle.nfs3streams.specs.machinery.Converting.{DecidesOn}
 use Rattle.nfs3streams.proofs.ConversionLemmas.{converts, stops_read}
 use Rattle.nfs3streams.proofs.conversion.convert_read.Goals as goal
 
@@ -17,5 +19,8 @@ returns-in-Ok-write_wanted-clause-converts g c = λ empty.
     converts (observed c.args.source.now) (observed c.read_connections.new.source) c.args.job.now
     c.in-Ok.read c.decide.new.recorded.readings c.write_wanted.new.recorded.readings
     c.in-Ok-decide.decided (g.W.Write.contents c.in-Ok-write_wanted.output) c.in-Ok.ensures.ok
-    c.in-Ok-decide.ensures.decides c.in-Ok-write_wanted.ensures.more
+    (subst
+    (λ (l : List ℕ). DecidesOn c.in-Ok.read l c.decide.new.recorded.readings
+    c.in-Ok-decide.decided) c.deref.ensures.value c.in-Ok-decide.ensures.decides)
+    c.in-Ok-write_wanted.ensures.more
     (c.in-Ok-write_wanted.ensures.written empty)
