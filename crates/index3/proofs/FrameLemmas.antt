@@ -1,11 +1,9 @@
 -- The rows of frames, with one more frame.
-use Rattle.std.proofs.Common.{◌≡◌, ◌≤◌, ◌^◌, List, [], ◌∷◌, ◌++◌, Global, Option, None, Some, Result, Ok, Err, Vec, IfErr, MatchResult, OnOk, inl, inr, length, refl, subst, sym}
-use Rattle.std.specs.List.{AllZip}
+use Rattle.std.proofs.Common.{◌≡◌, ◌≤◌, ◌^◌, [], ◌∷◌, ◌++◌, Result, Ok, Err, IfErr, MatchResult, OnOk, inl, inr, length, refl, subst, sym}
 use Rattle.std.proofs.lemmas.Slice.Zip.{all_zipped_more}
 use Rattle.connections3.specs.Frames.{HasNotTaken, ShowsFrames}
 use Rattle.connections3.specs.declared.taker.NotTaken.{NotTaken}
 use Rattle.connections3.specs.declared.taker.NotTaken.TheVariants.{Memory, TooMany}
-use Rattle.connections3.specs.declared.taker.PacketTaker.{PacketTaker}
 use Rattle.recording3.specs.Frames.{Extends}
 use Rattle.recording3.specs.Places.{Passed}
 use Rattle.index3.specs.Frames.{AreRows, HasNotKept, IsRow, KeepsFrames}

@@ -2,7 +2,6 @@
 -- Each number has its lowest octet first, and each of these parts a multiple of eight octets.
 use Rattle.std.specs.Prelude.{ℕ, List, [], ◌∷◌, ◌++◌, length, replicate, Option, None, Some, codes, unwrap_or}
 use Rattle.std.specs.List.{concat, flat_map}
-use Rattle.connections3.specs.declared.ends.EndPair.{EndPair}
 use Rattle.connections3.specs.declared.ends.OneEnd.{OneEnd}
 use Rattle.connections3.specs.declared.ends.OneEnd.TheVariants.{Lower, Higher}
 use Rattle.conversion3.specs.declared.decisions.Decision.{Decision}

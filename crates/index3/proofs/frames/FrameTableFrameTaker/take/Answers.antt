@@ -1,4 +1,3 @@
-use Rattle.recording3.specs.Places.{Passed}
 use Rattle.index3.proofs.FrameLemmas.{frame_not_kept, frame_row, frame_too_long}
 use Rattle.index3.specs.declared.frames.FrameTable.{FrameTable}
 use Rattle.index3.proofs.frames.FrameTableFrameTaker.take.Goals as goal
