@@ -7,6 +7,6 @@ _nfs3streams() {
     return
   fi
   compopt -o filenames
-  mapfile -t COMPREPLY < <(compgen -f -W '--port --help --version' -- "$word")
+  mapfile -t COMPREPLY < <(compgen -f -W '--index --port --help --version' -- "$word")
 }
 complete -F _nfs3streams nfs3streams

@@ -22,7 +22,7 @@ from typing import NamedTuple
 sys.path.insert(0, str(pathlib.Path(__file__).resolve().parents[2]))
 from examples import messages
 from examples.messages import NFS, NFSACL, call, fragment, success
-from tests.program.streams import OPENED, WHOLE, answered, ported, recording, sent
+from tests.program.streams import random_recording
 from tests.shared import outputs, tracing
 from tests.shared.outputs import AS_IT_WAS, PACKED, SETTINGS, Found, Setting
 from tests.shared.running import Runs, Try, command_of, try_all, words_of
@@ -42,6 +42,8 @@ COMMANDS = ['check a', 'show a', 'canon a out', 'canon a /dev/stdout', 'same a a
 OTHER_LINES = ['check absent', 'same a absent', 'canon a ./a', 'canon a new', 'pack new a a',
                'pack out a', 'check', 'shou a', '--help', 'nfs3mask a new', 'nfs3mask a ./a',
                'nfs3mask a out times', 'nfs3mask a']
+# The commands that read a recording, which is then `a`.
+OF_RECORDINGS = ['nfs3streams a out', 'nfs3streams --index a out']
 # The commands that read one capture and write another.
 REWRITING = ('canon', 'nfs3mask')
 # Examples, and how many bytes of each the system gives at once if reads are to fail.
@@ -56,12 +58,6 @@ LOOKING = (errno.ENOMEM, errno.EIO, errno.EACCES)
 FAILING = {'stat': (*LOOKING, errno.ENOENT), 'open': LOOKING, 'readlink': LOOKING,
            'rename': (errno.EIO,), 'unlink': (errno.EIO,), 'mode': (errno.EPERM,),
            'sync': (errno.EIO,), 'random': (errno.EAGAIN,)}
-# A recording whose connections are whole, also with bytes that came twice, of no chosen port, and
-# not whole; and how many bytes of it the system gives at once.
-RECORDED = recording(
-    *WHOLE, sent(105, b'more', acknowledged=506), answered(501, b'reply'), *ported(80, WHOLE),
-    *OPENED, sent(105, b'beyond a gap'))
-OF_RECORDINGS, GIVEN_OF_RECORDING = ('nfs3streams a out', 'nfs3streams a new'), 7
 MIXED = messages.interleaved(messages.in_turn([call(1, NFS, 3, 0)], [success(1)]))
 
 
@@ -468,15 +464,15 @@ def tries() -> Iterator[tuple[str, Callable[..., None], *tuple[object, ...]]]:
             yield 'writes: %s of %s' % (line, name), writes, line, examples[name]
     for line in COMMANDS:
         yield 'reads: %s of version 2 byte by byte' % line, reads, line, MIXED, 1
-    for line in OF_RECORDINGS:
-        yield f'growths: {line}', growths, line, RECORDED
-        yield f'reads: {line}', reads, line, RECORDED, GIVEN_OF_RECORDING
-        yield f'writes: {line}', writes, line, RECORDED
+    for seed, line in itertools.product((12, 27, 41), OF_RECORDINGS):
+        for test in (growths, writes):
+            yield f'{test.__name__}: {line} of recording {seed}', test, line, random_recording(seed)
+        yield f'reads: {line} of recording {seed}', reads, line, random_recording(seed), 211
     for line in COMMANDS:
         yield ('interrupted reads: ' + line, interrupted, line, examples['two_connections'],
                GIVEN_AT_ONCE['two_connections'])
-    yield ('interrupted reads: ' + OF_RECORDINGS[0], interrupted, OF_RECORDINGS[0], RECORDED,
-           GIVEN_OF_RECORDING)
+    for line in OF_RECORDINGS:
+        yield 'interrupted reads: ' + line, interrupted, line, random_recording(12), 211
     for line in ('canon a out', 'canon a new', 'nfs3mask a out', 'nfs3mask a new', 'pack out a a',
                  'pack new a a'):
         yield 'syncs: ' + line, syncs, line

@@ -50,8 +50,8 @@ def wants_model(folder: Folder, name: str, content: bytes) -> None:
     folder.write('in', content)
     status, out, error = folder.run('nfs3streams', 'in', 'out')
     folder.want(name, (status, out or error, folder.read('out')),
-                (wanted.status, wanted.text, wanted.out))
-    if wanted.out is not None:
+                (wanted.status, wanted.text, wanted.capture))
+    if wanted.capture is not None:
         os.remove(folder.path('out'))
 
 

@@ -1,7 +1,7 @@
 #!/usr/bin/env python3
-"""Tests nfs3streams: on the recordings of examples/ against the reader of `tools/from_pcap`, on
-small recordings with one fault each, whose captures and lines are known, and on random ones against
-a model.
+"""Tests nfs3streams: on the recordings of examples/ against the reader of `tools/from_pcap` and
+against a model, on small recordings with one fault each, whose captures and lines are known, and on
+random ones against the model.
 
     python3 tests/program/streams.py [PROGRAM] [--only TEXT] [-v]
 
@@ -230,6 +230,11 @@ def lines_that_are_refused(folder: Folder) -> None:
         folder.want(' '.join(words), (status, out, 'nfs3streams' in error), (4, '', True))
     folder.want('no OUT', folder.read('out'), None)
     folder.want('after --', folder.run('nfs3streams', '--', 'in', 'out')[0], 0)
+    for words in (['--index=1', 'in', 'idx'], ['--index', 'in']):
+        folder.want(' '.join(words), folder.run('nfs3streams', *words)[0], 4)
+    for words in (['--index', 'in', 'idx'], ['in', 'idx', '--index', '--index']):
+        folder.want(' '.join(words), folder.run('nfs3streams', *words)[0], 0)
+        folder.want(f'index: {" ".join(words)}', (folder.read('idx') or b'')[:8], b'NFS3IDX1')
 
 
 def recordings() -> Iterator[pathlib.Path]:
@@ -329,16 +334,28 @@ def random_recording(seed: int) -> bytes:
 
 
 def random_recordings(folder: Folder) -> None:
-    """Status, text and OUT are those of the model."""
+    """Of random recordings capture and index are those of the model."""
     for seed in range(1_500):
-        content, ports = random_recording(seed), () if seed % 5 else (80,)
-        folder.write('in', content)
-        wanted = answer(content, ports)
-        words = ['--port', '80'] if ports else []
-        status, out, error = folder.run('nfs3streams', *words, 'in', 'out')
-        folder.want(f'seed {seed}', (status, without_changes(out or error), folder.read('out')),
-                    (wanted.status, without_changes(wanted.text), wanted.out))
-        if wanted.out is not None:
+        as_the_model(folder, f'seed {seed}', random_recording(seed), () if seed % 5 else (80,))
+
+
+def recordings_of_the_model(folder: Folder) -> None:
+    """Of recorded ones, too."""
+    for path in recordings():
+        as_the_model(folder, path.name, path.read_bytes(), ())
+
+
+def as_the_model(folder: Folder, name: str, content: bytes, ports: tuple[int, ...]) -> None:
+    """Status, text and OUT are those of the model, as a capture and as an index."""
+    folder.write('in', content)
+    wanted = answer(content, ports)
+    words = [word for port in ports for word in ('--port', str(port))]
+    for flags, out in ([], wanted.capture), (['--index'], wanted.index):
+        status, text, error = folder.run('nfs3streams', *flags, *words, 'in', 'out')
+        folder.want(' '.join([name, *flags]),
+                    (status, without_changes(text or error), folder.read('out')),
+                    (wanted.status, without_changes(wanted.text), out))
+        if out is not None:
             os.remove(folder.path('out'))
 
 
@@ -351,7 +368,7 @@ def without_changes(text: str) -> str:
 TESTS: tuple[Callable[[Folder], None], ...] = (
     whole_connections, numbers_that_wrap, flaws, several_connections, chosen_connections,
     damaged_recordings, files_that_are_refused, lines_that_are_refused, as_from_pcap,
-    random_recordings)
+    recordings_of_the_model, random_recordings)
 
 if __name__ == '__main__':
     try_tests(__doc__, Folder, TESTS)

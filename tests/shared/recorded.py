@@ -1,5 +1,5 @@
 """A model of nfs3streams, by its rules and nothing else: frames, segments, connections and streams
-of a recording, what is said of each connection, and the capture.
+of a recording, what is said of each connection, the capture, and the index.
 
 It shares no code with the tools, and keeps all octets of a recording in memory.
 """
@@ -541,17 +541,68 @@ def capture_of(content: bytes, connections: list[Connection], decisions: list[st
     return out + bytes(4)
 
 
+class Read(NamedTuple):
+    """What is read of a recording: how much, why no more, the frames, and why some have no
+    segment, by their numbers."""
+    end: int
+    why: str
+    frames: list[Frame]
+    lacking: dict[int, str]
+
+
+def index_of(read: Read, connections: list[Connection], decisions: list[str | Flaw]) -> bytes:
+    """The index: its head, the frames, the decisions, and the connections."""
+    reasons, words = ('', *NO_SEGMENT), ('NotChosen', 'Empty', 'Whole')
+    out = b'NFS3IDX1' + struct.pack('<4Q', len(read.frames), len(connections), read.end,
+                                    ENDINGS.index(read.why))
+    for frame in read.frames:
+        lack = reasons.index(read.lacking.get(frame.number, ''))
+        out += struct.pack('<2Q4I', frame.time, frame.at, len(frame.octets), frame.wire, frame.link,
+                           lack)
+    for decision in decisions:
+        out += struct.pack('<Q', 3 if isinstance(decision, Flaw) else words.index(decision))
+    return out + b''.join(map(connection_bytes, connections))
+
+
+def connection_bytes(connection: Connection) -> bytes:
+    """Both ends, which is the client, the heads of both streams, and their runs and pairs."""
+    out = b''.join(struct.pack('<16s2I', address, version, port)
+                   for version, address, port in connection.ends)
+    out += struct.pack('<Q', 0 if connection.client is None else connection.client + 1)
+    return out + b''.join(map(stream_head, connection.streams)) + b''.join(
+        run_bytes(stream) for stream in connection.streams if stream)
+
+
+def stream_head(stream: Stream | None) -> bytes:
+    if stream is None:
+        return bytes(14 * 8)
+    marks = [number for mark in (stream.begin, stream.end, stream.acknowledged, stream.reset)
+             for number in mark or (0, 0)]
+    return struct.pack('<14Q', 1, stream.first, *marks, stream.strays, stream.stray,
+                       len(stream.pairs), len(stream.runs))
+
+
+def run_bytes(stream: Stream) -> bytes:
+    """Its runs, and bytes that came again behind where those lie that count."""
+    runs = [struct.pack('<2Q2I', *run) for run in stream.runs]
+    pairs = [struct.pack('<3Q2I', again.position, first.at, again.at, again.size, again.frame)
+             for first, again in stream.pairs]
+    return b''.join(runs + pairs)
+
+
 class Answer(NamedTuple):
-    """What nfs3streams answers: its status, what it prints, and OUT if it is written."""
+    """What nfs3streams answers: its status, what it prints, and OUT if it is written, as a capture
+    and as an index."""
     status: int
     text: str
-    out: bytes | None
+    capture: bytes | None
+    index: bytes | None
 
 
 def answer(content: bytes, ports: Sequence[int] = ()) -> Answer:
     frames, end, why = read_frames(content)
     if not end:
-        return Answer(2, f'file 0: {why} after frame 0\n', None)
+        return Answer(2, f'file 0: {why} after frame 0\n', None, None)
     connections, lacking = connections_of(frames)
     for connection in connections:
         for stream in filter(None, connection.streams):
@@ -568,7 +619,8 @@ def answer(content: bytes, ports: Sequence[int] = ()) -> Answer:
               for number, (connection, decision) in enumerate(zip(connections, decisions), 1)
               if isinstance(decision, Flaw)]
     return Answer(2 if len(lines) > 1 else 0, '\n'.join(lines) + '\n',
-                  capture_of(content, connections, decisions))
+                  capture_of(content, connections, decisions),
+                  index_of(Read(end, why, frames, lacking), connections, decisions))
 
 
 def flaw_text(connection: Connection, flaw: Flaw) -> str:

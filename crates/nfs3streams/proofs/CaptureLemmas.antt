@@ -1,6 +1,7 @@
--- What is written of a capture.
-use Rattle.std.proofs.Common.{◌≡◌, ◌≢◌, ◌∙◌, ℕ, List, [], Option, None, Some, Result, Ok, Err, OnOk, inl, inr, refl, ap, subst}
-use Rattle.std.specs.Io.KnownBytes.{Keeps}
+-- What is written of a capture, or of an index.
+use Rattle.std.proofs.Common.{◌≡◌, ◌≢◌, ◌∙◌, ℕ, List, [], Option, None, Some, Result, Ok, Err, IfErr, OnOk, inl, inr, refl, ap, subst}
+use Rattle.std.specs.Io.KnownBytes.{Appends, Keeps}
+use Rattle.canon3.specs.WriteErrors.{IsOfWriting}
 use Rattle.capture3.specs.Entries.{CountsReading}
 use Rattle.capture3.specs.SidedChunks.{Streams}
 use Rattle.capture3.specs.declared.fault.Error.{Error}
@@ -8,12 +9,15 @@ use Rattle.capture3.specs.declared.fault.Error.TheVariants as errors
 use Rattle.conversion3.specs.Packing.{AreSentIn}
 use Rattle.conversion3.specs.declared.decisions.Decision.{Decision}
 use Rattle.conversion3.specs.declared.ordered_connections.OrderedConnection.{OrderedConnection}
+use Rattle.index3.specs.Indexes.{bytes_of_index}
 use Rattle.packing3.specs.Packing.{Finishes, HasWrittenCapture}
 use Rattle.payload3.specs.Readings.{OffsetRead}
 use Rattle.program3.specs.Files.{WritesOut}
 use Rattle.nfs3streams.specs.Conversion.{IsCaptureOf}
-use Rattle.nfs3streams.specs.machinery.Converting.{CountsFailure, WritesWhole}
+use Rattle.nfs3streams.specs.machinery.Converting.{CountsFailure, WritesInto, WritesWanted, WritesWhole, index_in}
 use Rattle.nfs3streams.specs.declared.decided.Decided.{Decided}
+use Rattle.nfs3streams.specs.declared.line.asked.Wanted.{Wanted}
+use Rattle.nfs3streams.specs.declared.line.asked.Wanted.TheVariants.{Capture, Index}
 
 -- a write that failed is no success
 pub out_ok : (came now : Result (Unit {0}) Error) (gathered written : Option (List ℕ))
@@ -110,3 +114,32 @@ capture_of (Some xs) (Some ys) (Some zs) pairs none has keeps = record {
 capture_of (Some xs) (Some ys) None pairs none has keeps = absurd keeps
 capture_of (Some xs) None out pairs none has keeps = absurd has.appended
 capture_of None new out pairs none has keeps = absurd (cc)
+
+-- ---- what is wanted
+
+appended_all : (old new out : Option (List ℕ)) (bytes : List ℕ) → old ≡ Some []
+    → Appends old new bytes → Keeps new out → out ≡ Some bytes
+appended_all (Some xs) (Some ys) (Some zs) bytes none appended keeps =
+    let e : xs ≡ [] = cc in ap Some (keeps ∙ rw e at appended)
+appended_all (Some xs) (Some ys) None bytes none appended keeps = absurd keeps
+appended_all (Some xs) None out bytes none appended keeps = absurd appended
+appended_all None new out bytes none appended keeps = absurd (cc)
+
+-- all that an empty writer has is what is wanted
+pub all_wanted : (wanted : Wanted) (d : Decided) (readings : List OffsetRead)
+    (old new out : Option (List ℕ)) → old ≡ Some [] → WritesInto wanted d readings old new
+    → Keeps new out → WritesWanted wanted d readings out
+all_wanted Capture d readings old new out none w keeps =
+    (w.pairs, capture_of old new out w.pairs none w.written keeps, w.sent)
+all_wanted Index d readings old new out none w keeps =
+    appended_all old new out (bytes_of_index (index_in d)) none w keeps
+
+-- writing fails, and reads nothing
+pub reads_nothing : (failures : ℕ) (r : Result (Unit {0}) Error) → IfErr r IsOfWriting
+    → CountsReading failures failures r
+reads_nothing failures (Ok done) of = refl
+reads_nothing failures (Err errors.Read) (inl is) = absurd (cc)
+reads_nothing failures (Err errors.Read) (inr is) = absurd (cc)
+reads_nothing failures (Err errors.Write) of = refl
+reads_nothing failures (Err errors.Memory) of = refl
+reads_nothing failures (Err (errors.Refused fault)) of = refl

@@ -1,18 +1,19 @@
 -- What a conversion shows of a recording.
-use Rattle.std.proofs.Common.{◌≡◌, ◌⊎◌, ◌∙◌, ◌++◌, ℕ, List, [], Option, None, Some, Result, Ok, Err, IfErr, IfOk, MatchResult, inl, inr, refl, sym, ap, subst}
+use Rattle.std.proofs.Common.{Global, Vec, ◌≡◌, ◌⊎◌, ◌∙◌, ◌++◌, ℕ, List, [], Option, None, Some, Result, Ok, Err, IfErr, IfOk, MatchResult, inl, inr, refl, sym, ap, subst}
 use Rattle.std.specs.declared.alloc.AllocError.{AllocError}
 use Rattle.std.specs.Io.KnownBytes.{Appends}
 use Rattle.std.proofs.lemmas.List.{append_cancel_left}
 use Rattle.capture3.specs.Device.{TracedReader}
 use Rattle.capture3.specs.Observed.{Gave, GavePrefix, IsSpent, Observed}
-use Rattle.capture3.specs.SidedChunks.{Streams}
 use Rattle.capture3.specs.declared.fault.Error.{Error}
 use Rattle.capture3.specs.declared.fault.Error.TheVariants as errors
 use Rattle.connections3.specs.Frames.{ShowsFrames}
 use Rattle.connections3.specs.declared.connection.Connection.{Connection}
 use Rattle.connections3.specs.declared.taker.NotTaken.{NotTaken}
 use Rattle.connections3.specs.declared.taker.PacketTaker.{PacketTaker}
-use Rattle.conversion3.specs.Packing.{AreSentIn}
+use Rattle.index3.specs.Frames.{AreRows, KeepsFrames}
+use Rattle.index3.specs.declared.frames.FrameRow.{FrameRow}
+use Rattle.index3.specs.declared.frames.FrameTable.{FrameTable}
 use Rattle.payload3.specs.Readings.{Allow, OffsetRead, RecordedReads}
 use Rattle.program3.specs.Readings.{BeginsWithReads, FileReading, IsUnread, reading_under}
 use Rattle.program3.proofs.FilesLemmas.{observed_of}
@@ -26,13 +27,16 @@ use Rattle.recording3.specs.declared.frames.Failed.{Failed}
 use Rattle.recording3.specs.declared.frames.Failed.TheVariants as failures
 use Rattle.recording3.specs.declared.frames.RecordingEnd.{RecordingEnd}
 use Rattle.recording3.specs.declared.outcomes.Tally.{Tally}
-use Rattle.nfs3streams.specs.Conversion.{HasFrames, IsCaptureOf, IsConversion, RecordingReading, ShowFrames}
-use Rattle.nfs3streams.specs.Printed.{PrintsNoRecording}
+use Rattle.nfs3streams.specs.Conversion.{HasFrames, RecordingReading, ShowFrames, Writes}
+use Rattle.nfs3streams.specs.Printed.{Findings, PrintsNoRecording}
 use Rattle.nfs3streams.specs.Streams.{EndsFrames, PrintsLimit, StopsBy, StopsWith, reading_from}
-use Rattle.nfs3streams.specs.machinery.Converting.{ConvertsTo, CountsFailure, DecidesOn, ReadsConnections, StopsAtStart, TellsFailed, found_of}
+use Rattle.nfs3streams.specs.machinery.Converting.{ConvertsTo, CountsFailure, DecidesOn, IsReadOf, ReadsConnections, StopsAtStart, TellsFailed, WritesWanted, found_of, index_in}
 use Rattle.nfs3streams.specs.declared.connections.RecordingRead.{RecordingRead}
 use Rattle.nfs3streams.specs.declared.conversion.RecordingReads.{RecordingReads}
 use Rattle.nfs3streams.specs.declared.decided.Decided.{Decided}
+use Rattle.nfs3streams.specs.declared.line.asked.StreamsJob.{StreamsJob}
+use Rattle.nfs3streams.specs.declared.line.asked.Wanted.{Wanted}
+use Rattle.nfs3streams.specs.declared.line.asked.Wanted.TheVariants.{Capture, Index}
 
 -- ---- the frames of a file
 
@@ -56,27 +60,55 @@ has_frames old new file front frames end gave reads all p = record {
   all = λ more. p.all (all more);
 }
 
--- what was read of a recording
-pub read_all : (source : Observed × Observed) (none taker : PacketTaker) (read : RecordingRead)
-    → ShowsFrames none []
-    → ReadsFrames 0 source (Extends (ShowsFrames none) (ShowsFrames taker)) read.end
+-- more is known of the frames
+pub took_still : (source : Observed × Observed) (One Other : List Passed → Type 0)
+    (end : RecordingEnd) → ((frames : List Passed) → One frames → Other frames)
+    → ReadsFrames 0 source One end → ReadsFrames 0 source Other end
+took_still source One Other end more r = record {
+  file = r.file;
+  frames = r.frames;
+  gave = r.gave;
+  reads = r.reads;
+  took = more r.frames r.took;
+  all = r.all;
+}
+
+-- what a taker took of a recording
+pub read_by_taker : (source : Observed × Observed) (none taker : PacketTaker) (end : RecordingEnd)
+    (read : RecordingRead) → ShowsFrames none []
+    → ReadsFrames 0 source (Extends (ShowsFrames none) (ShowsFrames taker)) end → read.end ≡ end
     → read.tally ≡ taker.tally → read.connections.items ≡ taker.connections
-    → ReadsConnections source read
+    → ReadsConnections source Capture read
 unfolding Extends
-read_all source none taker read empty r tally connections =
-    let took : ShowsFrames taker r.frames = r.took [] empty in
-    record {
-      file = r.file;
-      frames = r.frames;
-      gave = r.gave;
-      reads = r.reads;
-      took = (
-        subst (λ (t : Tally). Tallied r.frames t) (sym tally) took.tallied,
-        subst (λ (cs : List Connection). ShowFrames cs r.frames) (sym connections)
-            (record { packets = took.packets; have = took.have; shows = took.shows }),
-      );
-      all = r.all;
-    }
+read_by_taker source none taker end read empty r same tally connections =
+    subst (ReadsFrames 0 source (IsReadOf Capture read)) (sym same)
+    (took_still source (Extends (ShowsFrames none) (ShowsFrames taker)) (IsReadOf Capture read) end
+    (λ frames extends.
+    let took : ShowsFrames taker frames = extends [] empty in (
+      subst (λ (t : Tally). Tallied frames t) (sym tally) took.tallied,
+      subst (λ (cs : List Connection). ShowFrames cs frames) (sym connections)
+          (record { packets = took.packets; have = took.have; shows = took.shows }),
+      tt,
+    )) r)
+
+-- what a table kept of it
+pub read_by_table : (source : Observed × Observed) (none table : FrameTable) (end : RecordingEnd)
+    (read : RecordingRead) → KeepsFrames none []
+    → ReadsFrames 0 source (Extends (KeepsFrames none) (KeepsFrames table)) end → read.end ≡ end
+    → read.tally ≡ table.taker.tally → read.connections.items ≡ table.taker.connections
+    → read.frames ≡ table.rows → ReadsConnections source Index read
+unfolding Extends
+read_by_table source none table end read empty r same tally connections rows =
+    subst (ReadsFrames 0 source (IsReadOf Index read)) (sym same)
+    (took_still source (Extends (KeepsFrames none) (KeepsFrames table)) (IsReadOf Index read) end
+    (λ frames extends.
+    let kept : KeepsFrames table frames = extends [] empty in
+    let took = kept.shows in (
+      subst (λ (t : Tally). Tallied frames t) (sym tally) took.tallied,
+      subst (λ (cs : List Connection). ShowFrames cs frames) (sym connections)
+          (record { packets = took.packets; have = took.have; shows = took.shows }),
+      subst (λ (v : Vec FrameRow Global). AreRows frames v.items) (sym rows) kept.rows,
+    )) r)
 
 -- ---- why a conversion stops
 
@@ -106,14 +138,7 @@ stops_none source counts end (Err error) outcome front reads prints is = inr (er
 
 pub took_some : (source : Observed × Observed) (Took : List Passed → Type 0) (end : RecordingEnd)
     → ReadsFrames 0 source Took end → ReadsFrames 0 source (λ frames. Unit {0}) end
-took_some source Took end r = record {
-  file = r.file;
-  frames = r.frames;
-  gave = r.gave;
-  reads = r.reads;
-  took = tt;
-  all = r.all;
-}
+took_some source Took end r = took_still source Took (λ frames. Unit {0}) end (λ frames took. tt) r
 
 -- a limit was passed
 pub tells_limit : (failed : Failed NotTaken) (report : Result Report AllocError) (outcome : Outcome)
@@ -152,27 +177,50 @@ stops_failed X source old new failed outcome counts (inr (error, is, only)) =
 
 -- ---- all of it
 
-pub converts : (old new : Observed) (read : RecordingRead) (ports : List ℕ)
+-- what was written of what was found
+writes_found : (wanted : Wanted) (IsOneOf : List ℕ → Type 0) (read : RecordingRead)
+    (ports : List ℕ) (before after : List OffsetRead) (d : Decided) (frames : List Passed)
+    (written : Option (List ℕ)) → IsReadOf wanted read frames → DecidesOn read ports before d
+    → ((file : List ℕ) → IsOneOf file → Allow after file)
+    → ((file : List ℕ) → Allow after file → Allow before file)
+    → WritesWanted wanted d after written → Writes wanted IsOneOf (found_of frames read d) written
+writes_found Capture IsOneOf read ports before after d frames written is decides allows more w =
+    record {
+      pairs = w.0;
+      capture = w.1;
+      sent = λ file one.
+          let allowed = allows file one in
+          w.2 file ports read.connections.items allowed decides.ordered
+          (decides.are file (more file allowed));
+    }
+writes_found Index IsOneOf read ports before after d frames written is decides allows more w =
+    record {
+      index = index_in d;
+      is = w;
+      end = decides.end;
+      frames = subst (AreRows frames) (sym decides.frames) is.2;
+      connections = decides.ordered;
+      decisions = refl;
+    }
+
+pub converts : (old new : Observed) (job : StreamsJob) (read : RecordingRead)
     (before after : List OffsetRead) (d : Decided) (written : Option (List ℕ))
-    (pairs : List Streams) → ReadsConnections (old, new) read → DecidesOn read ports before d
-    → ((file : List ℕ) → Allow after file → Allow before file) → IsCaptureOf written pairs
-    → AreSentIn after d.connections.items d.decisions.items pairs
-    → ConvertsTo (λ file. GavePrefix old new file) (Allow after) ports d.report written
-converts old new read ports before after d written pairs r decides more capture sent = record {
-  found = found_of read d;
-  pairs = pairs;
-  prints = decides.prints;
-  capture = capture;
-  is = λ file gives allows.
-      let are = decides.are file (more file allows) in
-      record {
-        frames = r.frames;
-        has = has_frames old new file r.file r.frames read.end r.gave r.reads r.all gives;
-        tallied = r.took.0;
-        show = r.took.1;
-        decided = are;
-        sent = sent file ports read.connections.items allows decides.ordered are;
-      };
+    → ReadsConnections (old, new) job.wanted read → DecidesOn read job.ports.items before d
+    → ((file : List ℕ) → Allow after file → Allow before file)
+    → WritesWanted job.wanted d after written
+    → ConvertsTo (λ file. GavePrefix old new file × Allow after file) job d.report written
+converts old new job read before after d written r decides more w = record {
+  found = found_of r.frames read d;
+  prints = decides.prints r.frames;
+  writes =
+      writes_found job.wanted (λ file. GavePrefix old new file × Allow after file) read
+      job.ports.items before after d r.frames written r.took decides (λ file one. one.1) more w;
+  is = λ file one. record {
+    has = has_frames old new file r.file r.frames read.end r.gave r.reads r.all one.0;
+    tallied = r.took.0;
+    show = r.took.1;
+    decided = decides.are file (more file one.1);
+  };
 }
 
 -- ---- of the files of a job
@@ -210,21 +258,29 @@ prefix_given remaining name was now reading unread is file begins =
       all = λ spent. b.all spent.0;
     }
 
+-- so of fewer files
+writes_still : (wanted : Wanted) (One Other : List ℕ → Type 0) (found : Findings)
+    (written : Option (List ℕ)) → ((file : List ℕ) → Other file → One file)
+    → Writes wanted One found written → Writes wanted Other found written
+writes_still Capture One Other found written one w = record {
+  pairs = w.pairs;
+  capture = w.capture;
+  sent = λ file other. w.sent file (one file other);
+}
+writes_still Index One Other found written one w = w
+
 pub converts_still : {W : Type 0} (contents : W → Option (List ℕ))
-    (r : Result (Report × W) Outcome) (Gives Begins Allows May : List ℕ → Type 0)
-    (ports others : List ℕ) → ((file : List ℕ) → Begins file → Gives file)
-    → ((file : List ℕ) → May file → Allows file) → ports ≡ others
-    → IfOk r (λ done. ConvertsTo Gives Allows ports done.0 (contents done.1))
-    → IfOk r (λ done. ConvertsTo Begins May others done.0 (contents done.1))
-converts_still contents (Err outcome) Gives Begins Allows May ports others begins may same to = tt
-converts_still contents (Ok done) Gives Begins Allows May ports others begins may same to = record {
+    (r : Result (Report × W) Outcome) (One Other : List ℕ → Type 0) (job : StreamsJob)
+    → ((file : List ℕ) → Other file → One file)
+    → IfOk r (λ done. ConvertsTo One job done.0 (contents done.1))
+    → IfOk r (λ done. ConvertsTo Other job done.0 (contents done.1))
+converts_still contents (Err outcome) One Other job one to = tt
+converts_still contents (Ok done) One Other job one to = record {
   found = to.found;
-  pairs = to.pairs;
   prints = to.prints;
-  capture = to.capture;
-  is = λ file begun allowed.
-      subst (λ (l : List ℕ). IsConversion file l to.found to.pairs) same
-      (to.is file (begins file begun) (may file allowed));
+  writes =
+      writes_still job.wanted One Other to.found (contents done.1) one to.writes;
+  is = λ file other. to.is file (one file other);
 }
 
 -- a read failed, if that is the error

@@ -3,12 +3,10 @@ use Rattle.std.proofs.Common.{◌≡◌, ℕ, List, Option, Some, Result, Ok, Er
 use Rattle.canon3.specs.WriteErrors.{IsOfWriting}
 use Rattle.capture3.specs.declared.fault.Error.{Error}
 use Rattle.capture3.specs.declared.fault.Error.TheVariants as errors
-use Rattle.payload3.specs.Readings.{Allow}
 use Rattle.program3.specs.Files.{FinishesNone, WrittenFile}
-use Rattle.program3.specs.Readings.{BeginsWithReads}
 use Rattle.program3.specs.declared.outcome.Outcome.{Outcome}
 use Rattle.program3.specs.declared.outcome.Report.{Report}
-use Rattle.nfs3streams.specs.Conversion.{RecordingReading}
+use Rattle.nfs3streams.specs.Conversion.{MayHave, RecordingReading}
 use Rattle.nfs3streams.specs.Streams.{AnswersStreamsJob, EndsFrames, StopsBy, StopsWith, reading_from, streams_run}
 use Rattle.nfs3streams.specs.declared.conversion.RecordingReads.{RecordingReads}
 use Rattle.nfs3streams.specs.declared.line.asked.StreamsJob.{StreamsJob}
@@ -27,8 +25,7 @@ pub answers_job : {W : Type 0} (contents : W → Option (List ℕ)) (reads : Rec
     (finished : List WrittenFile × List WrittenFile) (job : StreamsJob)
     (came : Result (Report × W) Outcome) (name : List ℕ) (outcome : Outcome)
     → name ≡ job.output.now
-    → IfOk came (λ done. ConvertsTo (BeginsWithReads (reading_from reads).start)
-    (Allow (reading_from reads).others.readings) job.ports.items done.0 (contents done.1))
+    → IfOk came (λ done. ConvertsTo (MayHave (reading_from reads)) job done.0 (contents done.1))
     → IfErr came (StopsWith (EndsFrames (reading_from reads)) (StopsBy (reading_from reads)))
     → IfOk came (λ done. FinishesFile (name, contents done.1) finished done.0 outcome)
     → IfErr came (λ stopped. (outcome ≡ stopped) × FinishesNone finished)
@@ -37,7 +34,6 @@ answers_job contents reads finished job (Ok done) name outcome named to stops
     (inl (told, last)) none =
     inl (record {
       found = to.found;
-      pairs = to.pairs;
       report = done.0;
       reading = reading_from reads;
       read = refl;
@@ -45,9 +41,9 @@ answers_job contents reads finished job (Ok done) name outcome named to stops
       prints = to.prints;
       written = record { name = name; bytes = contents done.1 };
       named = named;
-      capture = to.capture;
+      writes = to.writes;
       finished = last;
-      is = λ file may. to.is file may.start may.others;
+      is = to.is;
     })
 answers_job contents reads finished job (Ok done) name outcome named to stops
     (inr (error, is, of, kept)) none =

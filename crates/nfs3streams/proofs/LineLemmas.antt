@@ -1,6 +1,6 @@
 -- What clap finds in a line.
 use Rattle.std.proofs.Common.{◌≡◌, ◌∙◌, ℕ, true, refl, sym, ap, subst, List, [], Option, None, Some, inl, inr, ◌⊎◌, codes, Ok, Err, unwrap_or, Global, IfErr, IfOk, Result, Vec}
-use Rattle.clap.specs.Words.{App, HasMatchesOf, Row, all_of, found_of, is_simple, is_simple_and_free, rows_of}
+use Rattle.clap.specs.Words.{App, HasMatchesOf, Row, all_of, first_of, found_of, is_simple, is_simple_and_free, rows_of}
 use Rattle.clap.specs.declared.parser.matches.ArgMatches.{ArgMatches}
 use Rattle.clap.proofs.OnLiterals.{clap_on_literals}
 use Rattle.line3.specs.Asked.{IsRefusedBy, IsUsage}
@@ -8,7 +8,7 @@ use Rattle.line3.specs.declared.asked.LineFault.{LineFault}
 use Rattle.line3.specs.declared.asked.LineFault.TheVariants.{Usage, Memory}
 use Rattle.nfs3streams.specs.Grammar.{streams_app}
 use Rattle.nfs3streams.specs.Ports.{AreAllPorts}
-use Rattle.nfs3streams.specs.StreamsLine.{AreStreamsWordsRefused, AsksForStreams, IsJobIn, IsRefusedIn, IsUsageUnless, found_in, value_named, values_named}
+use Rattle.nfs3streams.specs.StreamsLine.{AreStreamsWordsRefused, AsksForStreams, IsJobIn, IsRefusedIn, IsUsageUnless, found_in, values_named}
 use Rattle.nfs3streams.specs.declared.line.asked.StreamsJob.{StreamsJob}
 
 simple : is_simple streams_app ≡ true
@@ -58,7 +58,7 @@ refused_for words rows (Err fault) is refused = refused_in words rows fault is r
 
 -- a name is missing
 pub no_name : (rows : List Row) (fault : LineFault) → IsUsage fault
-    → (value_named (codes "RECORDING") rows ≡ None) ⊎ (value_named (codes "OUT") rows ≡ None)
+    → (first_of (codes "RECORDING") rows ≡ None) ⊎ (first_of (codes "OUT") rows ≡ None)
     → IsRefusedIn rows fault
 no_name rows (Usage text) is none =
     λ job. elim none [

@@ -31,7 +31,7 @@ joined (text ∷ front) back [] later in_front behind = absurd in_front
 joined (text ∷ front) back (port ∷ first) later in_front behind =
     (in_front.0, joined front back first later in_front.1 behind)
 
--- a fault of which it is told that it is a usage, where this cannot be
+-- a fault that is a usage, where this cannot be
 pub usage_unless : (Holds : Type 0) (fault : LineFault) → IsUsage fault → (Holds → ⊥)
     → IsUsageUnless Holds fault
 usage_unless Holds (Usage text) is none = none

@@ -1,4 +1,4 @@
--- A recording, its connections, and what is said of each.
+-- A recording, its connections, what is said of each, and what is written of all.
 use Rattle.std.specs.Prelude.{◌≡◌, ℕ, List, [], ◌++◌, Option, Some}
 use Rattle.capture3.specs.Capture.{One, IsCapture}
 use Rattle.capture3.specs.SidedChunks.{Streams}
@@ -7,7 +7,10 @@ use Rattle.connections3.specs.Frames.{HavePackets}
 use Rattle.connections3.specs.declared.connection.Connection.{Connection}
 use Rattle.connections3.specs.declared.packets.Packet.{Packet}
 use Rattle.conversion3.specs.Decisions.{AreDecided}
+use Rattle.conversion3.specs.OrderedConnections.{AreOrdered}
 use Rattle.conversion3.specs.Packing.{AreSent}
+use Rattle.index3.specs.Frames.{AreRows}
+use Rattle.index3.specs.Indexes.{Index, bytes_of_index}
 use Rattle.payload3.specs.Readings.{Allow, RecordedReads}
 use Rattle.program3.specs.Readings.{BeginsWithReads, FileReading}
 use Rattle.recording3.specs.Frames.{ReadsRecording}
@@ -15,6 +18,8 @@ use Rattle.recording3.specs.Outcomes.{Tallied}
 use Rattle.recording3.specs.Places.{MayGoOn, Passed}
 use Rattle.recording3.specs.declared.frames.RecordingEnd.{RecordingEnd}
 use Rattle.nfs3streams.specs.Printed.{Findings}
+use Rattle.nfs3streams.specs.declared.line.asked.Wanted.{Wanted}
+use Rattle.nfs3streams.specs.declared.line.asked.Wanted.TheVariants as outputs
 
 -- what the reads of a recording gave: those from its start on, one after another, and those at
 -- other offsets
@@ -42,19 +47,40 @@ pub record ShowFrames (connections : List Connection) (frames : List Passed) : T
   pub have : HavePackets frames packets
   pub shows : ShowsPackets connections packets
 
--- This was found in a recording with these bytes: how its frames end and what they carry, their
--- connections, and a decision on each. The pairs are what was sent on the whole ones, in order.
-pub record IsConversion (file ports : List ℕ) (found : Findings) (pairs : List Streams)
-    : Type 0 where
-  pub frames : List Passed
-  pub has : HasFrames file frames found.end
-  pub tallied : Tallied frames found.tally
-  pub show : ShowFrames found.connections frames
+-- This was found in a recording with these bytes: its frames, how they end and what they carry,
+-- their connections, and a decision on each.
+pub record IsFoundIn (file ports : List ℕ) (found : Findings) : Type 0 where
+  pub has : HasFrames file found.frames found.end
+  pub tallied : Tallied found.frames found.tally
+  pub show : ShowFrames found.connections found.frames
   pub decided : AreDecided file ports found.connections found.decisions
-  pub sent : AreSent file found.connections found.decisions pairs
+
+-- ---- what is written of it
 
 -- a capture of the pairs was written
 pub record IsCaptureOf (written : Option (List ℕ)) (pairs : List Streams) : Type 0 where
   pub capture : List ℕ
   pub is : written ≡ Some capture
   pub of : IsCapture One capture pairs
+
+-- A capture was written. Whichever of these files the recording is, its pairs are what was sent on
+-- the whole connections, in order.
+pub record WritesCapture (IsOneOf : List ℕ → Type 0) (found : Findings)
+    (written : Option (List ℕ)) : Type 0 where
+  pub pairs : List Streams
+  pub capture : IsCaptureOf written pairs
+  pub sent : (file : List ℕ) → IsOneOf file
+      → AreSent file found.connections found.decisions pairs
+
+-- The index was written: the end, a row of each frame, the connections in order, and the decisions.
+pub record WritesIndex (found : Findings) (written : Option (List ℕ)) : Type 0 where
+  pub index : Index
+  pub is : written ≡ Some (bytes_of_index index)
+  pub end : index.end ≡ found.end
+  pub frames : AreRows found.frames index.frames
+  pub connections : AreOrdered found.connections index.connections
+  pub decisions : index.decisions ≡ found.decisions
+
+abbrev pub Writes : Wanted → (IsOneOf : List ℕ → Type 0) → Findings → Option (List ℕ) → Type 0
+Writes outputs.Capture IsOneOf found written = WritesCapture IsOneOf found written
+Writes outputs.Index IsOneOf found written = WritesIndex found written

@@ -11,14 +11,16 @@ use Rattle.conversion3.specs.declared.flaws.StreamFlaw.TheVariants.{NoSyn, Missi
 use Rattle.conversion3.specs.declared.judgment.Flaw.{Flaw}
 use Rattle.program3.specs.Printed.{Prints, newline, side_of}
 use Rattle.program3.specs.declared.outcome.Report.{Report}
+use Rattle.recording3.specs.Places.{Passed}
 use Rattle.recording3.specs.declared.contents.Ending.{Ending}
 use Rattle.recording3.specs.declared.contents.Ending.TheVariants as endings
 use Rattle.recording3.specs.declared.frames.RecordingEnd.{RecordingEnd}
 use Rattle.recording3.specs.declared.outcomes.Tally.{Tally}
 use Rattle.streams3.specs.Order.{begin_of}
 
--- what was found in a recording, of which it is told
+-- what was found in a recording
 pub record Findings : Type 0 where
+  pub frames : List Passed
   pub end : RecordingEnd
   pub tally : Tally
   pub connections : List Connection

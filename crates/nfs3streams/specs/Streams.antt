@@ -1,7 +1,6 @@
 -- What came of a command line of nfs3streams.
 use Rattle.std.specs.Prelude.{◌≡◌, ◌⊎◌, ℕ, List, [], ◌∷◌, ◌++◌, Option, None, Some, Err, codes, option_map}
 use Rattle.clap.specs.Words.{fault_of}
-use Rattle.capture3.specs.SidedChunks.{Streams}
 use Rattle.capture3.specs.declared.fault.Error.{Error}
 use Rattle.capture3.specs.declared.fault.Error.TheVariants as errors
 use Rattle.line3.specs.declared.asked.LineFault.{LineFault}
@@ -13,7 +12,7 @@ use Rattle.program3.specs.declared.outcome.Outcome.TheVariants as outcomes
 use Rattle.program3.specs.declared.outcome.Report.{Report}
 use Rattle.recording3.specs.Places.{Passed}
 use Rattle.recording3.specs.declared.frames.RecordingEnd.{RecordingEnd}
-use Rattle.nfs3streams.specs.Conversion.{HasFrames, IsCaptureOf, IsConversion, MayHave, RecordingReading}
+use Rattle.nfs3streams.specs.Conversion.{HasFrames, IsFoundIn, MayHave, RecordingReading, Writes}
 use Rattle.nfs3streams.specs.Grammar.{streams_app}
 use Rattle.nfs3streams.specs.Printed.{Findings, PrintsFindings, PrintsNoRecording}
 use Rattle.nfs3streams.specs.StreamsLine.{AreStreamsWordsRefused, AsksForStreams}
@@ -58,11 +57,10 @@ streams_run reads finished =
     record { reading = option_map reading_from reads; finished = finished }
 
 module _ (run : StreamsRun) where
-  -- A capture was finished under the output's name. Whatever the recording may have been, its pairs
-  -- are those of its whole connections, and this is what was found.
+  -- What was wanted was finished under the output's name. Whatever the recording may have been,
+  -- this was found in it.
   pub record ConvertsRecording (job : StreamsJob) (outcome : Outcome) : Type 0 where
     pub found : Findings
-    pub pairs : List Streams
     pub report : Report
     pub reading : RecordingReading
     pub read : run.reading ≡ Some reading
@@ -70,10 +68,9 @@ module _ (run : StreamsRun) where
     pub prints : PrintsFindings found report
     pub written : WrittenFile
     pub named : written.name ≡ job.output.now
-    pub capture : IsCaptureOf written.bytes pairs
+    pub writes : Writes job.wanted (MayHave reading) found written.bytes
     pub finished : run.finished.1 ≡ written ∷ run.finished.0
-    pub is : (file : List ℕ) → MayHave reading file
-        → IsConversion file job.ports.items found pairs
+    pub is : (file : List ℕ) → MayHave reading file → IsFoundIn file job.ports.items found
 
   -- no file was finished: the recording is refused, or an error stopped the job
   pub record StopsConversion (outcome : Outcome) : Type 0 where

@@ -1,59 +1,23 @@
 //! The capture of the connections that are whole.
 
-ghost use Rattle.std.specs.Prelude.{◌≡◌, ℕ, [], List, Option, Some, IfErr, IfOk, OnOk};
+ghost use Rattle.std.specs.Prelude.{ℕ, [], List, Option, OnOk};
 ghost use Rattle.capture3.specs.Entries.{CountsReading};
 ghost use Rattle.capture3.specs.SidedChunks.{Streams};
-ghost use Rattle.packing3.specs.Packing.{HasAdded, HasWrittenCapture, sink_of};
+ghost use Rattle.packing3.specs.Packing.{HasAdded, sink_of};
 ghost use Rattle.payload3.specs.Readings.{Allow};
-ghost use Rattle.conversion3.specs.Packing.{AreSentIn};
-ghost use Rattle.nfs3streams.specs.Conversion.{IsCaptureOf};
-ghost use Rattle.nfs3streams.specs.machinery.Converting.{CountsFailure, WritesWhole};
+ghost use Rattle.nfs3streams.specs.machinery.Converting.{WritesWhole};
 
 use crate::decided::Decided;
-use canon3::{Sink, ToWrite};
+use canon3::Sink;
 use capture3::Error;
 use conversion3::pack_whole;
 use packing3::Packing;
 use payload3::Recorded;
-use program3::{WRITTEN_AT_ONCE, write_out};
 use std::alloc::Global;
-use std::io::{BufWriter, Write};
 use std::os::unix::fs::FileExt;
 
-/// Writes the capture of the connections that are whole, and returns the writer.
-///
-/// # Errors
-///
-/// - `Memory` if memory ran out.
-/// - `Read` if a read failed, or the recording ends before a payload does. `Write` if a write failed.
-/// - `Refused` if they are beyond a limit of captures.
-pub(crate) fn write_capture<F: FileExt, W: Write + Drop>(
-    alloc: Global,
-    recorded: &mut Recorded<'_, F>,
-    decided: &Decided,
-    output: W,
-) -> Result<W, Error>
-    ensures more { (file : List ℕ) → Allow recorded.new.readings file
-        → Allow recorded.old.readings file }
-    ensures written { W.contents output ≡ Some [] → IfOk result (λ written.
-        (pairs : List Streams) × IsCaptureOf (W.contents written) pairs
-        × AreSentIn recorded.new.readings decided.now.connections.items
-        decided.now.decisions.items pairs) }
-    ensures err { IfErr result (CountsFailure (recorded.old.failures, recorded.new.failures)) }
-{
-    let Ok(buffer) = BufWriter::with_capacity(alloc, WRITTEN_AT_ONCE, output) else {
-        return Err(Error::Memory);
-    };
-    let (came, sink) = pack_into(alloc, recorded, decided, ToWrite::new(buffer));
-    let (came, output) = write_out(came, sink.into_inner());
-    match came {
-        Ok(()) => Ok(output),
-        Err(error) => Err(error),
-    }
-}
-
 /// Writes the capture to a sink, and returns that.
-fn pack_into<F: FileExt, W: Sink + Drop>(
+pub(crate) fn pack_into<F: FileExt, W: Sink + Drop>(
     alloc: Global,
     recorded: &mut Recorded<'_, F>,
     decided: &Decided,

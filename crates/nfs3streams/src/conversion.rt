@@ -1,18 +1,17 @@
-//! A recording that is converted into a capture.
+//! A recording that is converted into what is wanted.
 
 ghost use Rattle.std.specs.Prelude.{◌≡◌, ◌⊎◌, ℕ, List, [], Some, IfErr, IfOk};
 ghost use Rattle.capture3.specs.Observed.{GavePrefix};
 ghost use Rattle.payload3.specs.Readings.{Allow};
-ghost use Rattle.program3.specs.Readings.{BeginsWithReads};
 ghost use Rattle.recording3.specs.Places.{Passed};
-ghost use Rattle.nfs3streams.specs.Conversion.{HasFrames};
+ghost use Rattle.nfs3streams.specs.Conversion.{HasFrames, MayHave};
 ghost use Rattle.nfs3streams.specs.Streams.{EndsFrames, StopsBy, StopsWith, reading_from};
 ghost use Rattle.nfs3streams.specs.machinery.Converting.{ConvertsTo, CountsFailure};
 
-use crate::capture::write_capture;
 use crate::connections::read_connections;
 use crate::decided::decide;
 use crate::line::asked::StreamsJob;
+use crate::output::write_wanted;
 use capture3::Source;
 use payload3::{Reads, Recorded};
 use program3::{Closed, FromStart, Opened, Outcome, Report};
@@ -34,7 +33,7 @@ pub struct Converted<W: Drop> {
     pub reads: RecordingReads,
 }
 
-/// Reads a recording, and writes the capture of the connections that a job chooses and that are whole.
+/// Reads a recording, and writes what a job wants of it.
 pub(crate) fn convert<F: FileExt, W: Write + Drop>(
     alloc: Global,
     job: &StreamsJob<'_>,
@@ -43,15 +42,13 @@ pub(crate) fn convert<F: FileExt, W: Write + Drop>(
 ) -> Converted<W>
     ensures named { (reading_from result.reads).start.name ≡ job.now.recording.now }
     ensures converts { W.contents output ≡ Some [] → IfOk result.came (λ done. ConvertsTo
-        (BeginsWithReads (reading_from result.reads).start)
-        (Allow (reading_from result.reads).others.readings)
-        job.now.ports.items done.0 (W.contents done.1)) }
+        (MayHave (reading_from result.reads)) job.now done.0 (W.contents done.1)) }
     ensures stops { IfErr result.came (StopsWith (EndsFrames (reading_from result.reads))
         (StopsBy (reading_from result.reads))) }
 {
     let mut opened = Opened::new(job.recording, FromStart::new(recording));
     let mut recorded = Recorded::new(recording);
-    let came = convert_read(alloc, &mut opened.source, &mut recorded, &job.ports, output);
+    let came = convert_read(alloc, &mut opened.source, &mut recorded, job, output);
     let reads = RecordingReads {
         start: opened.close(),
         others: recorded.into_reads(),
@@ -59,17 +56,17 @@ pub(crate) fn convert<F: FileExt, W: Write + Drop>(
     Converted { came, reads }
 }
 
-/// Reads a recording from its start, and the payloads that are written where they lie.
+/// Reads a recording from its start, and payloads where they lie.
 fn convert_read<R: Source, F: FileExt, W: Write + Drop>(
     alloc: Global,
     source: &mut R,
     recorded: &mut Recorded<'_, F>,
-    ports: &[u16],
+    job: &StreamsJob<'_>,
     output: W,
 ) -> Result<(Report, W), Outcome>
     ensures converts { W.contents output ≡ Some [] → IfOk result (λ done. ConvertsTo
-        (λ file. GavePrefix (R.observed source.old) (R.observed source.new) file)
-        (Allow recorded.new.readings) ports.now done.0 (W.contents done.1)) }
+        (λ file. GavePrefix (R.observed source.old) (R.observed source.new) file
+        × Allow recorded.new.readings file) job.now done.0 (W.contents done.1)) }
     ensures stops { IfErr result (StopsWith
         (λ end. (file : List ℕ)
         → GavePrefix (R.observed source.old) (R.observed source.new) file
@@ -77,15 +74,15 @@ fn convert_read<R: Source, F: FileExt, W: Write + Drop>(
         (λ error. CountsFailure (R.failures source.old, R.failures source.new) error
         ⊎ CountsFailure (recorded.old.failures, recorded.new.failures) error)) }
 {
-    let read = match read_connections(alloc, source) {
+    let read = match read_connections(alloc, source, job.wanted) {
         Ok(read) => read,
         Err(outcome) => return Err(outcome),
     };
-    let decided = match decide(alloc, recorded, ports, read) {
+    let decided = match decide(alloc, recorded, &job.ports, read) {
         Ok(decided) => decided,
         Err(error) => return Err(Outcome::Packed(Err(error))),
     };
-    match write_capture(alloc, recorded, &decided, output) {
+    match write_wanted(alloc, recorded, job.wanted, &decided, output) {
         Ok(output) => Ok((decided.report, output)),
         Err(error) => Err(Outcome::Packed(Err(error))),
     }

@@ -7,14 +7,19 @@ use crate::connections::RecordingRead;
 use crate::printed::{Found, found_report};
 use capture3::Error;
 use conversion3::{Decision, OrderedConnection, decide_all, order_all};
+use index3::FrameRow;
 use payload3::Recorded;
 use program3::Report;
+use recording3::RecordingEnd;
 use std::alloc::Global;
 use std::os::unix::fs::FileExt;
 
 /// The connections of a recording in order, what is said of each, and the report of that.
 #[derive(Drop)]
 pub struct Decided {
+    pub end: RecordingEnd,
+    /// The frames of the recording, if an index is wanted.
+    pub frames: Vec<FrameRow>,
     pub connections: Vec<OrderedConnection>,
     pub decisions: Vec<Decision>,
     pub report: Report,
@@ -40,6 +45,7 @@ pub(crate) fn decide<F: FileExt>(
         end,
         tally,
         connections,
+        frames,
     } = read;
     let connections = order_all(alloc, connections)?;
     let decisions = decide_all(alloc, recorded, ports, &connections)?;
@@ -53,6 +59,8 @@ pub(crate) fn decide<F: FileExt>(
         },
     )?;
     Ok(Decided {
+        end,
+        frames,
         connections,
         decisions,
         report,

@@ -49,7 +49,7 @@ fn answer_job<F: Files>(alloc: Global, files: &mut F, job: &StreamsJob<'_>) -> S
         job.now result.ended.outcome }
 {
     match files.open_recording(job.recording, job.output) {
-        Ok((recording, made)) => keep_capture(alloc, files, job, &recording, made),
+        Ok((recording, made)) => keep_output(alloc, files, job, &recording, made),
         Err(outcome) => StreamsAnswer {
             ended: Ended::of(outcome),
             reads: None,
@@ -58,7 +58,7 @@ fn answer_job<F: Files>(alloc: Global, files: &mut F, job: &StreamsJob<'_>) -> S
 }
 
 /// Converts a recording into the file that was made for it. The file gets its name once it is whole.
-fn keep_capture<F: Files>(
+fn keep_output<F: Files>(
     alloc: Global,
     files: &mut F,
     job: &StreamsJob<'_>,
@@ -72,15 +72,15 @@ fn keep_capture<F: Files>(
     let is_aside = files.is_standard_output(&made.place);
     let Made { file, place } = made;
     let Converted { came, reads } = convert(alloc, job, recording, file);
-    let outcome = finish_capture(files, place, came);
+    let outcome = finish_output(files, place, came);
     StreamsAnswer {
         ended: Ended { outcome, is_aside },
         reads: Some(reads),
     }
 }
 
-/// Gives the capture its name if it is whole, and removes it otherwise.
-fn finish_capture<F: Files>(
+/// Gives the output its name if it is whole, and removes it otherwise.
+fn finish_output<F: Files>(
     files: &mut F,
     place: F::Place,
     came: Result<(Report, F::Output), Outcome>,

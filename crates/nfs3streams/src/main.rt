@@ -1,4 +1,4 @@
-//! Writes a capture of the connections of a recording of packets.
+//! Writes a capture of the connections of a recording of packets, or an index.
 #![tactic(auto)]
 
 mod capture;
@@ -7,6 +7,7 @@ mod conversion;
 mod decided;
 mod job;
 mod line;
+mod output;
 mod printed;
 
 ghost use Rattle.std.specs.Prelude.{[], map, string_bytes};

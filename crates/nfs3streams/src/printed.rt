@@ -6,6 +6,7 @@ ghost use Rattle.connections3.specs.declared.connection.Connection.{Connection};
 ghost use Rattle.conversion3.specs.OrderedConnections.{AreOrdered, IsOrderedConnection};
 ghost use Rattle.conversion3.specs.Whole.{side_flow};
 ghost use Rattle.program3.specs.Printed.{Prints};
+ghost use Rattle.recording3.specs.Places.{Passed};
 ghost use Rattle.nfs3streams.specs.Printed.{PrintsFindings, PrintsNoRecording, begin_of_flow, below_text, counts_line, decision_text, decisions_text, end_line, end_text, ending_name, findings_status, flaw_line, flaw_text, inside_text, is_at_end, is_flawed, is_whole, stray_text};
 
 use capture3::Side;
@@ -14,7 +15,7 @@ use program3::{Report, side_name};
 use recording3::{Ending, RecordingEnd, Tally};
 use std::alloc::{AllocError, Global};
 
-/// What was found in a recording, of which it is told.
+/// What was found in a recording.
 #[derive(Clone, Copy)]
 pub struct Found<'a> {
     pub end: RecordingEnd,
@@ -29,9 +30,10 @@ pub struct Found<'a> {
 ///
 /// `AllocError` if memory ran out for the text.
 pub fn found_report(alloc: Global, found: &Found<'_>) -> Result<Report, AllocError>
-    ensures { IfOk result (λ report. (connections : List Connection)
+    ensures { IfOk result (λ report. (frames : List Passed) (connections : List Connection)
         → AreOrdered connections found.now.connections.now
         → PrintsFindings (record {
+          frames = frames;
           end = found.now.end;
           tally = found.now.tally;
           connections = connections;

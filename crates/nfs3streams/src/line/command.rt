@@ -4,9 +4,9 @@ ghost use Rattle.std.specs.Prelude.{◌≡◌, [], ℕ, List, IfErr, IfOk, OnOk,
 ghost use Rattle.clap.specs.Words.{fault_of, found_of, rows_of};
 ghost use Rattle.nfs3streams.specs.Grammar.{streams_app};
 ghost use Rattle.nfs3streams.specs.Ports.{AreAllPorts};
-ghost use Rattle.nfs3streams.specs.StreamsLine.{AreStreamsWordsRefused, AsksForStreams, IsJobIn, IsRefusedIn, IsUsageUnless, values_named};
+ghost use Rattle.nfs3streams.specs.StreamsLine.{AreStreamsWordsRefused, AsksForStreams, IsJobIn, IsRefusedIn, IsUsageUnless, values_named, wanted_in};
 
-use crate::line::asked::StreamsJob;
+use crate::line::asked::{StreamsJob, Wanted};
 use crate::line::grammar::command;
 use crate::line::ports::ports_named;
 use clap::ArgMatches;
@@ -51,9 +51,21 @@ fn job_found<'a>(alloc: Global, matches: &ArgMatches<'a>) -> Result<StreamsJob<'
         Ok(ports) => Ok(StreamsJob {
             recording,
             output,
+            wanted: wanted(matches),
             ports,
         }),
         Err(fault) => Err(fault),
+    }
+}
+
+/// Returns what is to be written, by what clap found.
+fn wanted(matches: &ArgMatches<'_>) -> Wanted
+    ensures { result ≡ wanted_in (rows_of (found_of matches.now)) }
+{
+    if matches.get_count("index") > 0 {
+        Wanted::Index
+    } else {
+        Wanted::Capture
     }
 }
 

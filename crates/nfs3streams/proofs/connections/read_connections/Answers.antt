@@ -1,35 +1,27 @@
-use Rattle.std.proofs.Common.{refl}
-use Rattle.recording3.specs.declared.frames.RecordingEnd.{RecordingEnd}
-use Rattle.nfs3streams.proofs.ConversionLemmas.{read_all, stops_failed, stops_none, took_some}
+use Rattle.std.proofs.Common.{subst, sym}
+use Rattle.nfs3streams.specs.declared.line.asked.Wanted.{Wanted}
+use Rattle.nfs3streams.specs.machinery.Converting.{ReadsConnections}
+use Rattle.nfs3streams.proofs.ConversionLemmas.{read_by_table, read_by_taker}
 use Rattle.nfs3streams.proofs.connections.read_connections.Goals as goal
 
-pub returns-in-Ok-clause-err : goal.returns-in-Ok-clause-err
-returns-in-Ok-clause-err g c =
-    let observed = g.R.Source.observed in
-    let failures = g.R.Source.failures in
-    let was = c.args.source.now in
-    let now = c.read_frames.new.source in
-    stops_none (observed was, observed now) (failures was, failures now) c.in-Ok.end
-    c.no_recording_report.result c.told.result c.if-end-eq0.true
-    (took_some (observed was, observed now) _ c.in-Ok.end c.in-Ok.ensures.ok)
-    c.no_recording_report.ensures c.told.ensures
+pub returns-in_ok-end-in-Capture-clause-ok : goal.returns-in_ok-end-in-Capture-clause-ok
+returns-in_ok-end-in-Capture-clause-ok g c =
+    let was = g.R.Source.observed c.args.source.now in
+    let now = g.R.Source.observed c.read_all.new.source in
+    let it = c.in_ok-end-in-Capture in
+    subst (λ (wanted : Wanted). ReadsConnections (was, now) wanted c.of_taker.result)
+    (sym c.in-Capture.is)
+    (read_by_taker (was, now) c.new-taker.result c.read_all.new.taker it.end c.of_taker.result
+    c.new-taker.ensures it.ensures.ok c.of_taker.ensures.end c.of_taker.ensures.tally
+    c.of_taker.ensures.connections)
 
-pub returns-in-Ok-2-clause-ok : goal.returns-in-Ok-2-clause-ok
-returns-in-Ok-2-clause-ok g c =
-    let observed = g.R.Source.observed in
-    read_all (observed c.args.source.now, observed c.read_frames.new.source) c.new-taker.result
-    c.read_frames.new.taker
-    (record {
-      end = c.in-Ok.end;
-      tally = c.read_frames.new.taker.tally;
-      connections = c.into_vec.result;
-    }) c.new-taker.ensures c.in-Ok.ensures.ok refl c.into_vec.ensures
-
-pub returns-in-Err-clause-err : goal.returns-in-Err-clause-err
-returns-in-Err-clause-err g c =
-    let observed = g.R.Source.observed in
-    let failures = g.R.Source.failures in
-    let was = c.args.source.now in
-    let now = c.read_frames.new.source in
-    stops_failed RecordingEnd (observed was, observed now) (failures was) (failures now)
-    c.in-Err.failed c.stopped.result c.in-Err.ensures.count c.stopped.ensures
+pub returns-in_ok-end-in-Index-clause-ok : goal.returns-in_ok-end-in-Index-clause-ok
+returns-in_ok-end-in-Index-clause-ok g c =
+    let was = g.R.Source.observed c.args.source.now in
+    let now = g.R.Source.observed c.read_all-in-Index.new.source in
+    let it = c.in_ok-end-in-Index in
+    let read = c.of_taker-in-Index in
+    subst (λ (wanted : Wanted). ReadsConnections (was, now) wanted read.result) (sym c.in-Index.is)
+    (read_by_table (was, now) c.new-table.result c.read_all-in-Index.new.taker it.end read.result
+    c.new-table.ensures it.ensures.ok read.ensures.end read.ensures.tally read.ensures.connections
+    read.ensures.frames)

@@ -4,13 +4,13 @@ use Rattle.nfs3streams.proofs.connections.stopped.Goals as goal
 
 pub returns-in-Taker-Long : goal.returns-in-Taker-Long
 returns-in-Taker-Long c =
-    tells_limit c.args.failed c.limit_report.result c.told.result
+    tells_limit c.args.failed c.limit_report.result c.reported.result
     (limit_or c.limit_report.result _ (λ told prints. inl prints) c.limit_report.ensures)
-    c.told.ensures
+    c.reported.ensures
 
 pub returns-in-Taker-TooMany : goal.returns-in-Taker-TooMany
 returns-in-Taker-TooMany c =
     tells_limit c.args.failed c.limit_report-in-Taker-TooMany.result
-    c.told-in-Taker-TooMany.result
+    c.reported-in-Taker-TooMany.result
     (limit_or c.limit_report-in-Taker-TooMany.result _ (λ told prints. inr prints)
-    c.limit_report-in-Taker-TooMany.ensures) c.told-in-Taker-TooMany.ensures
+    c.limit_report-in-Taker-TooMany.ensures) c.reported-in-Taker-TooMany.ensures

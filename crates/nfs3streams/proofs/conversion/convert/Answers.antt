@@ -10,12 +10,12 @@ returns-clause-named g c =
 pub returns-clause-converts : goal.returns-clause-converts
 returns-clause-converts g c = λ empty.
     let opened = c.new-opened.ensures (λ name. None) refl in
-    converts_still g.W.Write.contents c.convert_read-came.result _ _ _ _ c.deref.result.now
-    c.args.job.now.ports.items
-    (prefix_given _ c.new-opened.result.name.bytes c.new-opened.result.source
-    c.convert_read-came.new.source _ opened.1 (sym c.close.ensures))
-    (λ file allows. rw (← c.into_reads.ensures) allows) c.deref.ensures.value
-    (c.convert_read-came.ensures.converts empty)
+    converts_still g.W.Write.contents c.convert_read-came.result _ _ c.args.job.now
+    (λ file may. (
+      prefix_given _ c.new-opened.result.name.bytes c.new-opened.result.source
+          c.convert_read-came.new.source _ opened.1 (sym c.close.ensures) file may.start,
+      rw (← c.into_reads.ensures) may.others,
+    )) (c.convert_read-came.ensures.converts empty)
 
 pub returns-clause-stops : goal.returns-clause-stops
 returns-clause-stops g c =

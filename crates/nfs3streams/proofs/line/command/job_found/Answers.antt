@@ -35,6 +35,7 @@ returns-in-Ok-clause-asked c =
     record {
       recording = sym (it.ensures ∙ first_value-rows found (codes "RECORDING"));
       output = sym (it.ensures' ∙ first_value-rows found (codes "OUT"));
+      wanted = c.wanted.ensures;
       ports = c.in-Ok.ensures.ok;
       distinct = other_text it.recording.now it.output.now c.if-eq.ensures;
     }

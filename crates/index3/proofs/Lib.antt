@@ -1,0 +1,3 @@
+-- Lemmas of indexes.
+pub mod FrameLemmas
+pub mod WritingLemmas
