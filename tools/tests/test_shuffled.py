@@ -17,14 +17,12 @@ from examples.packets import (
     ACK, CLIENT, FIN, RST, SERVER, SYN, Talk, datagram, ethernet, pcap, segment)
 
 from ..nfs3tools.judgement.verdict import Verdict, is_row, status_of
-from ..nfs3tools.recordings import spool, streams
 from ..nfs3tools.recordings.coverage import Allowed
 from ..nfs3tools.shared.places import SIDES
 from .cases import try_seeds
-from .recordings import fragments, fragments_6
 from .scripts import CALL, CALLS, REPLIES, REPLY, Tools, stream, taken_of, timed, verdicts_on
 
-FAR = 1 << 30
+FAR = (1 << 30) + 1
 
 
 # --- What is sent ---
@@ -108,13 +106,11 @@ def add_end(chance: random.Random, made: Connection, sent: list[int]) -> None:
 
 
 class Recorded(typing.NamedTuple):
-    """A frame: its bytes, how many are kept, and of which segment it is a part."""
+    """A frame: its bytes, how many are kept, and its segment."""
     frame: bytes
     kept: int
     connection: Connection
     sent: Sent
-    part: int
-    parts: int
 
 
 class Make:
@@ -123,10 +119,9 @@ class Make:
     def __init__(self, seed: int) -> None:
         self.chance = random.Random(seed)
         chance = self.chance
-        self.lost, self.late, self.twice, self.cut, self.split, self.odd = (
+        self.lost, self.late, self.twice, self.cut, self.odd = (
             chance.choice(rates) for rates in ((0, 0, 0, 0.01, 0.05), (0, 0, 0.02, 0.2),
-                                               (0, 0, 0.1), (0, 0, 0, 0.01), (0, 0, 0.1),
-                                               (0, 0, 0.005, 0.02)))
+                                               (0, 0, 0.1), (0, 0, 0, 0.01), (0, 0, 0.005, 0.02)))
         self.connections: list[Connection] = []
 
     def streams(self, first_xid: int) -> tuple[bytes, bytes]:
@@ -204,18 +199,13 @@ class Make:
         return frames[:chance.randrange(1, len(frames) + 1)] if chance.random() < 0.1 else frames
 
     def frames_of(self, made: Connection) -> list[Recorded]:
-        """The frames of a connection, some in fragments, some not kept whole."""
-        chance, frames = self.chance, list[Recorded]()
-        for number, sent in enumerate(made.segments):
-            content = made.datagram(sent)
-            pieces = [content]
-            if chance.random() < self.split and len(content) > 40:
-                pieces = fragments(content, chance.choice((24, 32, 64)), chance.randrange(1 << 16))
-            for at, piece in enumerate(pieces):
-                frame, is_cut = ethernet(piece), chance.random() < self.cut and len(
-                    sent.content) > 4 and len(pieces) == 1
-                sent.lacks = 4 if is_cut else 0
-                frames.append(Recorded(frame, len(frame) - 4 * is_cut, made, sent, at, len(pieces)))
+        """The frames of a connection, some not kept whole."""
+        frames = list[Recorded]()
+        for sent in made.segments:
+            frame, is_cut = ethernet(made.datagram(sent)), self.chance.random() < self.cut and len(
+                sent.content) > 4
+            sent.lacks = 4 if is_cut else 0
+            frames.append(Recorded(frame, len(frame) - 4 * is_cut, made, sent))
         return frames
 
     def disturbed(self, frames: list[Recorded]) -> list[Recorded]:
@@ -250,6 +240,8 @@ class Side:
 
     def __init__(self, size: int) -> None:
         self.there, self.shown = bytearray(size), 0
+        # FIN was recorded, or an acknowledgment counts it
+        self.is_ended = self.has_ended = False
 
     def add(self, begin: int, size: int) -> None:
         self.there[begin:begin + size] = b'\1' * size
@@ -263,21 +255,15 @@ class Side:
 class Model:
     """Takes the frames of one connection."""
 
-    def __init__(self, connection: Connection, counts: dict[int, int]) -> None:
-        self.connection, self.counts = connection, counts  # how many fragments each segment has
+    def __init__(self, connection: Connection) -> None:
+        self.connection = connection
         self.sides = [Side(len(content)) for content in connection.streams]
-        self.parts: dict[int, set[int]] = collections.defaultdict(set)
         self.seen = set[str]()
         self.closed = [False, False]  # by FIN or RST of its own
         self.is_odd = self.is_unsure = self.begins_inside = False
 
     def take(self, one: Recorded) -> None:
-        sent, parts = one.sent, self.parts[id(one.sent)]
-        if one.part in parts:
-            return
-        parts.add(one.part)
-        if len(parts) < one.parts:
-            return
+        sent = one.sent
         if sent.extra:
             is_far, is_known = sent.acknowledged >= FAR, bool(
                 self.seen or self.sides[1 - sent.side].shown)
@@ -294,8 +280,11 @@ class Model:
             own.add(sent.begin, len(sent.content) - sent.lacks)
         own.shown = max(own.shown, min(sent.end if not sent.flags & RST else sent.begin,
                                        len(own.there)))
+        if sent.flags & FIN:
+            own.is_ended = True
         if sent.flags & ACK:
             other.shown = max(other.shown, min(sent.acknowledged, len(other.there)))
+            other.has_ended |= sent.acknowledged > len(other.there)
         self.closed[sent.side] |= bool(sent.flags & (FIN | RST))
 
     def whole(self) -> bool | None:
@@ -304,17 +293,17 @@ class Model:
             return None if self.is_odd else True
         if self.is_odd or not all(side.is_whole for side in self.sides):
             return False
-        if any(side.shown % size for side, size in zip(self.sides, (CALL, REPLY))) or not self.seen:
+        if any(side.shown % size for side, size in zip(self.sides, (CALL, REPLY))):
             return False
-        if any(len(parts) < self.counts[number] for number, parts in self.parts.items()):
-            return None
-        return None if self.is_unsure or 'syn-ack' not in self.seen else True
+        if self.seen != {'syn', 'syn-ack'} or any(
+                side.has_ended and not side.is_ended for side in self.sides):
+            return False
+        return None if self.is_unsure else True
 
 
 def modelled(connections: list[Connection], frames: list[Recorded]) -> dict[int, Whole]:
     """What the model says, by the client's port."""
-    counts = {id(one.sent): one.parts for one in frames}
-    models = {id(connection): Model(connection, counts) for connection in connections}
+    models = {id(connection): Model(connection) for connection in connections}
     for one in frames:
         models[id(one.connection)].take(one)
     found = dict[int, Whole]()
@@ -351,10 +340,7 @@ def wrong_of_port(port: int, whole: Whole, made: Make, recording: bytes,
     """What is wrong with what is said of the connections of a port."""
     wrong, rows = [], rows_of(verdicts, port)
     is_good = all(row.state == 'ok' for row in rows) and len(rows) == whole.with_bytes
-    is_part = any(row.state == 'in part' and not row.client and 'fragments' in row.message
-                  for row in verdicts)
-    if whole.is_whole is not None and is_good is not whole.is_whole and not (
-            is_part and not whole.is_whole):
+    if whole.is_whole is not None and is_good is not whole.is_whole:
         wrong.append(f'port {port}: {whole}, but {[(row.state, row.message) for row in rows]}')
     wanted = [one.streams for one in made.connections if one.port == port]
     if is_good and not all(any(client.startswith(one) and server.startswith(two)
@@ -387,8 +373,7 @@ class Undisturbed(Make):
                 for frame in self.frames_of(self.connection(700 + number))]
 
 
-# Of Ethernet from the kind on, of IP, and of TCP, which only the first fragment has
-HEADERS, HEADERS_OF_IP = range(12, 54), range(12, 34)
+HEADERS = range(12, 54)  # of Ethernet from the kind on, of IP, and of TCP
 
 
 def changed(chance: random.Random, one: Recorded) -> list[Recorded]:
@@ -402,7 +387,7 @@ def changed(chance: random.Random, one: Recorded) -> list[Recorded]:
     if way == 'shortened':
         frame = frame[:chance.randrange(len(frame))]
         return [one._replace(frame=frame, kept=len(frame))]
-    at = chance.choice(HEADERS_OF_IP if one.part else HEADERS)
+    at = chance.choice(HEADERS)
     other = (frame[at] + chance.choice((1, 2, 4, 8, 16, 32, 64, 128,
                                         chance.randrange(1, 256)))) % 256
     return [one._replace(frame=frame[:at] + bytes([other]) + frame[at + 1:])]
@@ -421,8 +406,7 @@ def records_of(streams: typing.Iterable[bytes]) -> collections.Counter[bytes]:
 
 def recorded_in(made: Make, frames: list[Recorded]) -> tuple[bool, collections.Counter[bytes]]:
     """Whether the model finds nothing missing in these frames, and the records that they bring."""
-    counts = {id(one.sent): one.parts for one in frames}
-    models = {id(connection): Model(connection, counts) for connection in made.connections}
+    models = {id(connection): Model(connection) for connection in made.connections}
     for one in frames:
         models[id(one.connection)].take(one)
     brought = records_of(content[:side.shown] for model in models.values()
@@ -551,19 +535,6 @@ def one_frame_that_is_far(tools: Tools) -> None:
              'does')
 
 
-def much_in_flight(tools: Tools) -> None:
-    """Acknowledgements that lag behind by 200 MB show nothing that is missing."""
-    stream_of_much = streams.Stream(spool.Spool(), streams.Budget(), None)
-    stream_of_much.first, stream_of_much.next, stream_of_much.acked = (50, 5_300_000_000,
-                                                                       5_100_000_000)
-    for position in (5_100_000_000, 5_100_000_100, 5_040_000_000, 5_290_000_000):
-        tools.want(f'{position}', stream_of_much.position((50 + position) % (1 << 32)), position)
-        stream_of_much.is_acknowledged((50 + position) % (1 << 32), 1)
-        tools.want(f'{position}, what it shows', (stream_of_much.known_end <= stream_of_much.next,
-                                                  stream_of_much.far),
-                   (True, None))
-
-
 # --- Stray flags ---
 
 def stray_resets(tools: Tools) -> None:
@@ -650,38 +621,3 @@ def other_content_beyond_an_end(tools: Tools) -> None:
                   *exchanged(talk, [10]), talk.frame(1, ACK, again, ahead=-REPLY),
                   *exchanged(talk, range(11, 20)), *talk.closed()]
         told(tools, row, pcap(frames), int(row != 'ok'), [row], note)
-
-
-def bytes_of_a_gap_that_was_given_up(tools: Tools) -> None:
-    """Bytes that come after 8 MB behind them were held are counted."""
-    talk = Talk()
-    frames = [*talk.opened(), *exchanged(talk, range(10))]
-    lost = talk.sent(0, fragment(CALLS[10]))
-    many = [talk.sent(0, fragment(CALLS[11])), *(talk.sent(0, bytes(60_000)) for _ in range(150))]
-    with taken_of(pcap([*frames, *many, lost])) as taken:
-        connection = taken.connections[0]
-        tools.want('late', (connection.missing, f'{CALL} bytes left out' in connection.lacks
-                            or connection.lacks), (CALL, True))
-
-
-def stale_fragments(tools: Tools) -> None:
-    """A fragment twice begins no other datagram; one that waits is given up."""
-    lost = '1 datagram of TCP is not taken, since not all fragments of it came in time'
-    for (cut, hosts, limit), is_whole, hours in itertools.product(
-            ((fragments, ('192.0.2.7', '192.0.2.1'), 30),
-             (fragments_6, ('2001:db8::7', '2001:db8::1'), 60)), (True, False), (0, 1)):
-        talk = Talk(hosts=hosts)
-        opened, both = talk.opened(), list[list[bytes]]()
-        for at in (0, 5):
-            content = stream(CALLS[at:at + 5])
-            both.append([ethernet(piece) for piece in cut(talk.datagram(0, ACK, content), 64, 7)])
-            talk.next[0] += len(content)
-        first, second = both
-        left = opened + (first if is_whole else first[:-2]) + first[-1:]
-        with taken_of(with_times(left + second, {len(left): 3_600 if hours else limit + 10})
-                      ) as found:
-            content = found.connections[0].client.read(0, 1 << 20) if found.connections else b''
-            tools.want(f'{limit} {is_whole} {hours}', content, stream(CALLS[:10]) if is_whole
-                       else stream(CALLS[5:10]) if content else b'')
-            tools.want('told', [remark.reason for remark in found.remarks],
-                       [] if is_whole else [lost])
