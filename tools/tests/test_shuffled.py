@@ -22,7 +22,7 @@ from ..nfs3tools.shared.places import SIDES
 from .cases import try_seeds
 from .scripts import CALL, CALLS, REPLIES, REPLY, Tools, stream, taken_of, timed, verdicts_on
 
-FAR = (1 << 30) + 1
+FAR = (1 << 30) + 5_000  # beyond the last byte, also if some come late
 
 
 # --- What is sent ---
@@ -240,6 +240,7 @@ class Side:
 
     def __init__(self, size: int) -> None:
         self.there, self.shown = bytearray(size), 0
+        self.first: int | None = None  # where its first frame begins
         # FIN was recorded, or an acknowledgment counts it
         self.is_ended = self.has_ended = False
 
@@ -268,12 +269,14 @@ class Model:
             is_far, is_known = sent.acknowledged >= FAR, bool(
                 self.seen or self.sides[1 - sent.side].shown)
             self.is_odd |= bool(sent.content) or is_far and is_known
-            self.is_unsure |= bool(sent.flags & FIN) or is_far
+            self.is_unsure = True
             return
         own, other = self.sides[sent.side], self.sides[1 - sent.side]
         self.begins_inside |= not self.seen and not sent.flags & SYN
+        own.first = max(0, sent.begin) if own.first is None else own.first
         if sent.flags & SYN:
             self.seen.add('syn-ack' if sent.flags & ACK else 'syn')
+            self.is_unsure |= own.first > 0  # it looks like one that begins another connection
         if sent.content and not sent.flags & RST:
             # SYN and the first bytes may come late
             self.is_unsure |= not self.seen and sent.begin > 0 and not any(own.there)
@@ -504,35 +507,44 @@ def told(tools: Tools, what: str, recording: bytes, status: int, rows: list[str]
 
 # --- Far numbers ---
 
+BEYOND = 'bytes far beyond the last may be missing'
+TOLD_OF_STRAYS = 'client: %s a sequence number far from all others, first frame %d'
+
+
 def much_is_missing_in_the_middle(tools: Tools) -> None:
-    """However much it is, what comes after it is judged."""
-    for lost in (1_000, 70_000_000, 1_000_000_000, 2_200_000_000, 3_000_000_000, 4_200_000_000):
+    """What comes after up to 1 GiB is judged; more is counted, and in part."""
+    for lost in (1_000, 70_000_000, 1_000_000_000):
         for bad, row in ((None, f'ok in part: 20 calls, {2 * lost:,} bytes missing'),
                          (15, RECORD_16 % (3 + 2 * 16))):
             told(tools, f'{lost} bytes, {bad}',
                  with_frames(lambda talk: moved(talk, lost, lost), bad), 1, [row])
+    # (4,200,000,000 bytes are the same as 94,967,296 bytes backwards)
+    for lost, row, note in ((2_200_000_000, BEYOND, TOLD_OF_STRAYS % ('22 frames have', 24)),
+                            (3_000_000_000, BEYOND, ''),
+                            (4_200_000_000, f'{10 * CALL} bytes left out', '')):
+        told(tools, f'{lost} bytes', with_frames(lambda talk: moved(talk, lost, 0)), 1,
+             [f'ok in part: 10 calls, {row}'], note)
 
 
 def much_is_missing_at_the_end(tools: Tools) -> None:
-    """However much it is, if several frames show it."""
-    for lost in (60_000_000, 70_000_000, 200_000_000, 2_000_000_000, 3_000_000_000):
+    """Up to 1 GiB, it is known how much it is."""
+    for lost in (60_000_000, 70_000_000, 200_000_000, 1_000_000_000, 2_000_000_000):
         for is_acknowledged in (True, False):
             talk = Talk()
             frames = [*talk.opened(), *exchanged(talk, range(10)), *moved(talk, lost, lost)]
             frames += [talk.frame(side, ACK) for side in (0, 1) if is_acknowledged]
+            row = BEYOND if lost > FAR else f'{2 * lost:,} bytes missing'
             told(tools, f'{lost} bytes, {is_acknowledged}', pcap(
                 [*frames, talk.frame(0, FIN | ACK), talk.frame(1, FIN | ACK, ahead=0)]), 1,
-                 [f'ok in part: 10 calls, {2 * lost:,} bytes missing'])
+                 [f'ok in part: 10 calls, {row}'])
 
 
 def one_frame_that_is_far(tools: Tools) -> None:
-    """An acknowledgement that no other frame agrees with is reported."""
-    for far in (1 << 30, 3_000_000_000):
+    """An acknowledgement more than 1 GiB beyond the last byte is counted."""
+    for far in (FAR, 3_000_000_000):
         told(tools, f'{far}', with_frames(lambda talk: [
             *moved(talk, far, 0), talk.frame(1, ACK), *moved(talk, -far, 0)]), 1,
-             ['ok in part: 20 calls, bytes far beyond the last may be missing'],
-             'client: frame 24 shows bytes far beyond the last that is known, and no other frame '
-             'does')
+             [f'ok in part: 20 calls, {BEYOND}'], TOLD_OF_STRAYS % ('1 frame has', 24))
 
 
 # --- Stray flags ---
@@ -543,36 +555,31 @@ def stray_resets(tools: Tools) -> None:
         def reset(talk: Talk) -> list[bytes]:
             return [talk.frame(1, RST, ahead=ahead)]
         told(tools, f'{ahead}', with_frames(reset, 15), 1, [RECORD_16 % 36])
-        told(tools, f'{ahead}, before any payload', with_frames(reset, at=0), 0, ['ok'],
-             'frame 4: a RST that its receiver does not expect')
+        told(tools, f'{ahead}, before any payload', with_frames(reset, at=0), 0, ['ok'])
 
 
 def stray_ends(tools: Tools) -> None:
-    """A FIN after which the stream goes on, acknowledged, is none; else it is counted."""
-    for side in (0, 1):
-        for bad, row in ((None, 'ok'), (15, RECORD_16 % 36)):
-            told(tools, f'{side} {bad}', with_frames(
-                lambda talk: [talk.frame(side, FIN | ACK)], bad), bad is not None, [row])
-    note = f'server: {REPLY} bytes fit nowhere in the stream, and are left out, first frame 25'
-    for what, note in (('left out', note), ('missing', '')):
-        talk = Talk()
-        frames = [*talk.opened(), *exchanged(talk, range(10))]
-        last = ([*moved(talk, 0, REPLY), talk.frame(1, FIN | ACK), *moved(talk, 0, -REPLY),
-                 talk.frame(1, FIN | ACK)] if what == 'missing' else
-                [talk.frame(1, FIN | ACK), talk.frame(1, ACK, reply(9, False))])
-        told(tools, what, pcap([*frames, *last, talk.frame(0, FIN | ACK)]), 1,
-             [f'ok in part: 10 calls, {REPLY} bytes {what}'], note)
+    """Bytes after a FIN are none of the stream, and are counted: then nobody is blamed."""
+    for side, size in ((0, 10 * CALL), (1, 10 * REPLY)):
+        for bad in (None, 15):
+            told(tools, f'{side} {bad}', with_frames(lambda talk: [talk.frame(side, FIN | ACK)],
+                                                     bad), 1,
+                 [f'ok in part: {10 if side == 0 else 20} calls, {size} bytes left out'])
+    talk = Talk()
+    frames = [*talk.opened(), *exchanged(talk, range(10)), talk.frame(1, FIN | ACK),
+              talk.frame(1, ACK, reply(9, False)), talk.frame(0, FIN | ACK)]
+    told(tools, 'left out', pcap(frames), 1, [f'ok in part: 10 calls, {REPLY} bytes left out'],
+         f'server: {REPLY} bytes fit nowhere in the stream, and are left out, first frame 25')
 
 
 def stray_beginnings(tools: Tools) -> None:
-    """A SYN that fits no connection begins none if the one that is there goes on."""
+    """A SYN with another number begins a connection; what goes on with the old one is of it."""
     for (flags, side), ahead in itertools.product(
             ((SYN, 0), (SYN | ACK, 1), (SYN | ACK, 0), (SYN, 1)), (0x30000000, 5_000, -300)):
-        for bad, row, note in ((None, 'ok', 'frame 24: a SYN that fits no connection'),
-                               (15, RECORD_16 % 36, '')):
+        for bad, row in ((None, 'ok'), (15, RECORD_16 % 36)):
             told(tools, f'{flags} {side} {ahead} {bad}', with_frames(
                 lambda talk: [talk.frame(side, flags, ahead=ahead)], bad), bad is not None, [row],
-                 note)
+                 'no payload')
 
 
 def ports_that_are_used_again(tools: Tools) -> None:
@@ -585,12 +592,8 @@ def ports_that_are_used_again(tools: Tools) -> None:
     first, again = Talk(), Talk()
     refused = [*first.opened(), *exchanged(first, range(10), 5), *first.closed()]
     newer = [*again.opened(), *exchanged(again, range(10)), *again.closed()]
-    for what, frames in (('the same numbers', refused + newer),
-                         ('after RST', refused[:-2] + [first.frame(0, RST)] + newer)):
-        rows = ['ok', 'server record 6 byte 20: BadEnum, frame 15']
-        told(tools, 'refused, then ' + what, pcap(frames), 1, rows)
-        told(tools, 'refused, and seconds later ' + what, with_times(frames, {17: 5, 30: 5}), 1,
-             rows)
+    told(tools, 'the same numbers are of the same connection', pcap(refused + newer), 1,
+         ['server record 6 byte 20: BadEnum, frame 15'], '1 frame repeats bytes with other content')
 
 
 def other_content(tools: Tools) -> None:
@@ -613,11 +616,10 @@ def other_content(tools: Tools) -> None:
 
 def other_content_beyond_an_end(tools: Tools) -> None:
     """Bytes beyond a FIN count if they come again with other content."""
-    for again, row, note in ((reply(10, False), 'ok', ''),
-                             (b'x' * REPLY, 'ok in part: 20 calls, 1 frame with other content',
-                              '1 frame repeats bytes with other content, first frame 27')):
+    for again, more in ((reply(10, False), ''), (b'x' * REPLY, '1 frame with other content, ')):
         talk = Talk()
         frames = [*talk.opened(), *exchanged(talk, range(10)), talk.frame(1, FIN | ACK),
                   *exchanged(talk, [10]), talk.frame(1, ACK, again, ahead=-REPLY),
                   *exchanged(talk, range(11, 20)), *talk.closed()]
-        told(tools, row, pcap(frames), int(row != 'ok'), [row], note)
+        told(tools, f'again {more}', pcap(frames), 1,
+             [f'ok in part: 20 calls, {more}{10 * REPLY} bytes left out'])

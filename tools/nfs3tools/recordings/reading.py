@@ -70,9 +70,9 @@ class ReadRecording:
     cut, damage: why not all of it could be read: it ends inside a frame, or cannot go on
     """
 
-    def __init__(self, path: str, folder: 'tempfile.TemporaryDirectory[str]',
+    def __init__(self, file: RecordingFile, folder: 'tempfile.TemporaryDirectory[str]',
                  damage: Damaged | None) -> None:
-        self.folder, self.file = folder, RecordingFile(path)
+        self.folder, self.file = folder, file
         self.index = index = Index(mapped(os.path.join(folder.name, INDEX_FILE)))
         number = index.frames
         self.cut = self.damage = None
@@ -149,23 +149,27 @@ def write(file: typing.IO[bytes], block: bytes) -> None:
         raise OSError(failed.errno, failed.strerror or str(failed), 'a temporary file') from failed
 
 
-def read_recording(path: str, damage: Damaged | None = None) -> ReadRecording:
-    """Reads a recording that is a file as it is. Raises `NoRecording` if the program refuses it, and
-    what `run_side_by_side` does."""
+def read_recording(path: str, damage: Damaged | None = None,
+                   has_capture: bool = True) -> ReadRecording:
+    """Reads a recording that is a file as it is, with a capture of its whole connections if one is
+    wanted. Raises `NoRecording` if the program refuses it, and what `run_side_by_side` does."""
     program = program_beside(program_path(), READER)
     folder = tempfile.TemporaryDirectory(prefix='nfs3canon')
-    index, capture = (os.path.join(folder.name, name) for name in (INDEX_FILE, CAPTURE_FILE))
+    file = RecordingFile(path)
+    # (as standard input, since the program takes no names that are no text)
+    commands = [[program, *option, '/dev/stdin', os.path.join(folder.name, name)]
+                for option, name in ((('--index',), INDEX_FILE), ((), CAPTURE_FILE))]
     try:
-        answer, _ = run_side_by_side([[program, '--index', path, index], [program, path, capture]],
-                                     STATUSES_OF_READER)
-        if not os.path.exists(index):
+        answer = run_side_by_side(commands if has_capture else commands[:1], STATUSES_OF_READER,
+                                  file.file)[0]
+        if not os.path.exists(commands[0][-1]):
             raise NoRecording(printable((answer.error or answer.out).strip()))
-        return ReadRecording(path, folder, damage)
-    except BadIndex:
+        return ReadRecording(file, folder, damage)
+    except BaseException as failed:
+        file.close()
         folder.cleanup()
-        raise NoRecording('what nfs3streams wrote of it is no index') from None
-    except BaseException:
-        folder.cleanup()
+        if isinstance(failed, BadIndex):
+            raise NoRecording('what nfs3streams wrote of it is no index') from failed
         raise
 
 

@@ -164,7 +164,8 @@ def keep_records(stream: Stream, side: Side, cut: str) -> KeptRanges:
     """Keeps of each run of a stream what follows from the first record on. `cut` is why a record at
     its end that is cut is none of its sender's fault."""
     kept, gaps, parts = KeptRanges(missing=missing_of(stream)), gaps_of(stream), parts_of(stream)
-    kept.lacks, left_out = bool(gaps) or not stream.is_begin, 0
+    kept.lacks = not stream.is_begin or bool(gaps or stream.left_out or stream.strays)
+    left_out = 0
     if stream.size and not stream.is_begin:
         kept.reasons.append(BEGUN_BEFORE)
     for part in parts:

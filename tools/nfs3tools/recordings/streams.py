@@ -62,6 +62,8 @@ class Stream:
         self.opened, self.end, self.acknowledged, self.reset = (
             mark and Mark(mark.position - base, mark.frame)
             for mark in (begin, end, acknowledged, reset))
+        if self.end and self.end.position < 0:
+            self.end = None  # it is of no byte of this stream
         self.strays, self.stray = row.marks[8:]
         self.pairs = row.pairs
         self.positions = self.runs[::RUN_WORDS]

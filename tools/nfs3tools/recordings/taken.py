@@ -27,11 +27,11 @@ from .connections import Connection, connections_in
 from .container import (
     CHUNK, MOST_BYTES, MOST_CONNECTIONS, BadCapture, Container, capture_of, place_in)
 from .coverage import NFS_PORTS, PORT_MAPPER, Covered, called_in, of_connection
-from .extract import pcap_of
+from .extract import pcapng_of
 from .index import SEQUENCE_SPACE
 from .parts import Part, files_of, pattern_beside, skipped_of
 from .passed_over import notes_of, nothing_in, others_in, remarks_of
-from .reading import Frame, ReadRecording, plain_file, read_recording
+from .reading import FileRange, ReadRecording, plain_file, read_recording, write
 from .records import Extent, ReadableBytes, Window, body_of, extent_of, extents, fragments
 from .selection import (
     BEGUN_BEFORE, Options, Selected, count, is_of_rpc, missing_of, select)
@@ -403,35 +403,66 @@ def take_file(path: str, options: Options, progress: Progress) -> Taken:
     return taken
 
 
-def read_source(source: Source, path: str, progress: Progress) -> ReadRecording:
+def read_source(source: Source, path: str, progress: Progress,
+                has_capture: bool = True) -> ReadRecording:
     """Reads a recording, which may be compressed."""
     check_recording(source)
     with plain_file(source, path, progress) as (name, damage):
-        return read_recording(name, damage)
+        return read_recording(name, damage, has_capture)
+
+
+class PartRead(typing.NamedTuple):
+    """A part of a recording that was read: its file, the time of its first frame, how many it has,
+    why not all of it could be read, and where it is in a file of all parts."""
+    path: str
+    begun: int
+    frames: int
+    cut: str | None
+    damage: str | None
+    place: FileRange
 
 
 def take_parts(files: list[str], options: Options, progress: Progress) -> Taken:
     """Takes several files as the parts of one recording, in the order of the times of their first
     frames, and of their numbers if these are equal."""
-    reads = list[tuple[str, ReadRecording]]()
-    for path in files:
-        with opened(path) as file:
-            try:
-                reads.append((path, read_source(Source(file), path, progress)))
-            except (NoRecording, Damaged) as refused:
-                raise NotTaken(f'{escaped(path)}: {refused}') from refused
-    reads.sort(key=lambda one: (one[1].begun, len(one[0]), one[0]))
-    with tempfile.NamedTemporaryFile(prefix='nfs3canon') as whole_recording:
-        frames = list(itertools.chain.from_iterable(read.frames() for _, read in reads))
-        for block in pcap_of(frames):
-            whole_recording.write(block)
-        whole_recording.flush()
-        taken = taken_in(read_recording(whole_recording.name), options)
-    for path, read in reads:
-        before = sum(one.index.frames for _, one in reads[:len(taken.parts)])
-        taken.parts.append(Part(path, before))
-        add_end(taken, read, options, f'{path}: ')
+    with tempfile.TemporaryFile() as unsorted, tempfile.NamedTemporaryFile(
+            prefix='nfs3canon') as joined:
+        parts = [part_read(path, progress, unsorted) for path in files]
+        parts.sort(key=lambda part: (part.begun, len(part.path), part.path))
+        for part in parts:
+            copy_range(unsorted, part.place, joined)
+        joined.flush()
+        taken = taken_in(read_recording(joined.name), options)
+    before = 0
+    for part in parts:
+        taken.parts.append(Part(part.path, before))
+        add_end(taken, part, options, f'{part.path}: ')
+        before += part.frames
     return taken
+
+
+def part_read(path: str, progress: Progress, unsorted: typing.IO[bytes]) -> PartRead:
+    """Reads a part of a recording, and appends its frames to a file."""
+    try:
+        with opened(path) as file:
+            read = read_source(Source(file), path, progress, has_capture=False)
+    except (NoRecording, Damaged) as refused:
+        raise NotTaken(f'{escaped(path)}: {refused}') from refused
+    with contextlib.closing(read):
+        begin = unsorted.tell()
+        for piece in pcapng_of(read.frames()):
+            write(unsorted, piece)
+        return PartRead(path, read.begun, read.index.frames, read.cut, read.damage,
+                        (begin, unsorted.tell() - begin))
+
+
+def copy_range(source: typing.IO[bytes], place: FileRange, target: typing.IO[bytes]) -> None:
+    at, size = place
+    source.seek(at)
+    while size:
+        block = source.read(min(size, READ_AT_ONCE))
+        write(target, block)
+        size -= len(block)
 
 
 @contextlib.contextmanager
@@ -481,7 +512,8 @@ def taken_in(read: ReadRecording, options: Options) -> Taken:
     return taken
 
 
-def add_end(taken: Taken, read: ReadRecording, options: Options, name: str = '') -> None:
+def add_end(taken: Taken, read: ReadRecording | PartRead, options: Options,
+            name: str = '') -> None:
     """Adds why not all of a recording could be read. A name is before what is said."""
     if read.cut and options.is_growing:
         taken.notes.append(name + read.cut)

@@ -99,15 +99,15 @@ def expected_of(command: list[str], answer: Answer, expected: typing.Mapping[int
     return answer
 
 
-def run_side_by_side(commands: typing.Sequence[list[str]],
-                     expected: typing.Mapping[int, str]) -> list[Answer]:
+def run_side_by_side(commands: typing.Sequence[list[str]], expected: typing.Mapping[int, str],
+                     stdin: Redirection = subprocess.DEVNULL) -> list[Answer]:
     """Runs commands at once, and returns their answers. Raises what `run_program` does."""
     with contextlib.ExitStack() as stack:
         running = []
         for command in commands:
             out, error = (stack.enter_context(tempfile.TemporaryFile()) for _ in range(2))
             running.append((stack.enter_context(
-                begun(command, stdin=subprocess.DEVNULL, stdout=out, stderr=error)), out, error))
+                begun(command, stdin=stdin, stdout=out, stderr=error)), out, error))
         answers = [Answer(process.wait(), text_of(out), text_of(error))
                    for process, out, error in running]
     return [expected_of(*one, expected) for one in zip(commands, answers)]
