@@ -9,6 +9,7 @@ import tempfile
 import typing
 from collections.abc import Iterator, Sequence
 
+from ..shared.outputs import held
 from ..shared.printed import printable
 from ..shared.programs import program_beside, program_path, run_side_by_side
 from ..shared.progress import Progress
@@ -90,8 +91,9 @@ class ReadRecording:
         return path if os.path.exists(path) else None
 
     def close(self) -> None:
-        self.file.close()
-        self.folder.cleanup()
+        with held():
+            self.file.close()
+            self.folder.cleanup()
 
     @property
     def times(self) -> memoryview:
@@ -154,8 +156,9 @@ def read_recording(path: str, damage: Damaged | None = None,
     """Reads a recording that is a file as it is, with a capture of its whole connections if one is
     wanted. Raises `NoRecording` if the program refuses it, and what `run_side_by_side` does."""
     program = program_beside(program_path(), READER)
-    folder = tempfile.TemporaryDirectory(prefix='nfs3canon')
     file = RecordingFile(path)
+    with held():
+        folder = tempfile.TemporaryDirectory(prefix='nfs3canon')
     # (as standard input, since the program takes no names that are no text)
     commands = [[program, *option, '/dev/stdin', os.path.join(folder.name, name)]
                 for option, name in ((('--index',), INDEX_FILE), ((), CAPTURE_FILE))]
@@ -166,8 +169,9 @@ def read_recording(path: str, damage: Damaged | None = None,
             raise NoRecording(printable((answer.error or answer.out).strip()))
         return ReadRecording(file, folder, damage)
     except BaseException as failed:
-        file.close()
-        folder.cleanup()
+        with held():
+            file.close()
+            folder.cleanup()
         if isinstance(failed, BadIndex):
             raise NoRecording('what nfs3streams wrote of it is no index') from failed
         raise
