@@ -2,14 +2,17 @@
 judged, and the row that is printed of one."""
 from __future__ import annotations
 
+import os
 import sys
 import time
 import typing
 from collections import Counter
 from collections.abc import Iterable, Mapping, Sequence
+from concurrent.futures import ThreadPoolExecutor
 
 from ..exchanges.kept import Kept, host_of
 from ..recordings.coverage import Allowed, Counts, Covered, counts_of
+from ..recordings.reading import ReadRecording
 from ..recordings.selection import BEGUN_BEFORE, count
 from ..recordings.taken import FrameRef, Taken, TakenConnection
 from ..shared.places import Fault, FilePlace, Place, parse_fault
@@ -106,19 +109,31 @@ def judged_together(program: str, recording: str, taken: Taken) -> list[Verdict]
     """What the program says of all connections, by one run on the capture of all of them, if it
     finds no fault; else nothing. How many calls and replies each has is counted here, and together
     they are as many as the program counts. Raises `Died`."""
-    capture = taken.read.capture if taken.read and taken.is_packed else None
-    if capture is None:
+    if taken.read is None or not taken.is_packed:
         return []
     begin = time.monotonic()
-    counts = checked_counts(run_program(program, ['check', capture], CHECKED))
-    numbers = [(one.client.count_records(), one.server.count_records())
-               for one in taken.connections] if counts else []
+    with ThreadPoolExecutor(1) as thread:
+        counting = thread.submit(counts_of_capture, program, taken.read)
+        numbers = [(one.client.count_records(), one.server.count_records())
+                   for one in taken.connections]
+        counts = counting.result()
     if not counts or tuple(map(sum, zip(*numbers))) != counts[1:]:
         return []
     seconds = (time.monotonic() - begin) / max(1, len(numbers))
     return [of_valid(recording, taken, connection, seconds)._replace(
         calls=calls, replies=replies)
         for connection, (calls, replies) in zip(taken.connections, numbers)]
+
+
+def counts_of_capture(program: str, read: ReadRecording) -> tuple[int, ...]:
+    """Returns how many connections, calls and replies the program counts in the capture of whole
+    connections; nothing if it finds a fault, or there is none. Raises `Died`."""
+    capture = read.capture()
+    if capture is None:
+        return ()
+    counts = checked_counts(run_program(program, ['check', capture], CHECKED))
+    os.unlink(capture)  # now, since that of a large file takes a while
+    return counts
 
 
 def of_valid(recording: str, taken: Taken, connection: TakenConnection,

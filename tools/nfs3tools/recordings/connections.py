@@ -20,7 +20,8 @@ class Connection:
 
     def __init__(self, number: int, row: ConnectionRow, file: PlacesReader,
                  times: memoryview) -> None:
-        both = [Stream(stream or NOTHING_SENT, file, times) for stream in row.streams]
+        both = [Stream(stream or NOTHING_SENT, file, times, row.is_packed)
+                for stream in row.streams]
         turn = sorted((0, 1), key=lambda end: (
             row.streams[end] is None, first_frame(both[end], both[1 - end])))
         self.number, self.is_packed = number, row.is_packed

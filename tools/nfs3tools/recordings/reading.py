@@ -11,7 +11,7 @@ from collections.abc import Iterator, Sequence
 
 from ..shared.outputs import held
 from ..shared.printed import printable
-from ..shared.programs import program_beside, program_path, run_side_by_side
+from ..shared.programs import Running, program_beside, program_path, run_side_by_side
 from ..shared.progress import Progress
 from .index import (
     AT_ITS_END, CUT_SHORT, ENDINGS, HAS_SEGMENT, HEADER_IS_CUT, BadIndex, Index)
@@ -65,15 +65,15 @@ class RecordingFile:
 
 
 class ReadRecording:
-    """A recording, its index, which is mapped, and a capture of its whole connections, in a folder
-    that `close` removes.
+    """A recording, its index, which is mapped, and perhaps a capture of its whole connections,
+    which is written meanwhile, in a folder that `close` removes.
 
     cut, damage: why not all of it could be read: it ends inside a frame, or cannot go on
     """
 
     def __init__(self, file: RecordingFile, folder: 'tempfile.TemporaryDirectory[str]',
-                 damage: Damaged | None) -> None:
-        self.folder, self.file = folder, file
+                 damage: Damaged | None, packing: Running | None) -> None:
+        self.folder, self.file, self.packing = folder, file, packing
         self.index = index = Index(mapped(os.path.join(folder.name, INDEX_FILE)))
         number = index.frames
         self.cut = self.damage = None
@@ -84,14 +84,17 @@ class ReadRecording:
             why = str(damage or ENDINGS[index.ended])
             self.damage = f'the recording is damaged after frame {number}: {why}'
 
-    @property
     def capture(self) -> str | None:
-        """The name of the capture, if the connections fit one."""
+        """Returns the name of the capture, once it is written, if the connections fit one."""
+        if self.packing is not None:
+            self.packing.answer(STATUSES_OF_READER)
         path = os.path.join(self.folder.name, CAPTURE_FILE)
         return path if os.path.exists(path) else None
 
     def close(self) -> None:
         with held():
+            if self.packing is not None:
+                self.packing.stop()
             self.file.close()
             self.folder.cleanup()
 
@@ -116,6 +119,8 @@ class ReadRecording:
         """Returns how many frames lack payload or headers, since fewer bytes were recorded than
         sent."""
         index = self.index
+        if index.sizes == index.wires:
+            return 0
         return sum(size < wire and outcome in (HAS_SEGMENT, HEADER_IS_CUT)
                    for outcome, size, wire in zip(index.outcomes, index.sizes, index.wires))
 
@@ -152,29 +157,32 @@ def write(file: typing.IO[bytes], block: bytes) -> None:
 
 
 def read_recording(path: str, damage: Damaged | None = None,
-                   has_capture: bool = True) -> ReadRecording:
-    """Reads a recording that is a file as it is, with a capture of its whole connections if one is
-    wanted. Raises `NoRecording` if the program refuses it, and what `run_side_by_side` does."""
+                   has_capture: bool = False) -> ReadRecording:
+    """Reads a recording that is a file as it is. A capture of its whole connections is written
+    meanwhile if one is wanted. Raises `NoRecording` if the program refuses it, and what
+    `run_side_by_side` does."""
     program = program_beside(program_path(), READER)
-    file = RecordingFile(path)
-    with held():
-        folder = tempfile.TemporaryDirectory(prefix='nfs3canon')
-    # (as standard input, since the program takes no names that are no text)
-    commands = [[program, *option, '/dev/stdin', os.path.join(folder.name, name)]
-                for option, name in ((('--index',), INDEX_FILE), ((), CAPTURE_FILE))]
-    try:
-        answer = run_side_by_side(commands if has_capture else commands[:1], STATUSES_OF_READER,
-                                  file.file)[0]
-        if not os.path.exists(commands[0][-1]):
-            raise NoRecording(printable((answer.error or answer.out).strip()))
-        return ReadRecording(file, folder, damage)
-    except BaseException as failed:
+    with contextlib.ExitStack() as stack:
+        file = RecordingFile(path)
+        stack.callback(file.close)
         with held():
-            file.close()
-            folder.cleanup()
-        if isinstance(failed, BadIndex):
-            raise NoRecording('what nfs3streams wrote of it is no index') from failed
-        raise
+            folder = tempfile.TemporaryDirectory(prefix='nfs3canon')
+        stack.callback(folder.cleanup)
+        # (as standard input, since the program takes no names that are no text)
+        index, capture = (os.path.join(folder.name, name) for name in (INDEX_FILE, CAPTURE_FILE))
+        packing = Running([program, '/dev/stdin', capture], file.file) if has_capture else None
+        if packing:
+            stack.callback(packing.stop)
+        answer, = run_side_by_side([[program, '--index', '/dev/stdin', index]], STATUSES_OF_READER,
+                                   file.file)
+        if not os.path.exists(index):
+            raise NoRecording(printable((answer.error or answer.out).strip()))
+        try:
+            read = ReadRecording(file, folder, damage, packing)
+        except BadIndex:
+            raise NoRecording('what nfs3streams wrote of it is no index') from None
+        stack.pop_all()
+    return read
 
 
 def mapped(path: str) -> memoryview:

@@ -22,9 +22,11 @@ class Options(typing.NamedTuple):
 
     ports: of which each connection has one; any connection if there are none
     is_growing: whether it is no loss that the recording ends inside a frame or a record
+    has_capture: whether a capture of the whole connections is written meanwhile
     """
     ports: frozenset[int] = frozenset()
     is_growing: bool = False
+    has_capture: bool = False
 
 
 @dataclasses.dataclass
@@ -72,13 +74,13 @@ class UnbrokenPart(typing.NamedTuple):
 
 
 def parts_of(stream: Stream) -> list[UnbrokenPart]:
-    stretches = stream.stretches()
+    stretches = stream.stretches
     gaps = [stretch.gap for stretch in stretches[1:]] + [stream.gap_at_end()]
     return [UnbrokenPart(stretch.begin, stretch.end, gap) for stretch, gap in zip(stretches, gaps)]
 
 
 def gaps_of(stream: Stream) -> list[Gap]:
-    gaps = [*(stretch.gap for stretch in stream.stretches()), stream.gap_at_end()]
+    gaps = [*(stretch.gap for stretch in stream.stretches), stream.gap_at_end()]
     return [gap for gap in gaps if gap]
 
 
@@ -151,7 +153,7 @@ def is_of_rpc(connection: Connection, ports: frozenset[int]) -> bool:
     served = SERVER_PORTS | {str(port) for port in ports}
     return any(end.rpartition(':')[2] in served for end in connection.ends) or any(
         next(Search(stream, side, part.begin, part.end).places(), None) is not None
-        for stream in connection.streams for part in stream.stretches() for side in SIDES)
+        for stream in connection.streams for part in stream.stretches for side in SIDES)
 
 
 def has_calls(stream: Stream) -> bool:

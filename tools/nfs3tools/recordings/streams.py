@@ -2,6 +2,7 @@
 from __future__ import annotations
 
 import bisect
+import functools
 import typing
 from collections.abc import Iterator, Sequence
 
@@ -48,13 +49,15 @@ class Stream:
     recorded, from the first byte that was.
 
     first: the sequence number of position 0
+    is_whole: whether it is of a connection that nfs3streams found whole
     opened, end, acknowledged, reset: SYN, FIN, the highest acknowledgment, and RST, as far as they
         were recorded
     strays, stray: how many segments have a number that is none of the stream, and the first frame
     """
 
-    def __init__(self, row: StreamRow, file: PlacesReader, times: memoryview) -> None:
-        self.file, self.times, self.runs = file, times, row.runs
+    def __init__(self, row: StreamRow, file: PlacesReader, times: memoryview,
+                 is_whole: bool = False) -> None:
+        self.file, self.times, self.runs, self.is_whole = file, times, row.runs, is_whole
         begin, end, acknowledged, reset = (
             Mark(*row.marks[at:at + 2]) if row.marks[at + 1] else None for at in (0, 2, 4, 6))
         base = begin.position if begin else self.runs[0] if self.runs else FIRST_POSITION
@@ -73,6 +76,8 @@ class Stream:
 
     def changed(self) -> tuple[int, int]:
         """Returns how many frames repeat bytes with other content, and the first of them."""
+        if self.is_whole:
+            return 0, 0
         words, frames = iter(self.pairs), set[int]()
         for _, first, again, last in zip(words, words, words, words):
             size, frame = last & SIZE_OF_RUN, last >> 32
@@ -93,7 +98,7 @@ class Stream:
         """Whether the bytes at position 0 are the first that were sent."""
         return self.opened is not None
 
-    @property
+    @functools.cached_property
     def size(self) -> int:
         """The position after the last byte."""
         if self.low >= self.high:
@@ -130,8 +135,11 @@ class Stream:
             begin, at = stop, at + 1
         return self.file.joined(places) if places else b''
 
+    @functools.cached_property
     def stretches(self) -> list[Stretch]:
-        """Returns the bytes without a gap, in order, each with the gap before it."""
+        """The bytes without a gap, in order, each with the gap before it."""
+        if self.is_whole:
+            return [Stretch(0, self.size, None)] if self.size else []
         found, begin, last, gap = list[Stretch](), 0, 0, None
         for at in range(self.low, self.high):
             start = max(0, self.positions[at] - self.base)

@@ -8,9 +8,9 @@ numbers of `TakenConnection.number`, and records are those of its streams.
 """
 from __future__ import annotations
 
-import array
 import bisect
 import contextlib
+import functools
 import itertools
 import os
 import sys
@@ -32,7 +32,8 @@ from .index import SEQUENCE_SPACE
 from .parts import Part, files_of, pattern_beside, skipped_of
 from .passed_over import notes_of, nothing_in, others_in, remarks_of
 from .reading import FileRange, ReadRecording, plain_file, read_recording, write
-from .records import Extent, ReadableBytes, Window, body_of, extent_of, extents, fragments
+from .records import (
+    Extent, Heads, ReadableBytes, Window, body_of, extent_of, extents, fragments, heads_of)
 from .selection import (
     BEGUN_BEFORE, Options, Selected, count, is_of_rpc, missing_of, select)
 from .sources import NoRecording, Source, check_recording, opened
@@ -79,14 +80,16 @@ class Record(typing.NamedTuple):
 class TakenStream:
     """The bytes of one side that are taken. Those of a capture stay in memory if they are few, else
     in a temporary file; those of a recording are `sent` there."""
-    __slots__ = 'stored', 'sent', 'ranges', 'begins', 'size', 'index'
 
     def __init__(self, stored: ReadableBytes, sent: Stream | None,
                  ranges: list[tuple[int, int]]) -> None:
         self.stored, self.sent, self.ranges = stored, sent, ranges
         self.begins = list(itertools.accumulate((end - begin for begin, end in ranges), initial=0))
         self.size = self.begins[-1]  # bytes
-        self.index: array.array[int] | None = None  # where the records begin
+
+    @functools.cached_property
+    def heads(self) -> Heads:
+        return heads_of(Window(self), self.size)
 
     @property
     def is_all(self) -> bool:
@@ -131,12 +134,9 @@ class TakenStream:
 
     def extent(self, number: int) -> Extent | None:
         """Returns where a record stands, if there is one of this number, from 1."""
-        window = Window(self)
-        if self.index is None:
-            self.index = array.array(
-                'Q', (extent.begin for extent in extents(window, 0, self.size)))
-        return (extent_of(window, self.index[number - 1], self.size)
-                if 0 < number <= len(self.index) else None)
+        begins = self.heads.begins
+        return (extent_of(Window(self), begins[number - 1], self.size)
+                if 0 < number <= len(begins) else None)
 
     def brought(self) -> typing.Iterator[Brought]:
         """Iterates over the frames that brought the bytes, in order of the bytes, if they are of a
@@ -172,7 +172,7 @@ class TakenStream:
 
     def count_records(self) -> int:
         """Returns the number of records, of which the last may be cut."""
-        return sum(1 for _ in extents(Window(self), 0, self.size))
+        return len(self.heads.begins)
 
     def frames(self, begin: int, end: int) -> list[FrameRef]:
         """Returns the frames that brought the bytes, in order of their numbers, each once."""
@@ -270,7 +270,7 @@ class Taken:
 
     def covered_connection(self, connection: TakenConnection) -> Covered:
         """Returns under which word a connection that is taken comes."""
-        covered = of_connection(called_in(connection.client), connection.server_port, self.ports,
+        covered = of_connection(called_in(connection.client.heads), connection.server_port, self.ports,
                                 connection.missing, connection.lacks)
         return covered._replace(number=connection.number, ends=connection.ends)
 
@@ -393,7 +393,7 @@ def take_file(path: str, options: Options, progress: Progress) -> Taken:
         source = Source(file)
         if source.peek(8) in MAGICS:
             return of_capture(source)
-        taken = taken_in(read_source(source, path, progress), options)
+        taken = taken_in(read_source(source, path, progress, options.has_capture), options)
     begun = sum(BEGUN_BEFORE in left_out.lacks for left_out in taken.left_out)
     pattern = pattern_beside(path) if begun else None
     if pattern:
@@ -404,7 +404,7 @@ def take_file(path: str, options: Options, progress: Progress) -> Taken:
 
 
 def read_source(source: Source, path: str, progress: Progress,
-                has_capture: bool = True) -> ReadRecording:
+                has_capture: bool) -> ReadRecording:
     """Reads a recording, which may be compressed."""
     check_recording(source)
     with plain_file(source, path, progress) as (name, damage):
@@ -432,7 +432,7 @@ def take_parts(files: list[str], options: Options, progress: Progress) -> Taken:
         for part in parts:
             copy_range(unsorted, part.place, joined)
         joined.flush()
-        taken = taken_in(read_recording(joined.name), options)
+        taken = taken_in(read_recording(joined.name, None, options.has_capture), options)
     before = 0
     for part in parts:
         taken.parts.append(Part(part.path, before))
@@ -445,7 +445,7 @@ def part_read(path: str, progress: Progress, unsorted: typing.IO[bytes]) -> Part
     """Reads a part of a recording, and appends its frames to a file."""
     try:
         with opened(path) as file:
-            read = read_source(Source(file), path, progress, has_capture=False)
+            read = read_source(Source(file), path, progress, False)
     except (NoRecording, Damaged) as refused:
         raise NotTaken(f'{escaped(path)}: {refused}') from refused
     with contextlib.closing(read):

@@ -103,14 +103,37 @@ def run_side_by_side(commands: typing.Sequence[list[str]], expected: typing.Mapp
                      stdin: Redirection = subprocess.DEVNULL) -> list[Answer]:
     """Runs commands at once, and returns their answers. Raises what `run_program` does."""
     with contextlib.ExitStack() as stack:
-        running = []
-        for command in commands:
-            out, error = (stack.enter_context(tempfile.TemporaryFile()) for _ in range(2))
-            running.append((stack.enter_context(
-                begun(command, stdin=stdin, stdout=out, stderr=error)), out, error))
-        answers = [Answer(process.wait(), text_of(out), text_of(error))
-                   for process, out, error in running]
-    return [expected_of(*one, expected) for one in zip(commands, answers)]
+        running = [stack.enter_context(Running(command, stdin)) for command in commands]
+        answers = [one.answer(expected) for one in running]
+    return answers
+
+
+class Running:
+    """A command that runs meanwhile. As a context manager it waits for its end."""
+
+    def __init__(self, command: list[str], stdin: Redirection = subprocess.DEVNULL) -> None:
+        self.command = command
+        self.out, self.error = tempfile.TemporaryFile(), tempfile.TemporaryFile()
+        self.process = begun(command, stdin=stdin, stdout=self.out, stderr=self.error)
+
+    def answer(self, expected: typing.Mapping[int, str]) -> Answer:
+        """Waits for its answer. Raises what `run_program` does."""
+        answer = Answer(self.process.wait(), text_of(self.out), text_of(self.error))
+        return expected_of(self.command, answer, expected)
+
+    def stop(self) -> None:
+        """Ends it if it runs yet."""
+        if self.process.poll() is None:
+            self.process.kill()
+        self.__exit__()
+
+    def __enter__(self) -> 'Running':
+        return self
+
+    def __exit__(self, *_: object) -> None:
+        self.process.wait()
+        self.out.close()
+        self.error.close()
 
 
 def lines_of_program(program: str, words: list[str], expected: int = 0,
