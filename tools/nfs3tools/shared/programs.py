@@ -21,7 +21,7 @@ CHECKED, COMPARED, MASKED = {0: 'ok ', 2: ''}, {0: 'same\n', 1: 'differ at '}, {
 COMMANDS = ('check', 'same', 'show')
 CHECKED_COUNTS = re.compile(r'ok connections=(\d+) calls=(\d+) replies=(\d+) handles=\d+\n')
 PIPE_SIZE = 1 << 16  # of Linux
-NOT_FOUND = ('nfs3canon is missing: it is neither beside the tools nor on the PATH; '
+NOT_FOUND = ('%s is missing: it is neither beside the tools nor on the PATH; '
              '`make install` in a clone of nfs3canon installs it')
 Redirection = typing.Union[typing.IO[bytes], int]
 
@@ -56,7 +56,7 @@ def program_path(named: str | None = None) -> str:
         found = shutil.which(name)
         if found:
             return found
-    raise Missing(f'{escaped(named)} is missing' if named else NOT_FOUND)
+    raise Missing(f'{escaped(named)} is missing' if named else NOT_FOUND % 'nfs3canon')
 
 
 @functools.cache
@@ -67,7 +67,7 @@ def program_beside(program: str, name: str) -> str:
         found = shutil.which(place)
         if found:
             return found
-    raise Missing(f'{name} is missing')
+    raise Missing(NOT_FOUND % name)
 
 
 def path_beside(program: pathlib.Path, name: str) -> pathlib.Path:
