@@ -1,5 +1,5 @@
-"""Recordings of frames: some of a recording, as they were recorded, as a pcap of their own; those of
-several files as a pcapng."""
+"""Recordings of frames: some of a recording, as they were recorded, as a pcap of their own; those
+of several files as a pcapng."""
 from __future__ import annotations
 
 import struct
@@ -38,18 +38,18 @@ def pcap_of(frames: Sequence[Frame]) -> Iterator[bytes]:
 
 def pcapng_of(frames: Iterable[Frame]) -> Iterator[bytes]:
     """Iterates over the bytes of a recording of these frames, of any link types."""
-    yield block(SECTION_BLOCK, SECTION_HEADER)
+    yield block_of(SECTION_BLOCK, SECTION_HEADER)
     interfaces = dict[int, int]()
     for frame in frames:
         if frame.link not in interfaces:
             interfaces[frame.link] = len(interfaces)
-            yield block(INTERFACE_BLOCK, struct.pack('<HHI', frame.link, 0, 0) + IN_NANOSECONDS)
+            yield block_of(INTERFACE_BLOCK, struct.pack('<HHI', frame.link, 0, 0) + IN_NANOSECONDS)
         head = struct.pack('<5I', interfaces[frame.link], frame.time >> 32, frame.time & 0xffffffff,
                            len(frame.data), frame.length)
-        yield block(PACKET_BLOCK, head + frame.data)
+        yield block_of(PACKET_BLOCK, head + frame.data)
 
 
-def block(kind: int, body: bytes) -> bytes:
+def block_of(kind: int, body: bytes) -> bytes:
     """A block of pcapng."""
     body += bytes(-len(body) % 4)
     size = len(body) + 12

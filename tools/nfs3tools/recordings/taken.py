@@ -270,8 +270,8 @@ class Taken:
 
     def covered_connection(self, connection: TakenConnection) -> Covered:
         """Returns under which word a connection that is taken comes."""
-        covered = of_connection(called_in(connection.client.heads), connection.server_port, self.ports,
-                                connection.missing, connection.lacks)
+        covered = of_connection(called_in(connection.client.heads), connection.server_port,
+                                self.ports, connection.missing, connection.lacks)
         return covered._replace(number=connection.number, ends=connection.ends)
 
     def covered(self) -> typing.Iterator[Covered]:
