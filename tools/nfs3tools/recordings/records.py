@@ -32,6 +32,8 @@ CALL = re.compile(rb'\0\0\0\0\0\0\0\x02....\0\0\0.\0\0..' + FLAVOR, re.DOTALL)
 REPLY = re.compile(rb'\0\0\0\x01\0\0\0(?:\0' + FLAVOR + rb'|\x01\0\0\0[\0\x01])', re.DOTALL)
 OF_CALL = bytes(7) + b'\2'  # mtype and rpcvers
 HEAD_AT, HEAD_END = 12, 24  # of the body: program, version and procedure
+HEAD = struct.Struct('>II8s12s')  # a mark and what is before `HEAD_END`
+NO_HEAD = 0, 0, b'', b''
 BEFORE_PATTERN = 8  # bytes: the mark and the xid
 RECORD_MARK = struct.Struct('>I')
 
@@ -253,18 +255,37 @@ class Heads(typing.NamedTuple):
 
 
 def heads_of(window: Window, size: int) -> Heads:
-    """Reads the heads of all records of a stream."""
+    """Reads the heads of all records of a stream. This is where the time goes: most records have
+    one fragment, and are read here; `add_head` reads the others."""
     heads = Heads(array.array('Q'), array.array('I'), collections.Counter())
     begins, xids_of_all, calls = heads
-    for begin, end, _, _, marks in extents(window, 0, size):
-        begins.append(begin)
-        head = (window.read(begin + 4, min(HEAD_END, end - begin - 4)) if marks == 1
-                else body_of(window, extent_of(window, begin, size), HEAD_END))
-        if len(head) >= 8:
-            xids_of_all.append(int.from_bytes(head[:4], 'big'))
-        if head[4:HEAD_AT] == OF_CALL and len(head) == HEAD_END:
-            calls[head[HEAD_AT:]] += 1
+    at, unpack, shortest = 0, HEAD.unpack_from, HEAD_END | LAST_FRAGMENT
+    while at < size:
+        begins.append(at)
+        offset = at - window.begin
+        if not 0 <= offset <= len(window.block) - HEAD.size:
+            offset = 0 if len(window.read(at, HEAD.size)) == HEAD.size else -1
+        mark, xid, kind, call = unpack(window.block, at - window.begin) if offset >= 0 else NO_HEAD
+        end = at + 4 + mark - LAST_FRAGMENT
+        if not shortest <= mark <= LONGEST_BODY | LAST_FRAGMENT or end > size:
+            at = add_head(heads, window, at, size)
+            continue
+        xids_of_all.append(xid)
+        if kind == OF_CALL:
+            calls[call] += 1
+        at = end
     return heads
+
+
+def add_head(heads: Heads, window: Window, begin: int, size: int) -> int:
+    """Adds the head of any record, and returns where it ends."""
+    extent = extent_of(window, begin, size)
+    head = body_of(window, extent, HEAD_END)
+    if len(head) >= 8:
+        heads.xids.append(int.from_bytes(head[:4], 'big'))
+    if head[4:HEAD_AT] == OF_CALL and len(head) == HEAD_END:
+        heads.calls[head[HEAD_AT:]] += 1
+    return extent.end
 
 
 def body_of(window: Window, extent: Extent, most: int = LONGEST_BODY) -> bytes:

@@ -89,7 +89,10 @@ class TakenStream:
 
     @functools.cached_property
     def heads(self) -> Heads:
-        return heads_of(Window(self), self.size)
+        source: ReadableBytes = self
+        if self.sent and self.is_all:
+            source = self.sent
+        return heads_of(Window(source), self.size)
 
     @property
     def is_all(self) -> bool:
