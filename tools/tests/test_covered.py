@@ -125,7 +125,7 @@ def acknowledging(times: int = 4, step: tuple[int, int] = (100_000, 1_000_000),
 
 
 PART = 'ok in part: 39 calls, '
-OTHER_CONTENT, INSIDE = PART + '1 frame with other content', 'the recording ends inside a record'
+INSIDE = 'the recording ends inside a record'
 ACKNOWLEDGED = ('left out: ' + ENDS % (701, 2049)
                 + '3,300,000 bytes acknowledged and not recorded')
 # (without SYN and payload the first end is that of the first acknowledgment that says something)

@@ -16,7 +16,7 @@ from examples.packets import ACK, Talk, ethernet, pcap, recording
 from tests.shared.running import ended
 
 from .comparisons import conversation_of
-from .recordings import cooked, enhanced, fragments, fragments_6, interface, part_of, section
+from .recordings import cooked, enhanced, fragments, interface, part_of, section
 from .scripts import (
     ALL, CALLS, FAULTS, FIRST, REPLIES, TOP, Tools, in_fragments, packed, stream, sums, whole)
 

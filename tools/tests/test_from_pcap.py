@@ -1,5 +1,4 @@
 """Tests of how the streams of recordings are put together, alike for all tools."""
-import itertools
 import os
 import random
 import struct
@@ -8,7 +7,7 @@ import sys
 
 from examples import messages
 from examples.messages import NFS, call, success
-from examples.packets import ACK, CLIENT, FIN, RST, SERVER, SYN, Talk, datagram, ethernet, pcap
+from examples.packets import ACK, CLIENT, FIN, RST, SERVER, SYN, Talk, ethernet, pcap
 from tests.shared.running import begin, pipe_of
 
 from ..nfs3tools.recordings import container as captures

@@ -1,15 +1,10 @@
 """Tests of what the tools print on pseudo-terminals of a known width."""
-import bz2
 import contextlib
 import fcntl
-import gzip
 import io
-import lzma
 import os
 import pty
-import random
 import re
-import shutil
 import struct
 import subprocess
 import termios
@@ -18,7 +13,6 @@ from collections.abc import Sequence
 
 from examples.messages import NFS, call, dirop, failed, fattr, fh, ok, post_op_attr, success
 from examples.packets import pcap
-from tests.shared.running import ended
 
 from ..nfs3tools.shared.progress import Progress
 from ..nfs3tools.shared.screens import Colour, Screen, Styled, table_lines

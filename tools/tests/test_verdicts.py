@@ -11,7 +11,7 @@ import time
 import unittest
 
 from examples.messages import NFS, call, success
-from examples.packets import ACK, Talk, ethernet, pcap
+from examples.packets import ACK, Talk, pcap
 from tests.shared.running import begin, ended, pipe_of
 
 from ..nfs3tools.shared.places import SIDES, Place

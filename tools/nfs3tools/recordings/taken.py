@@ -12,17 +12,15 @@ import bisect
 import contextlib
 import functools
 import itertools
-import os
 import sys
 import tempfile
 import typing
-from collections.abc import Sequence
 
 from ..shared.kinds import MAGICS
 from ..shared.outputs import CAPTURE, write_file
 from ..shared.places import SIDES, FilePlace, NoPlace, Place, Side
 from ..shared.printed import escaped
-from ..shared.progress import Progress, Share
+from ..shared.progress import Progress
 from .connections import Connection, connections_in
 from .container import (
     CHUNK, MOST_BYTES, MOST_CONNECTIONS, BadCapture, Container, capture_of, place_in)
@@ -410,6 +408,7 @@ def read_source(source: Source, path: str, progress: Progress,
                 has_capture: bool) -> ReadRecording:
     """Reads a recording, which may be compressed."""
     check_recording(source)
+    progress.begin('reading the recording')
     with plain_file(source, path, progress) as (name, damage):
         return read_recording(name, damage, has_capture)
 
