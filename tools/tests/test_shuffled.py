@@ -1,24 +1,21 @@
-"""Random recordings against a small model of TCP, which knows which bytes were sent and recorded;
-and that no recorded byte is dropped without being counted.
+"""Random recordings, also with one frame changed, against the model of nfs3streams; and that no
+recorded byte is dropped without being counted.
 
-If the model has all bytes, the verdict is `ok` and just these are taken; if some are missing, or
-belong to nothing, it may not be. And recordings of which one frame was changed.
+If the model says that all connections are whole, their streams are judged; else the status is 1.
 """
-import collections
 import dataclasses
 import itertools
 import random
-import re
 import struct
 import typing
 
 from examples.messages import NFS, call, fragment, success
 from examples.packets import (
     ACK, CLIENT, FIN, RST, SERVER, SYN, Talk, datagram, ethernet, pcap, segment)
+from tests.shared import recorded
 
-from ..nfs3tools.judgement.verdict import Verdict, is_row, status_of
+from ..nfs3tools.judgement.verdict import is_row, status_of
 from ..nfs3tools.recordings.coverage import Allowed
-from ..nfs3tools.shared.places import SIDES
 from .cases import try_seeds
 from .scripts import CALL, CALLS, REPLIES, REPLY, Tools, stream, taken_of, timed, verdicts_on
 
@@ -227,139 +224,63 @@ def pcap_of(frames: list[Recorded]) -> bytes:
                              for number, one in enumerate(frames))
 
 
-# --- The model ---
-
-class Whole(typing.NamedTuple):
-    """Whether all bytes of a pair of ends are there, if known; connections with bytes."""
-    is_whole: bool | None
-    with_bytes: int
-
-
-class Side:
-    """One stream: which bytes were recorded, and up to where frames show that bytes were sent."""
-
-    def __init__(self, size: int) -> None:
-        self.there, self.shown = bytearray(size), 0
-        self.first: int | None = None  # where its first frame begins
-        # FIN was recorded, or an acknowledgment counts it
-        self.is_ended = self.has_ended = False
-
-    def add(self, begin: int, size: int) -> None:
-        self.there[begin:begin + size] = b'\1' * size
-        self.shown = max(self.shown, begin + size)
-
-    @property
-    def is_whole(self) -> bool:
-        return all(self.there[:self.shown])
-
-
-class Model:
-    """Takes the frames of one connection."""
-
-    def __init__(self, connection: Connection) -> None:
-        self.connection = connection
-        self.sides = [Side(len(content)) for content in connection.streams]
-        self.seen = set[str]()
-        self.closed = [False, False]  # by FIN or RST of its own
-        self.is_odd = self.is_unsure = self.begins_inside = False
-
-    def take(self, one: Recorded) -> None:
-        sent = one.sent
-        if sent.extra:
-            is_far, is_known = sent.acknowledged >= FAR, bool(
-                self.seen or self.sides[1 - sent.side].shown)
-            self.is_odd |= bool(sent.content) or is_far and is_known
-            self.is_unsure = True
-            return
-        own, other = self.sides[sent.side], self.sides[1 - sent.side]
-        self.begins_inside |= not self.seen and not sent.flags & SYN
-        own.first = max(0, sent.begin) if own.first is None else own.first
-        if sent.flags & SYN:
-            self.seen.add('syn-ack' if sent.flags & ACK else 'syn')
-            self.is_unsure |= own.first > 0  # it looks like one that begins another connection
-        if sent.content and not sent.flags & RST:
-            # SYN and the first bytes may come late
-            self.is_unsure |= not self.seen and sent.begin > 0 and not any(own.there)
-            own.add(sent.begin, len(sent.content) - sent.lacks)
-        own.shown = max(own.shown, min(sent.end if not sent.flags & RST else sent.begin,
-                                       len(own.there)))
-        if sent.flags & FIN:
-            own.is_ended = True
-        if sent.flags & ACK:
-            other.shown = max(other.shown, min(sent.acknowledged, len(other.there)))
-            other.has_ended |= sent.acknowledged > len(other.there)
-        self.closed[sent.side] |= bool(sent.flags & (FIN | RST))
-
-    def whole(self) -> bool | None:
-        """Whether all bytes are there, and the last record is whole."""
-        if not any(side.shown for side in self.sides):
-            return None if self.is_odd else True
-        if self.is_odd or not all(side.is_whole for side in self.sides):
-            return False
-        if any(side.shown % size for side, size in zip(self.sides, (CALL, REPLY))):
-            return False
-        if self.seen != {'syn', 'syn-ack'} or any(
-                side.has_ended and not side.is_ended for side in self.sides):
-            return False
-        return None if self.is_unsure else True
-
-
-def modelled(connections: list[Connection], frames: list[Recorded]) -> dict[int, Whole]:
-    """What the model says, by the client's port."""
-    models = {id(connection): Model(connection) for connection in connections}
-    for one in frames:
-        models[id(one.connection)].take(one)
-    found = dict[int, Whole]()
-    for port in {connection.port for connection in connections}:
-        several = [models[id(connection)] for connection in connections if connection.port == port]
-        said = [model.whole() for model in several]
-        said += [None] * any(model.begins_inside for model in several[1:])
-        is_whole = False if False in said else None if None in said else True
-        found[port] = Whole(is_whole,
-                            sum(any(side.shown for side in model.sides) for model in several))
-    return found
-
-
 # --- What the tools say ---
 
-def rows_of(verdicts: list[Verdict], port: int) -> list[Verdict]:
-    """The rows of the connections of a port."""
-    return [verdict for verdict in verdicts if is_row(verdict) and verdict.state != 'error'
-            and (re.search(fr':{port}\b', verdict.message) or verdict.client.endswith(f':{port}')
-                 or verdict.server.endswith(f':{port}'))]
+class Modelled(typing.NamedTuple):
+    """A recording by the model of nfs3streams: the streams of whole connections, and whether all
+    connections with bytes are whole, to the ends of their records.
+
+    has_others: whether there are frames without a segment, or bytes before the beginning
+    """
+    streams: list[tuple[bytes, bytes]]
+    is_whole: bool
+    has_others: bool
 
 
-def contents(recording: bytes, port: int) -> list[tuple[bytes, bytes]]:
-    """The streams that are taken of the connections of a port."""
+def modelled(recording: bytes) -> Modelled:
+    frames, _, _ = recorded.read_frames(recording)
+    connections, lacking = recorded.connections_of(frames)
+    for one in connections:
+        for sent in filter(None, one.streams):
+            sent.order()
+    said = [recorded.decide(recording, one, ()) for one in connections]
+    whole = [one for one, decision in zip(connections, said) if decision == 'Whole']
+    found, has_others = list[tuple[bytes, bytes]](), bool(lacking)
+    for one in whole:
+        calls, replies = one.streams[::1 if one.client == 0 else -1]
+        assert calls and calls.begin and replies and replies.begin
+        first, second = calls.begin.position, replies.begin.position
+        found.append((recorded.bytes_between(recording, calls, first, 1 << 40),
+                      recorded.bytes_between(recording, replies, second, 1 << 40)))
+        has_others |= any(run.position < first for run in calls.runs)
+        has_others |= any(run.position < second for run in replies.runs)
+    is_whole = all(decision in ('Whole', 'Empty', 'NotChosen') for decision in said) and not any(
+        len(calls) % CALL or len(replies) % REPLY for calls, replies in found)
+    return Modelled([pair for pair in found if any(pair)], is_whole, has_others)
+
+
+def wrong_of(program: str, made: Make, recording: bytes) -> str:
+    """What is wrong with the verdicts on a recording: the status is 0 only if all connections are
+    whole, and just their streams are judged. It is 0 if the streams are also those that were
+    sent."""
+    model, verdicts = modelled(recording), verdicts_on(program, recording)
     with taken_of(recording) as taken:
-        client, server = SIDES
-        return [(one.stream(client).read(0, 1 << 20), one.stream(server).read(0, 1 << 20))
-                for one in taken.connections
-                if one.client_end.endswith(f':{port}')]
-
-
-def wrong_of_port(port: int, whole: Whole, made: Make, recording: bytes,
-                  verdicts: list[Verdict]) -> list[str]:
-    """What is wrong with what is said of the connections of a port."""
-    wrong, rows = [], rows_of(verdicts, port)
-    is_good = all(row.state == 'ok' for row in rows) and len(rows) == whole.with_bytes
-    if whole.is_whole is not None and is_good is not whole.is_whole:
-        wrong.append(f'port {port}: {whole}, but {[(row.state, row.message) for row in rows]}')
-    wanted = [one.streams for one in made.connections if one.port == port]
-    if is_good and not all(any(client.startswith(one) and server.startswith(two)
-                               for client, server in wanted)
-                           for one, two in contents(recording, port)):
-        wrong.append(f'port {port}: other bytes')
-    return wrong
+        judged = [(one.client.read(0, 1 << 20), one.server.read(0, 1 << 20))
+                  for one in taken.connections]
+    is_good, sent = status_of(verdicts, Allowed()) == 0, [one.streams for one in made.connections]
+    is_sound = model.is_whole and not model.has_others and model.streams != [] and all(
+        any(one.startswith(calls) and two.startswith(replies)
+            and len(replies) // REPLY <= len(calls) // CALL for one, two in sent)
+        for calls, replies in model.streams)
+    if is_good is model.is_whole is True and judged == model.streams or not (is_good or is_sound):
+        return ''
+    return f'{model.is_whole} and {is_sound}, but {[one.message for one in verdicts]}'
 
 
 def wrong_of_seed(program: str, seed: int) -> list[str]:
     made = Make(seed)
-    frames = made.recorded()
-    recording = pcap_of(frames)
-    verdicts = verdicts_on(program, recording)
-    return [f'seed {seed}: {wrong}' for port, whole in modelled(made.connections, frames).items()
-            for wrong in wrong_of_port(port, whole, made, recording, verdicts)]
+    wrong = wrong_of(program, made, pcap_of(made.recorded()))
+    return [f'seed {seed}: {wrong}'] * bool(wrong)
 
 
 # --- One frame that is changed ---
@@ -396,45 +317,13 @@ def changed(chance: random.Random, one: Recorded) -> list[Recorded]:
     return [one._replace(frame=frame[:at] + bytes([other]) + frame[at + 1:])]
 
 
-def records_of(streams: typing.Iterable[bytes]) -> collections.Counter[bytes]:
-    """The records of some streams, each with its mark. What is no record is one, too."""
-    found = collections.Counter[bytes]()
-    for content in streams:
-        while content:
-            size = 4 + (int.from_bytes(content[:4], 'big') & 0x7fffffff)
-            found[content[:size]] += 1
-            content = content[size:]
-    return found
-
-
-def recorded_in(made: Make, frames: list[Recorded]) -> tuple[bool, collections.Counter[bytes]]:
-    """Whether the model finds nothing missing in these frames, and the records that they bring."""
-    models = {id(connection): Model(connection) for connection in made.connections}
-    for one in frames:
-        models[id(one.connection)].take(one)
-    brought = records_of(content[:side.shown] for model in models.values()
-                         for content, side in zip(model.connection.streams, model.sides))
-    return all(model.whole() is not False for model in models.values()), brought
-
-
 def wrong_of_change(program: str, seed: int) -> list[str]:
-    """The status is 0 only if all records that are whole were judged."""
     made = Undisturbed(seed)
     frames = made.recorded()
     at = made.chance.randrange(len(frames))
-    instead, others = changed(made.chance, frames[at]), frames[:at] + frames[at + 1:]
-    recording = pcap_of(frames[:at] + instead + frames[at + 1:])
-    if status_of(verdicts_on(program, recording), Allowed()):
-        return []
-    with taken_of(recording) as taken:
-        judged = records_of(stream.read(0, stream.size) for one in taken.connections
-                            for stream in (one.client, one.server))
-    (_, every), (is_whole, left) = (recorded_in(made, some) for some in (frames, others))
-    is_right = judged == every or is_whole and judged >= left and every >= judged
-    return [] if is_right else [
-        f'seed {seed}: frame {at + 1}, {is_whole}, judged '
-        f'{sum(judged.values())} '
-        f'of {sum(left.values())} and {sum(every.values())}']
+    frames[at:at + 1] = changed(made.chance, frames[at])
+    wrong = wrong_of(program, made, pcap_of(frames))
+    return [f'seed {seed}: frame {at + 1}, {wrong}'] * bool(wrong)
 
 
 def seeds(tools: Tools) -> None:
