@@ -230,7 +230,8 @@ class Modelled(typing.NamedTuple):
     """A recording by the model of nfs3streams: the streams of whole connections, and whether all
     connections with bytes are whole, to the ends of their records.
 
-    has_others: whether there are frames without a segment, or bytes before the beginning
+    has_others: whether there are other frames, bytes before the beginning, or an end that sent
+        nothing and whose SYN is not there
     """
     streams: list[tuple[bytes, bytes]]
     is_whole: bool
@@ -245,7 +246,7 @@ def modelled(recording: bytes) -> Modelled:
             sent.order()
     said = [recorded.decide(recording, one, ()) for one in connections]
     whole = [one for one, decision in zip(connections, said) if decision == 'Whole']
-    found, has_others = list[tuple[bytes, bytes]](), bool(lacking)
+    found, has_others = list[tuple[bytes, bytes]](), bool(lacking) or 'NotChosen' in said
     for one in whole:
         calls, replies = one.streams[::1 if one.client == 0 else -1]
         assert calls and calls.begin and replies and replies.begin
@@ -254,6 +255,9 @@ def modelled(recording: bytes) -> Modelled:
                       recorded.bytes_between(recording, replies, second, 1 << 40)))
         has_others |= any(run.position < first for run in calls.runs)
         has_others |= any(run.position < second for run in replies.runs)
+    has_others |= any(isinstance(decision, recorded.Flaw) and decision.kind == 'NoSyn'
+                      and not all(sent and sent.runs for sent in one.streams)
+                      for one, decision in zip(connections, said))
     is_whole = all(decision in ('Whole', 'Empty', 'NotChosen') for decision in said) and not any(
         len(calls) % CALL or len(replies) % REPLY for calls, replies in found)
     return Modelled([pair for pair in found if any(pair)], is_whole, has_others)
@@ -272,7 +276,8 @@ def wrong_of(program: str, made: Make, recording: bytes) -> str:
         any(one.startswith(calls) and two.startswith(replies)
             and len(replies) // REPLY <= len(calls) // CALL for one, two in sent)
         for calls, replies in model.streams)
-    if is_good is model.is_whole is True and judged == model.streams or not (is_good or is_sound):
+    if not is_sound and (not is_good or model.has_others) or (
+            is_good and model.is_whole and judged == model.streams):
         return ''
     return f'{model.is_whole} and {is_sound}, but {[one.message for one in verdicts]}'
 
@@ -410,7 +415,7 @@ def much_is_missing_in_the_middle(tools: Tools) -> None:
     # (4,200,000,000 bytes are the same as 94,967,296 bytes backwards)
     for lost, row, note in ((2_200_000_000, BEYOND, TOLD_OF_STRAYS % ('22 frames have', 24)),
                             (3_000_000_000, BEYOND, ''),
-                            (4_200_000_000, f'{10 * CALL} bytes left out', '')):
+                            (4_200_000_000, f'{10 * CALL} bytes left out, {BEYOND}', '')):
         told(tools, f'{lost} bytes', with_frames(lambda talk: moved(talk, lost, 0)), 1,
              [f'ok in part: 10 calls, {row}'], note)
 

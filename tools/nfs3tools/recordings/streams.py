@@ -65,9 +65,9 @@ class Stream:
         self.opened, self.end, self.acknowledged, self.reset = (
             mark and Mark(mark.position - base, mark.frame)
             for mark in (begin, end, acknowledged, reset))
-        if self.end and self.end.position < 0:
-            self.end = None  # it is of no byte of this stream
         self.strays, self.stray = row.marks[8:]
+        if self.end and self.end.position < 0:  # before the beginning
+            self.strays, self.stray, self.end = self.strays + 1, self.stray or self.end.frame, None
         self.pairs = row.pairs
         self.positions = self.runs[::RUN_WORDS]
         self.low = self.run_at(0)
