@@ -56,25 +56,11 @@ def bytes_that_came_first(tools: Tools) -> None:
     told = ('connection 1 1 frame repeats bytes with other content, first frame %d; the bytes that '
             'came first are taken')
     cases: list[tuple[str, list[tuple[int, int, bytes]], int | None]] = [
-        ('again with other bytes', [(0, 400, content), (100, 200, other),
-                                    (400, len(content), content)], 5),
         ('again with other bytes at its end alone',
          [(0, 400, content), (300, 400, content[:399] + b'\xee'), (400, len(content), content)], 5),
-        ('new bytes after other old ones',
-         [(0, 400, content), (300, 500, other[:400] + content[400:]), (500, len(content), content)],
-         5),
-        ('held, then begun earlier', [(200, 400, content), (100, 300, content[:200] + other[200:]),
-                                      (0, 100, content), (400, len(content), content)], 5),
-        ('held, then begun later', [(100, 300, content), (200, 400, other[:300] + content[300:]),
-                                    (0, 100, content), (400, len(content), content)], 5),
-        ('held, then all around it',
+        ('early, then all around it',
          [(200, 300, content), (100, 400, content[:200] + other[200:300] + content[300:]),
           (0, 100, content), (400, len(content), content)], 5),
-        ('held twice at one place', [(100, 300, content), (100, 300, other), (0, 100, content),
-                                     (300, len(content), content)], 5),
-        ('held, then overtaken by those in order',
-         [(100, 300, content), (0, 300, content[:100] + other[100:]), (300, len(content), content)],
-         5),
         ('again with the same bytes', [(0, 400, content), (100, 200, content), (50, 450, content),
                                        (450, len(content), content)], None)]
     for what, pieces, frame in cases:

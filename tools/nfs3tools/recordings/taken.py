@@ -498,8 +498,16 @@ def whole(stored: Stored) -> list[tuple[int, int]]:
 
 
 def taken_in(read: ReadRecording, options: Options) -> Taken:
-    """Takes the connections of a recording."""
-    taken = Taken(Spool(), read, (options.ports or NFS_PORTS) - {PORT_MAPPER})
+    """Takes the connections of a recording, which is closed if that fails."""
+    with contextlib.ExitStack() as stack:
+        stack.callback(read.close)
+        taken = Taken(Spool(), read, (options.ports or NFS_PORTS) - {PORT_MAPPER})
+        take_all(taken, read, options)
+        stack.pop_all()
+    return taken
+
+
+def take_all(taken: Taken, read: ReadRecording, options: Options) -> None:
     others = others_in(read, taken.ports)
     taken.notes += notes_of(read, others)
     taken.remarks += remarks_of(others)
@@ -511,7 +519,6 @@ def taken_in(read: ReadRecording, options: Options) -> Taken:
         add(taken, connection, options)
     taken.is_packed = (packed == {one.stream_number for one in taken.connections}
                        and all(one.is_all for pair in taken.pairs() for one in pair))
-    return taken
 
 
 def add_end(taken: Taken, read: ReadRecording | PartRead, options: Options,

@@ -109,7 +109,7 @@ def run_side_by_side(commands: typing.Sequence[list[str]], expected: typing.Mapp
 
 
 class Running:
-    """A command that runs meanwhile. As a context manager it waits for its end."""
+    """A command that runs meanwhile. As a context manager it is ended if it runs yet."""
 
     def __init__(self, command: list[str], stdin: Redirection = subprocess.DEVNULL) -> None:
         self.command = command
@@ -123,17 +123,16 @@ class Running:
 
     def stop(self) -> None:
         """Ends it if it runs yet."""
-        if self.process.poll() is None:
-            self.process.kill()
-        self.__exit__()
+        self.process.kill()
+        self.process.wait()
+        self.out.close()
+        self.error.close()
 
     def __enter__(self) -> 'Running':
         return self
 
     def __exit__(self, *_: object) -> None:
-        self.process.wait()
-        self.out.close()
-        self.error.close()
+        self.stop()
 
 
 def lines_of_program(program: str, words: list[str], expected: int = 0,
