@@ -60,8 +60,7 @@ class Judge(typing.NamedTuple):
         """The verdicts on a recording or capture. What cannot be read is an error among them.
         `look` is called with them and with what is taken."""
         try:
-            options = self.options._replace(has_capture=True)
-            with take(recording, options, shows_progress=self.shows_progress) as taken:
+            with take(recording, self.options, shows_progress=self.shows_progress) as taken:
                 verdicts = self.of_taken(recording, taken)
                 if look:
                     look(taken, verdicts)

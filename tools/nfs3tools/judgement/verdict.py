@@ -2,7 +2,6 @@
 judged, and the row that is printed of one."""
 from __future__ import annotations
 
-import os
 import sys
 import time
 import typing
@@ -12,7 +11,6 @@ from concurrent.futures import ThreadPoolExecutor
 
 from ..exchanges.kept import Kept, host_of
 from ..recordings.coverage import Allowed, Counts, Covered, counts_of
-from ..recordings.reading import ReadRecording
 from ..recordings.selection import BEGUN_BEFORE, count
 from ..recordings.taken import FrameRef, Taken, TakenConnection
 from ..shared.places import Fault, FilePlace, Place, parse_fault
@@ -113,27 +111,17 @@ def judged_together(program: str, recording: str, taken: Taken) -> list[Verdict]
         return []
     begin = time.monotonic()
     with ThreadPoolExecutor(1) as thread:
-        counting = thread.submit(counts_of_capture, program, taken.read)
+        checking = thread.submit(taken.read.check_whole, program)
         numbers = [(one.client.count_records(), one.server.count_records())
                    for one in taken.connections]
-        counts = counting.result()
+        answer = checking.result()
+    counts = checked_counts(answer) if answer else ()
     if not counts or tuple(map(sum, zip(*numbers))) != counts[1:]:
         return []
     seconds = (time.monotonic() - begin) / max(1, len(numbers))
     return [of_valid(recording, taken, connection, seconds)._replace(
         calls=calls, replies=replies)
         for connection, (calls, replies) in zip(taken.connections, numbers)]
-
-
-def counts_of_capture(program: str, read: ReadRecording) -> tuple[int, ...]:
-    """Returns how many connections, calls and replies the program counts in the capture of whole
-    connections; nothing if it finds a fault, or there is none. Raises `Died`."""
-    capture = read.capture()
-    if capture is None:
-        return ()
-    counts = checked_counts(run_program(program, ['check', capture], CHECKED))
-    os.unlink(capture)  # now, since that of a large file takes a while
-    return counts
 
 
 def of_valid(recording: str, taken: Taken, connection: TakenConnection,

@@ -15,7 +15,7 @@ class Connection:
 
     number: from 0, as Wireshark counts tcp.stream
     client: the end whose SYN has no ACK, if one was recorded
-    is_packed: whether it is in the capture that nfs3streams wrote
+    is_packed: whether nfs3streams finds it whole
     """
 
     def __init__(self, number: int, row: ConnectionRow, file: PlacesReader,

@@ -32,7 +32,7 @@ ENDINGS = ('the end', 'cut short', 'no recording', 'a frame is too long',
            'the byte order of a section is unknown', 'a block of an impossible size',
            'the two lengths of a block differ', 'a block is too short',
            'a frame of an interface that is not described', 'too many frames')
-WHOLE = 2  # what is said of a connection that is in the capture
+WHOLE = 2  # what is said of a connection that is whole
 HAS_SEGMENT, HEADER_IS_CUT = 0, 2
 
 
@@ -71,7 +71,7 @@ class StreamRow(typing.NamedTuple):
 
 class ConnectionRow(typing.NamedTuple):
     """A connection: its ends, what each of them sent, the place of the client among them, and
-    whether it is in the capture that was written beside."""
+    whether nfs3streams finds it whole."""
     ends: tuple[End, End]
     client: int | None
     streams: tuple[StreamRow | None, StreamRow | None]

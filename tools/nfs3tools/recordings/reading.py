@@ -5,20 +5,22 @@ import contextlib
 import errno
 import mmap
 import os
+import subprocess
 import tempfile
 import typing
 from collections.abc import Iterator, Sequence
 
 from ..shared.outputs import held
 from ..shared.printed import printable
-from ..shared.programs import Running, program_beside, program_path, run_side_by_side
+from ..shared.programs import (
+    CHECKED, Answer, Running, begun, program_beside, program_path, run_side_by_side)
 from ..shared.progress import Progress
 from .index import (
     AT_ITS_END, CUT_SHORT, ENDINGS, HAS_SEGMENT, HEADER_IS_CUT, BadIndex, Index)
 from .sources import NoRecording, Source
 from .unpacking import CutShort, Damaged
 
-READER, INDEX_FILE, CAPTURE_FILE = 'nfs3streams', 'index', 'capture'
+READER, INDEX_FILE = 'nfs3streams', 'index'
 STATUSES_OF_READER = {0: '', 2: ''}
 ENDS_INSIDE_FRAME = 'the recording ends inside a frame'
 
@@ -65,15 +67,14 @@ class RecordingFile:
 
 
 class ReadRecording:
-    """A recording, its index, which is mapped, and perhaps a capture of its whole connections,
-    which is written meanwhile, in a folder that `close` removes.
+    """A recording, and its index, which is mapped, in a folder that `close` removes.
 
     cut, damage: why not all of it could be read: it ends inside a frame, or cannot go on
     """
 
     def __init__(self, file: RecordingFile, folder: 'tempfile.TemporaryDirectory[str]',
-                 damage: Damaged | None, packing: Running | None) -> None:
-        self.folder, self.file, self.packing = folder, file, packing
+                 damage: Damaged | None) -> None:
+        self.folder, self.file = folder, file
         self.index = index = Index(mapped(os.path.join(folder.name, INDEX_FILE)))
         number = index.frames
         self.cut = self.damage = None
@@ -84,17 +85,21 @@ class ReadRecording:
             why = str(damage or ENDINGS[index.ended])
             self.damage = f'the recording is damaged after frame {number}: {why}'
 
-    def capture(self) -> str | None:
-        """Returns the name of the capture, once it is written, if the connections fit one."""
-        if self.packing is not None:
-            self.packing.answer(STATUSES_OF_READER)
-        path = os.path.join(self.folder.name, CAPTURE_FILE)
-        return path if os.path.exists(path) else None
+    def check_whole(self, program: str) -> Answer | None:
+        """Returns what `check` answers about a capture of the connections that nfs3streams finds
+        whole, or nothing if they do not fit one. Raises `Died`."""
+        packer = [program_beside(program_path(), READER), '/dev/stdin', '/dev/stdout']
+        with tempfile.TemporaryFile() as error, begun(
+                packer, stdin=self.file.file, stdout=subprocess.PIPE, stderr=error) as packing:
+            assert packing.stdout is not None
+            with packing.stdout as capture, Running([program, 'check', '/dev/stdin'],
+                                                    capture) as checking:
+                capture.close()
+                answer = checking.answer(CHECKED)
+        return answer if packing.returncode in STATUSES_OF_READER else None
 
     def close(self) -> None:
         with held():
-            if self.packing is not None:
-                self.packing.stop()
             self.file.close()
             self.folder.cleanup()
 
@@ -156,11 +161,9 @@ def write(file: typing.IO[bytes], block: bytes) -> None:
         raise OSError(failed.errno, failed.strerror or str(failed), 'a temporary file') from failed
 
 
-def read_recording(path: str, damage: Damaged | None = None,
-                   has_capture: bool = False) -> ReadRecording:
-    """Reads a recording that is a file as it is. A capture of its whole connections is written
-    meanwhile if one is wanted. Raises `NoRecording` if the program refuses it, and what
-    `run_side_by_side` does."""
+def read_recording(path: str, damage: Damaged | None = None) -> ReadRecording:
+    """Reads a recording that is a file as it is. Raises `NoRecording` if the program refuses it,
+    and what `run_side_by_side` does."""
     program = program_beside(program_path(), READER)
     with contextlib.ExitStack() as stack:
         file = RecordingFile(path)
@@ -169,16 +172,13 @@ def read_recording(path: str, damage: Damaged | None = None,
             folder = tempfile.TemporaryDirectory(prefix='nfs3canon')
         stack.callback(folder.cleanup)
         # (as standard input, since the program takes no names that are no text)
-        index, capture = (os.path.join(folder.name, name) for name in (INDEX_FILE, CAPTURE_FILE))
-        packing = Running([program, '/dev/stdin', capture], file.file) if has_capture else None
-        if packing:
-            stack.callback(packing.stop)
+        index = os.path.join(folder.name, INDEX_FILE)
         answer, = run_side_by_side([[program, '--index', '/dev/stdin', index]], STATUSES_OF_READER,
                                    file.file)
         if not os.path.exists(index):
             raise NoRecording(printable((answer.error or answer.out).strip()))
         try:
-            read = ReadRecording(file, folder, damage, packing)
+            read = ReadRecording(file, folder, damage)
         except BadIndex:
             raise NoRecording('what nfs3streams wrote of it is no index') from None
         stack.pop_all()

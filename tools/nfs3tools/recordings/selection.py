@@ -22,11 +22,9 @@ class Options(typing.NamedTuple):
 
     ports: of which each connection has one; any connection if there are none
     is_growing: whether it is no loss that the recording ends inside a frame or a record
-    has_capture: whether a capture of the whole connections is written meanwhile
     """
     ports: frozenset[int] = frozenset()
     is_growing: bool = False
-    has_capture: bool = False
 
 
 @dataclasses.dataclass

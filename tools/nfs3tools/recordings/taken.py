@@ -234,7 +234,7 @@ class Taken:
         frame is not damaged
     nothing: what is said if there is no connection
     parts: those of a recording that has several, in order
-    is_packed: whether the capture that nfs3streams wrote has just the connections that are taken
+    is_packed: whether nfs3streams finds whole just the connections that are taken
     """
 
     def __init__(self, spool: Spool, read: ReadRecording | None,
@@ -394,7 +394,7 @@ def take_file(path: str, options: Options, progress: Progress) -> Taken:
         source = Source(file)
         if source.peek(8) in MAGICS:
             return of_capture(source)
-        taken = taken_in(read_source(source, path, progress, options.has_capture), options)
+        taken = taken_in(read_source(source, path, progress), options)
     begun = sum(BEGUN_BEFORE in left_out.lacks for left_out in taken.left_out)
     pattern = pattern_beside(path) if begun else None
     if pattern:
@@ -404,13 +404,12 @@ def take_file(path: str, options: Options, progress: Progress) -> Taken:
     return taken
 
 
-def read_source(source: Source, path: str, progress: Progress,
-                has_capture: bool) -> ReadRecording:
+def read_source(source: Source, path: str, progress: Progress) -> ReadRecording:
     """Reads a recording, which may be compressed."""
     check_recording(source)
     progress.begin('reading the recording')
     with plain_file(source, path, progress) as (name, damage):
-        return read_recording(name, damage, has_capture)
+        return read_recording(name, damage)
 
 
 class PartRead(typing.NamedTuple):
@@ -434,7 +433,7 @@ def take_parts(files: list[str], options: Options, progress: Progress) -> Taken:
         for part in parts:
             copy_range(unsorted, part.place, joined)
         joined.flush()
-        taken = taken_in(read_recording(joined.name, None, options.has_capture), options)
+        taken = taken_in(read_recording(joined.name), options)
     before = 0
     for part in parts:
         taken.parts.append(Part(part.path, before))
@@ -447,7 +446,7 @@ def part_read(path: str, progress: Progress, unsorted: typing.IO[bytes]) -> Part
     """Reads a part of a recording, and appends its frames to a file."""
     try:
         with opened(path) as file:
-            read = read_source(Source(file), path, progress, False)
+            read = read_source(Source(file), path, progress)
     except (NoRecording, Damaged) as refused:
         raise NotTaken(f'{escaped(path)}: {refused}') from refused
     with contextlib.closing(read):
