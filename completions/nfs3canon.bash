@@ -73,7 +73,7 @@ _nfs3_tool() {
 _nfs3_options() {
   case $1 in
     calls | nfs3-calls) echo --help --version --errors --no-reply --slow --procedure --path --user --client --who --sort --json --csv --utc --from --to --color --program --port --allow-losses --allow-not-checked ;;
-    nfs3-compare) echo --help --version --mask --order --extra --ignore --known --known-new --all --brief --html --json --junit --color --program --port --allow-losses --allow-not-checked ;;
+    nfs3-compare) echo --help --version --mask --order --extra --known --known-new --all --brief --html --json --junit --color --program --port --allow-losses --allow-not-checked ;;
     nfs3-cut) echo --help --version --origins --program --port ;;
     nfs3-explain) echo --help --version --port ;;
     from_pcap | nfs3-from-pcap) echo --help --version --port ;;

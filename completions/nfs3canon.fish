@@ -47,7 +47,6 @@ for tool in nfs3-compare
     complete -c $tool -l mask -x -a '(__fish_append , none times stamps machines space ids fsids cookies cookieverfs createverfs owners wcc sillynames raw)' -d 'the classes of values to mask'
     complete -c $tool -l order -x -a 'strict any' -d 'whether the order of calls counts'
     complete -c $tool -l extra -x -a 'asking none' -d 'what is left out in any order if one run alone has it'
-    complete -c $tool -l ignore -x -d 'fields that are left out of the explanation'
     complete -c $tool -l known -r -d 'takes the known findings of a file, which do not count'
     complete -c $tool -l known-new -r -d 'writes a file in which all findings are known'
     complete -c $tool -l all -d 'prints each finding by itself'

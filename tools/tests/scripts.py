@@ -1,5 +1,4 @@
 """Runs of the scripts in tools/, and what their tests make recordings of."""
-import io
 import json
 import os
 import pathlib
@@ -19,11 +18,9 @@ from tests.shared.running import Answer, RunOptions, Runs, ended
 from ..nfs3tools.commands.verdicts import Judge
 from ..nfs3tools.judgement.verdict import Verdict
 from ..nfs3tools.recordings.container import capture_of
-from ..nfs3tools.recordings.frames import Source
 from ..nfs3tools.recordings.selection import Options
-from ..nfs3tools.recordings.taken import NotTaken, Taken, take_from
+from ..nfs3tools.recordings.taken import NotTaken, Taken, take
 from ..nfs3tools.reporting.messages import add_options, options_of, parser_of, recording_lines
-from ..nfs3tools.shared.progress import Progress
 from .forks import ended_in_fork
 
 TOP = pathlib.Path(__file__).resolve().parents[2]
@@ -105,7 +102,10 @@ def whole(**options: typing.Any) -> list[bytes]:
 
 def taken_of(recording: bytes, **options: typing.Any) -> Taken:
     """What is taken of a recording, as `tools/from_pcap` does it."""
-    return take_from(Source(io.BytesIO(recording)), Options(**options), True, Progress(False))
+    with tempfile.NamedTemporaryFile(prefix='nfs3canon') as file:
+        file.write(recording)
+        file.flush()
+        return take(file.name, Options(**options), False)
 
 
 def in_turn(talks: Sequence[Talk],

@@ -16,7 +16,7 @@ from examples.packets import ACK, Talk, ethernet, pcap, recording
 from tests.shared.running import ended
 
 from .comparisons import conversation_of
-from .recordings import cooked, enhanced, fragments, fragments_6, interface, part_of, section
+from .recordings import cooked, enhanced, fragments, interface, part_of, section
 from .scripts import (
     ALL, CALLS, FAULTS, FIRST, REPLIES, TOP, Tools, in_fragments, packed, stream, sums, whole)
 
@@ -205,29 +205,6 @@ def parts_and_pcapng(tools: Tools) -> None:
             2, [], 'cut: the frames have the link types 1, 113, and a pcap has one\n'), False))
     tools.want('one of them',
                cut_out(tools, 'b.pcapng', 'connection 1 client record 1', 'b.pcap')[0], 0)
-
-
-def datagrams_in_fragments(tools: Tools) -> None:
-    """Of a datagram all fragments are taken as they are, and that is said."""
-    for cut_up, hosts in ((fragments, ('192.0.2.7', '192.0.2.1')),
-                          (fragments_6, ('2001:db8::7', '2001:db8::1'))):
-        talk = Talk(hosts=hosts)
-        opened, other = talk.opened(), Talk(701, hosts=hosts).datagram(0, ACK, bytes(900))
-        first, second, *others = [ethernet(piece) for piece in cut_up(other, 400, 78)]
-        pieces = [ethernet(piece) for piece in cut_up(talk.datagram(0, ACK, ALL[0]), 400)]
-        frames = [*opened, first, *pieces[:2], second, *pieces[2:], *others,
-                  talk.frame(1, ACK, ALL[1])]
-        tools.write('a.pcap', pcap(frames))
-        numbers, place = [frames.index(frame) + 1 for frame in pieces], \
-            'connection 1 client record 39'
-        status, lines, _ = cut_out(tools, 'a.pcap', place, f'{cut_up.__name__}.pcap')
-        told = 'cannot be trimmed to these records, and a dissector may not find them'
-        tools.want('lines', (status, lines[0], lines[-2]), (
-            1, f'1:39 was 1:39 (frame {numbers[-1]})', f'frame {numbers[-1]} {told}'))
-        parts = parts_of(frames, {len(frames): (38 * 28, 39 * 28), 1: (0, 0),
-                                  2: (38 * 28, 38 * 28)})
-        tools.want('OUT', tools.read(f'{cut_up.__name__}.pcap')
-                   == extract(parts, [1, 2, *numbers, len(frames)]), True)
 
 
 def exchanges_in_the_extract(tools: Tools) -> None:

@@ -10,13 +10,11 @@ from examples.messages import (
     BLK, DIR, EXCLUSIVE, MOUNT, NFS, NFSACL, NOENT, NOW, REG, UNCHECKED, auth_sys, call, dirop,
     failed, fattr, fh, guard, how, hyper, made, ok, opaque, post_op_attr, sattr, set_to_client_time,
     success, wcc, word)
-from tests.shared.traffic import Names, Traffic
 
 from ..nfs3tools.comparison.values.classes import Mask, Way, mask_of
 from ..nfs3tools.comparison.values.long_values import parting_between
 from ..nfs3tools.comparison.verdict.differences import Comparison
 from ..nfs3tools.exchanges.listing import Message, line_of
-from ..nfs3tools.exchanges.whose import fields_of
 from ..nfs3tools.reporting.telling import signed_rows
 from .comparisons import Comparisons, Conversation, conversation_of
 from .scripts import EXAMPLES
@@ -350,52 +348,19 @@ def of_attributes(number: int) -> Conversation:
     return conversation_of([(1, fh(H), ok(attributes)), (17, fh(H) + bytes(24), ok(listing))])
 
 
-def fields_left_out(place: Findings) -> None:
-    """--ignore leaves out fields by label and name; they are counted."""
+def fields_that_are_known(place: Findings) -> None:
+    """A line of known findings may have a field of any procedure, path and value."""
     place.put_both(of_attributes(1), of_attributes(2))
-    of_file, of_folder = (f'{name} reply: connection 1 server record {record} | connection 1 '
-                          f'server record {record}'
-                            for name, record in (('GETATTR', 1),
-                                                 ('READDIRPLUS', 2)))
-    mode = ['  - obj.mode=0641 (417)', '  + obj.mode=0642 (418)']
-    entries = {name: [f'  - entry "{name}".mode=0641 (417)', f'  + entry "{name}".mode=0642 (418)',
-                      f'  - entry "{name}".nlink=1',
-                      f'  + entry "{name}".nlink=2'] for name in ('a', 'b,c.')}
-    differ, left = 'fields that differ, and how often: ', 'left out by --ignore, and how often: '
-    place.wants('one of one procedure', 1, [
-        of_file, *mode, of_folder, *entries['a'], *entries['b,c.'],
-        f'{differ}entry.mode of READDIRPLUS 2, entry.nlink of READDIRPLUS 2, '
-        'obj.mode of GETATTR 1',
-        f'{left}obj.nlink of GETATTR 1'], '--ignore', 'GETATTR.obj.nlink')
+    place.write('known', '* reply: *nlink=* ×*\n'.encode())
     place.wants('a name', 1, [
-        of_file, *mode, of_folder, *entries['a'][:2], *entries['b,c.'][:2],
-        f'{differ}entry.mode of READDIRPLUS 2, obj.mode of GETATTR 1',
-        f'{left}entry.nlink of READDIRPLUS 2, obj.nlink of GETATTR 1'],
-                '--ignore', '*.nlink')
-    place.wants('an entry', 1, [
-        of_file, *mode, '  - obj.nlink=1', '  + obj.nlink=2', of_folder, *entries['a'],
-        f'{differ}obj.mode of GETATTR 1, obj.nlink of GETATTR 1, entry.mode of '
-        'READDIRPLUS 1, '
-        'entry.nlink of READDIRPLUS 1',
-        f'{left}entry.mode of READDIRPLUS 1, entry.nlink of READDIRPLUS 1'],
-        '--ignore', '*.entry "b,c.".nlink,*.entry "b,c.".mode')
-    everything = [f'{left}entry.mode of READDIRPLUS 2, entry.nlink of '
-                  'READDIRPLUS 2, obj.mode of GETATTR 1, '
-                  'obj.nlink of GETATTR 1']
-    place.wants('all', 1, everything, '--ignore', '*.entry.nlink,*.entry.mode', '--ignore',
-                '*.obj.nlink', '--ignore', 'GETATTR.mode')
-
-
-def words_of_ignore_that_are_none(place: Findings) -> None:
-    """A procedure or a field that is none is named, and refused."""
-    place.put_both(of_attributes(1), of_attributes(2))
-    for bad, named in (('GETATR.nlink', 'near it: GETATTR'), ('*.nothing', 'nothing'),
-                       ('GETATTR.dir.nlink', 'dir.nlink'),
-                       ('GETATTR', 'GETATTR'),
-                       ('*.nlink,MOUNT NULL.nlink', 'nlink'), ('*.obj', 'obj')):
-        status, out, error = place.compare('--ignore', bad, 'a', 'b')
-        place.want(bad, (status, out, named in error.splitlines()[-1], 'Traceback' in error),
-                   (2, [], True, False))
+        *(line for name, labels in (('GETATTR', ['obj']),
+                                    ('READDIRPLUS', ['entry "a"', 'entry "b,c."']))
+          for at in [1 + (name != 'GETATTR')] for line in [
+              f'{name} reply: connection 1 server record {at} | connection 1 server record {at}',
+              *(f'  {sign} {label}.mode={mode}' for label in labels
+                for sign, mode in (('-', '0641 (417)'), ('+', '0642 (418)')))]),
+        'fields that differ, and how often: entry.mode of READDIRPLUS 2, obj.mode of GETATTR 1',
+        '2 known'], '--known', 'known')
 
 
 # --- JSON ---
@@ -447,12 +412,10 @@ def as_json(place: Findings) -> None:
         'position': 'connection 1 server record 2', 'mask': {'times': 'zero', 'ids': 'number'},
         'runs': [{'name': 'a', 'calls': 4, 'only': 1, **whole},
                  {'name': 'b', 'calls': 3, 'only': 0, **whole}],
-        'order': {'together': 3, **order}, 'fields': fields, 'ignored': [], 'left_out': [],
+        'order': {'together': 3, **order}, 'fields': fields, 'left_out': [],
         'findings': FOUND}
     for words, runs, status, changes in (
             (['--mask', 'times,ids'], 'ab', 1, {}),
-            (['--mask', 'times,ids', '--ignore', '*.status'], 'ab', 1, {
-                'findings': FOUND[1:], 'fields': fields[1:], 'ignored': fields[:1]}),
             (['--mask', 'none'], 'aa', 0, {
                 'verdict': 'same', 'position': None, 'mask': {}, 'fields': [], 'findings': [],
                 'order': {'together': 4, **order},
@@ -601,10 +564,6 @@ def labels_of(message: Message) -> list[str]:
     return [item.label for item in message.items]
 
 
-def all_fields(message: Message) -> dict[str, str]:
-    return {item.field: item.name for item in message.items}
-
-
 def labels_of_every_procedure(place: Findings) -> None:
     """Whose each item is, of all procedures, by the names of RFC 1813, sections 3.3 and 5.2."""
     place.want('rows', (len(NFS_ROWS), len(MOUNT_ROWS)), (22, 6))
@@ -638,24 +597,6 @@ def labels_of_fewer_parts(place: Findings) -> None:
     place.want('without a credential',
                labels_of(line_of(place.run('show', 'a')[1].splitlines()[0]).message())[5:],
                ['cred_flavor', 'cred_body', 'verf_flavor', 'verf_body'])
-
-
-def fields_are_those_of_labels(place: Findings) -> None:
-    """Each field of a message is one that its procedure may have."""
-    for number, (arguments, done, *_) in enumerate(NFS_ROWS):
-        for message in of_exchange(place, NFS, number, arguments,
-                                   [success(7, ok(done) if number else b'')]):
-            fields, known = all_fields(message), fields_of(message.procedure)
-            place.want(f'procedure {number}', {field: known.get(field) for field in fields}, fields)
-    place.want('entries', sorted(field for field in fields_of('NFSPROC3_READDIR')
-                                 if field.startswith('entry')),
-               ['entry', 'entry.cookie', 'entry.fileid', 'entry.name'])
-    for seed in range(15):
-        place.put('a', *Traffic(seed, Names.drawn(random.Random(seed))).connections)
-        listed = (line_of(line).message() for line in place.run('show', 'a')[1].splitlines())
-        found = {(message.procedure, field) for message in listed for field in all_fields(message)}
-        place.want(f'seed {seed}', [(procedure, field) for procedure, field in found
-                                    if field not in fields_of(procedure)], [])
 
 
 # --- Classes that whose an item is decides, or its value ---

@@ -14,8 +14,6 @@ from examples.packets import ACK, CLIENT, SERVER, SYN, Talk, datagram, ethernet,
 from tests.shared.running import ended
 
 from ..nfs3tools.recordings.container import capture_of
-from ..nfs3tools.recordings.frames import Frame
-from ..nfs3tools.recordings.segments import Segments
 from ..nfs3tools.recordings.taken import NotTaken, Taken
 from ..nfs3tools.shared.places import SIDES
 from .recordings import (
@@ -187,30 +185,29 @@ def recordings_that_end_early(tools: Tools) -> None:
     tools.want('gzip with a wrong sum', 'the recording is damaged after frame 15: the compressed '
                'file is damaged' in lines[0], True)
     claim = struct.pack('<4I', 1, 0, 0xffffffff, 0xffffffff)
-    claimed = 'the recording is damaged after frame 15: frame 16 claims 4294967295 bytes'
+    claimed = 'the recording is damaged after frame 15: a frame is too long'
     tools.told('a frame of 4 GB', plain + claim + frames[0], [ALL], [claimed])
 
 
 def blocks_that_are_damaged(tools: Tools) -> None:
     """What is before a damaged block of pcapng is taken, and the damage is reported."""
     frames = whole()
-    blocks = pcapng(frames)
+    blocks, impossible = pcapng(frames), 'a block of an impossible size'
     for what, damage, words in (
-            ('a block of 4 GB', struct.pack('<3I', 6, 0xfffffffc, 0),
-             'a block claims 4294967292 bytes'),
-            ('a block of 13 bytes', struct.pack('<4I', 6, 13, 0, 0), 'a block claims 13 bytes'),
-            ('a block of 8 bytes', struct.pack('<3I', 6, 8, 8), 'a block claims 8 bytes'),
+            ('a block of 4 GB', struct.pack('<3I', 6, 0xfffffffc, 0), impossible),
+            ('a block of 13 bytes', struct.pack('<4I', 6, 13, 0, 0), impossible),
+            ('a block of 8 bytes', struct.pack('<3I', 6, 8, 8), impossible),
             ('a section of 24 bytes', struct.pack('<6I', 0x0a0d0d0a, 24, 0x1a2b3c4d, 1, 0, 24),
-             'a block claims 24 bytes'),
+             'a block is too short'),
             ('a section without an order', struct.pack('<3I', 0x0a0d0d0a, 28, 7),
              'the byte order of a section is unknown'),
             ('two lengths', block(6, bytes(20))[:-4] + struct.pack('<I', 28),
              'the two lengths of a block differ'),
             ('no such interface', enhanced(frames[0], 0, 1),
-             'a frame of interface 1, which is not described'),
+             'a frame of an interface that is not described'),
             ('a short packet', block(6, bytes(8)), 'a block is too short'),
             ('more bytes than its block', block(6, struct.pack('<5I', 0, 0, 0, 99, 99)),
-             'frame 16 claims 99 bytes')):
+             'a frame is too long')):
         told = taken_of(blocks + damage + enhanced(frames[0]))
         tools.want(what, (b''.join(capture_of(told.pairs())),
                           words in (told.damage or '') or told.damage), (packed(ALL), True))
@@ -225,10 +222,9 @@ def recordings_that_are_none(tools: Tools) -> None:
             ('three bytes of gzip', gzip.compress(b'x')[:3], 'the compressed file is cut short'),
             ('xz', b'\xfd7zXZ\0\0', 'the compressed file is cut short'),
             ('zstd', b'\x28\xb5\x2f\xfd', ''),
-            ('lz4', b'\x04\x22\x4d\x18', 'it is compressed by lz4')):
+            ('lz4', b'\x04\x22\x4d\x18', 'it is compressed by lz4'),
+            ('a magic alone', pcap([])[:4], 'its header is cut short')):
         tools.refused(what, recording, message)
-    tools.want('a magic alone',
-               'its header is cut short' in (taken_of(pcap([])[:4]).damage or ''), True)
 
 
 def link_layers(tools: Tools) -> None:
@@ -261,9 +257,9 @@ def link_layers(tools: Tools) -> None:
 
 
 def internet_layers(tools: Tools) -> None:
-    """Options and extension headers, fragments in any order, lengths of 0, and those that lie."""
+    """Options and extension headers, lengths of 0, and those that lie."""
     talk, v4, v6 = Talk(), whole(), whole(hosts=('2001:db8::7', '2001:db8::1'))
-    headers = [(0, bytes(8)), (60, b'\0\1' + bytes(14)), (43, bytes(8)), (51, b'\0\1' + bytes(10))]
+    headers = [(0, bytes(8)), (60, b'\0\1' + bytes(14)), (43, bytes(8))]
     for what, frames in (
             ('options of IPv4', [
                 ethernet(b'\x46' + content[1:2] + struct.pack('>H', len(content) + 4)
@@ -271,9 +267,7 @@ def internet_layers(tools: Tools) -> None:
                 for content in (frame[14:] for frame in v4)]),
             ('total length 0', [frame[:16] + b'\0\0' + frame[18:] for frame in v4]),
             ('payload length 0', [frame[:18] + b'\0\0' + frame[20:] for frame in v6]),
-            ('extension headers', [ethernet(extended(frame[14:], headers)) for frame in v6]),
-            ('an atomic fragment', [ethernet(extended(frame[14:], [(44, bytes(8))]))
-                                    for frame in v6])):
+            ('extension headers', [ethernet(extended(frame[14:], headers)) for frame in v6])):
         tools.taken(what, pcap(frames), [ALL])
     with_options = [ethernet(talk.datagram(0, SYN, options=b'\2\4\5\xb4')), *v4[1:3]]
     talk.next = [number + 1 for number in talk.next]
@@ -321,21 +315,6 @@ def mutated(tools: Tools) -> None:
                        bytes_not_on_the_wire(taken, frames_of(recording)), [])
 
 
-def short_way(tools: Tools) -> None:
-    """Plain frames, read by a way of their own, give the segments of the general way."""
-    chance = random.Random(13)
-    frames = [frame for vlan in (None, 7) for frame in whole(vlan=vlan)]
-    for number in range(6_000):
-        data = bytearray(chance.choice(frames))
-        for _ in range(chance.randrange(3)):
-            data[chance.randrange(12, min(60, len(data)))] = chance.choice(
-                (0, 1, 5, 6, 0x45, 0x50, 0x60, 0xf0, 255, chance.randrange(256)))
-        data = data[:chance.choice((len(data), len(data), chance.randrange(len(data))))]
-        frame = Frame(1, 0, 1, bytes(data), len(data) + chance.choice((0, 0, 9)))
-        found = [Segments().segment(frame), Segments().of_any(frame)]
-        tools.want(f'frame {number}: {frame.data.hex()}', found[0], found[1])
-
-
 def mutation(chance: random.Random, base: bytes) -> bytes:
     content = bytearray(base)
     for _ in range(chance.choice((1, 1, 2, 5, 20))):
@@ -364,10 +343,10 @@ def bytes_not_on_the_wire(taken: Taken, frames: list[bytes]) -> list[int]:
     wrong = []
     for connection in taken.connections:
         for side in SIDES:
-            stored, frames_of_side = connection.stream(side).stored, connection.stream(side).noted
-            noted = list(frames_of_side.between(0, stored.size)) if frames_of_side else []
-            ends = [*(brought.begin for brought in noted[1:]), stored.size]
-            wrong += [brought.number for brought, end in zip(noted, ends)
-                      if stored.read(brought.begin,
-                                     end - brought.begin) not in frames[brought.number - 1][16:]]
+            sent = connection.stream(side).sent
+            assert sent
+            brought = list(sent.between(0, sent.size))
+            ends = [*(one.begin for one in brought[1:]), sent.size]
+            wrong += [one.number for one, end in zip(brought, ends)
+                      if sent.read(one.begin, end - one.begin) not in frames[one.number - 1][16:]]
     return wrong

@@ -117,9 +117,10 @@ def full_disks(tools: Tools) -> None:
         tools.write(name,
                     capture((asked, [success(xid, ok(fattr(1, 1, size=60 * mode + xid)))
                                      for xid in range(60)])))
-    several, wide = writers(tools, 'page', FIRST, CHANGED, FIRST), writers(tools, 'page', 'a', 'b')
-    # (60 replies take 8 KB, and 60 findings more)
-    for kilobytes, words in ((1, several[0]), (1, several[1]), (12, wide[2]), (12, wide[3])):
+    tools.write('a.pcap', RECORDING)
+    several, wide = writers(tools, 'page', *['a.pcap'] * 40), writers(tools, 'page', 'a', 'b')
+    # (an index takes less than 4 KB, and 40 verdicts more; 60 replies 8 KB, and 60 findings more)
+    for kilobytes, words in ((4, several[0]), (4, several[1]), (12, wide[2]), (12, wide[3])):
         tools.write('page', AS_IT_WAS)
         answer = through_bash(tools, f'ulimit -f {kilobytes}; exec "$@"', tool(words[0]),
                               *words[1:])

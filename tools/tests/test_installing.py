@@ -162,6 +162,13 @@ def by_pip(place: Place) -> None:
     place.want('without programs', place.command(*made, FIRST)[::2], (
         2, 'nfs3-verdicts: nfs3canon is missing: it is neither beside the tools nor on the PATH; '
         '`make install` in a clone of nfs3canon installs it\n'))
+    os.mkdir(place.path('alone'))
+    shutil.copy(place.program, place.path('alone/nfs3canon'))
+    alone = [word.replace('/nonexistent', place.path('alone')) for word in made[:-1]]
+    place.want('without nfs3streams', place.command(
+        *alone, place.path('made/bin/nfs3-where'), FIRST, 'frame 1')[::2], (
+        2, 'nfs3-where: nfs3streams is missing: it is neither beside the tools nor on the PATH; '
+        '`make install` in a clone of nfs3canon installs it\n'))
     place.want('help',
                'man/verdicts.1 of the tools in a clone' in place.command(*made, '--help')[1], True)
 

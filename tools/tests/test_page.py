@@ -137,18 +137,18 @@ def head_and_counts(place: Compared) -> None:
 
 
 def what_does_not_count(place: Compared) -> None:
-    """What is left out, ignored or missing is in the table of both runs, or below it."""
+    """What is left out, known or missing is in the table of both runs, or below it."""
     calls, replies = gets(with_modes(9, 3, 4))
     again = conversation_of([(GETATTR, fh(b'file'), ok(fattr(1, 5, 8, 0o640)))], 99)
+    place.write('known', '* reply: *mode=* ×*\n'.encode())
     page = place.page_of((calls + again[0], replies + again[1]), gets(with_modes(9)),
-                         '--ignore=*.mode')
+                         '--known=known')
     runs = runs_of(page)
     place.want('left out', (runs['calls left out'], 'only in this run' in runs,
                             'first frame' in runs), (['1 GETATTR', 'nothing'], False, False))
-    place.want('ignored', (
-        '*.mode: obj.mode of GETATTR 2.' in page.all('dl')[0].text(),
-        'All fields that differ are ignored.' in page.text(),
-        [one for one in rows_and_gaps(page) if one[0] == '≠']), (True, True, ['≠ 4 4', '≠ 5 5']))
+    place.want('known', ('differs in what is known' in page.text(),
+                         [one for one in rows_and_gaps(page) if one[0] == '≠']),
+               (True, ['≠ 4 4', '≠ 5 5']))
     talk = Talk()
     frames = [*talk.opened(), *(talk.sent(side, fragment(NULLS[side][at]))
                                 for at in range(4) for side in (0, 1))]

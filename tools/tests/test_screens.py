@@ -1,15 +1,10 @@
 """Tests of what the tools print on pseudo-terminals of a known width."""
-import bz2
 import contextlib
 import fcntl
-import gzip
 import io
-import lzma
 import os
 import pty
-import random
 import re
-import shutil
 import struct
 import subprocess
 import termios
@@ -18,10 +13,7 @@ from collections.abc import Sequence
 
 from examples.messages import NFS, call, dirop, failed, fattr, fh, ok, post_op_attr, success
 from examples.packets import pcap
-from tests.shared.running import ended
 
-from ..nfs3tools.recordings.frames import Recording, Source, opened
-from ..nfs3tools.recordings.taken import share_of, size_of
 from ..nfs3tools.shared.progress import Progress
 from ..nfs3tools.shared.screens import Colour, Screen, Styled, table_lines
 from .comparisons import Comparisons
@@ -188,30 +180,6 @@ class Terminal(io.StringIO):
 
     def isatty(self) -> bool:
         return True
-
-
-def shares_are_those_of_the_file(tools: Tools) -> None:
-    """The share that was read grows to 1, also of compressed files."""
-    chance = random.Random(1)
-    content = pcap([chance.randbytes(60_000) for _ in range(100)])
-    files = {'a': content, 'a.gz': gzip.compress(content), 'a.xz': lzma.compress(content),
-             'a.bz2': bz2.compress(content)}
-    tools.write('a', content)
-    if shutil.which('zstd'):
-        files['a.zst'] = ended(['zstd', '-qc', 'a'], tools.folder).out
-    for name, packed in files.items():
-        tools.write(name, packed)
-        for before, size in ((0, len(packed)), (len(packed), 2 * len(packed))):
-            with opened(tools.path(name)) as file:
-                source = Source(file)
-                share = share_of(source, before, size)
-                shares = [share() for _ in Recording(source).frames() if share]
-            # (zstd reads some megabytes ahead)
-            is_near = name == 'a.zst' or abs(shares[50] - (before + len(packed) / 2) / size) < 0.3
-            tools.want(f'{name} after {before}', (len(shares), shares == sorted(shares), shares[-1],
-                                                  is_near), (100, True, 1.0, True))
-    with opened(tools.path('a')) as file:
-        tools.want('no size', share_of(Source(file), 0, size_of(['-'])), None)
 
 
 def progress_is_said_at_times(tools: Tools) -> None:

@@ -1,30 +1,25 @@
-"""Random recordings against a small model of TCP, which knows which bytes were sent and recorded;
-and that no recorded byte is dropped without being counted.
+"""Random recordings, also with one frame changed, against the model of nfs3streams; and that no
+recorded byte is dropped without being counted.
 
-If the model has all bytes, the verdict is `ok` and just these are taken; if some are missing, or
-belong to nothing, it may not be. And recordings of which one frame was changed.
+If the model says that all connections are whole, their streams are judged; else the status is 1.
 """
-import collections
 import dataclasses
 import itertools
 import random
-import re
 import struct
 import typing
 
 from examples.messages import NFS, call, fragment, success
 from examples.packets import (
     ACK, CLIENT, FIN, RST, SERVER, SYN, Talk, datagram, ethernet, pcap, segment)
+from tests.shared import recorded
 
-from ..nfs3tools.judgement.verdict import Verdict, is_row, status_of
-from ..nfs3tools.recordings import spool, streams
+from ..nfs3tools.judgement.verdict import is_row, status_of
 from ..nfs3tools.recordings.coverage import Allowed
-from ..nfs3tools.shared.places import SIDES
 from .cases import try_seeds
-from .recordings import fragments, fragments_6
 from .scripts import CALL, CALLS, REPLIES, REPLY, Tools, stream, taken_of, timed, verdicts_on
 
-FAR = 1 << 30
+FAR = (1 << 30) + 5_000  # beyond the last byte, also if some come late
 
 
 # --- What is sent ---
@@ -108,13 +103,11 @@ def add_end(chance: random.Random, made: Connection, sent: list[int]) -> None:
 
 
 class Recorded(typing.NamedTuple):
-    """A frame: its bytes, how many are kept, and of which segment it is a part."""
+    """A frame: its bytes, how many are kept, and its segment."""
     frame: bytes
     kept: int
     connection: Connection
     sent: Sent
-    part: int
-    parts: int
 
 
 class Make:
@@ -123,10 +116,9 @@ class Make:
     def __init__(self, seed: int) -> None:
         self.chance = random.Random(seed)
         chance = self.chance
-        self.lost, self.late, self.twice, self.cut, self.split, self.odd = (
+        self.lost, self.late, self.twice, self.cut, self.odd = (
             chance.choice(rates) for rates in ((0, 0, 0, 0.01, 0.05), (0, 0, 0.02, 0.2),
-                                               (0, 0, 0.1), (0, 0, 0, 0.01), (0, 0, 0.1),
-                                               (0, 0, 0.005, 0.02)))
+                                               (0, 0, 0.1), (0, 0, 0, 0.01), (0, 0, 0.005, 0.02)))
         self.connections: list[Connection] = []
 
     def streams(self, first_xid: int) -> tuple[bytes, bytes]:
@@ -204,18 +196,13 @@ class Make:
         return frames[:chance.randrange(1, len(frames) + 1)] if chance.random() < 0.1 else frames
 
     def frames_of(self, made: Connection) -> list[Recorded]:
-        """The frames of a connection, some in fragments, some not kept whole."""
-        chance, frames = self.chance, list[Recorded]()
-        for number, sent in enumerate(made.segments):
-            content = made.datagram(sent)
-            pieces = [content]
-            if chance.random() < self.split and len(content) > 40:
-                pieces = fragments(content, chance.choice((24, 32, 64)), chance.randrange(1 << 16))
-            for at, piece in enumerate(pieces):
-                frame, is_cut = ethernet(piece), chance.random() < self.cut and len(
-                    sent.content) > 4 and len(pieces) == 1
-                sent.lacks = 4 if is_cut else 0
-                frames.append(Recorded(frame, len(frame) - 4 * is_cut, made, sent, at, len(pieces)))
+        """The frames of a connection, some not kept whole."""
+        frames = list[Recorded]()
+        for sent in made.segments:
+            frame, is_cut = ethernet(made.datagram(sent)), self.chance.random() < self.cut and len(
+                sent.content) > 4
+            sent.lacks = 4 if is_cut else 0
+            frames.append(Recorded(frame, len(frame) - 4 * is_cut, made, sent))
         return frames
 
     def disturbed(self, frames: list[Recorded]) -> list[Recorded]:
@@ -237,140 +224,68 @@ def pcap_of(frames: list[Recorded]) -> bytes:
                              for number, one in enumerate(frames))
 
 
-# --- The model ---
-
-class Whole(typing.NamedTuple):
-    """Whether all bytes of a pair of ends are there, if known; connections with bytes."""
-    is_whole: bool | None
-    with_bytes: int
-
-
-class Side:
-    """One stream: which bytes were recorded, and up to where frames show that bytes were sent."""
-
-    def __init__(self, size: int) -> None:
-        self.there, self.shown = bytearray(size), 0
-
-    def add(self, begin: int, size: int) -> None:
-        self.there[begin:begin + size] = b'\1' * size
-        self.shown = max(self.shown, begin + size)
-
-    @property
-    def is_whole(self) -> bool:
-        return all(self.there[:self.shown])
-
-
-class Model:
-    """Takes the frames of one connection."""
-
-    def __init__(self, connection: Connection, counts: dict[int, int]) -> None:
-        self.connection, self.counts = connection, counts  # how many fragments each segment has
-        self.sides = [Side(len(content)) for content in connection.streams]
-        self.parts: dict[int, set[int]] = collections.defaultdict(set)
-        self.seen = set[str]()
-        self.closed = [False, False]  # by FIN or RST of its own
-        self.is_odd = self.is_unsure = self.begins_inside = False
-
-    def take(self, one: Recorded) -> None:
-        sent, parts = one.sent, self.parts[id(one.sent)]
-        if one.part in parts:
-            return
-        parts.add(one.part)
-        if len(parts) < one.parts:
-            return
-        if sent.extra:
-            is_far, is_known = sent.acknowledged >= FAR, bool(
-                self.seen or self.sides[1 - sent.side].shown)
-            self.is_odd |= bool(sent.content) or is_far and is_known
-            self.is_unsure |= bool(sent.flags & FIN) or is_far
-            return
-        own, other = self.sides[sent.side], self.sides[1 - sent.side]
-        self.begins_inside |= not self.seen and not sent.flags & SYN
-        if sent.flags & SYN:
-            self.seen.add('syn-ack' if sent.flags & ACK else 'syn')
-        if sent.content and not sent.flags & RST:
-            # SYN and the first bytes may come late
-            self.is_unsure |= not self.seen and sent.begin > 0 and not any(own.there)
-            own.add(sent.begin, len(sent.content) - sent.lacks)
-        own.shown = max(own.shown, min(sent.end if not sent.flags & RST else sent.begin,
-                                       len(own.there)))
-        if sent.flags & ACK:
-            other.shown = max(other.shown, min(sent.acknowledged, len(other.there)))
-        self.closed[sent.side] |= bool(sent.flags & (FIN | RST))
-
-    def whole(self) -> bool | None:
-        """Whether all bytes are there, and the last record is whole."""
-        if not any(side.shown for side in self.sides):
-            return None if self.is_odd else True
-        if self.is_odd or not all(side.is_whole for side in self.sides):
-            return False
-        if any(side.shown % size for side, size in zip(self.sides, (CALL, REPLY))) or not self.seen:
-            return False
-        if any(len(parts) < self.counts[number] for number, parts in self.parts.items()):
-            return None
-        return None if self.is_unsure or 'syn-ack' not in self.seen else True
-
-
-def modelled(connections: list[Connection], frames: list[Recorded]) -> dict[int, Whole]:
-    """What the model says, by the client's port."""
-    counts = {id(one.sent): one.parts for one in frames}
-    models = {id(connection): Model(connection, counts) for connection in connections}
-    for one in frames:
-        models[id(one.connection)].take(one)
-    found = dict[int, Whole]()
-    for port in {connection.port for connection in connections}:
-        several = [models[id(connection)] for connection in connections if connection.port == port]
-        said = [model.whole() for model in several]
-        said += [None] * any(model.begins_inside for model in several[1:])
-        is_whole = False if False in said else None if None in said else True
-        found[port] = Whole(is_whole,
-                            sum(any(side.shown for side in model.sides) for model in several))
-    return found
-
-
 # --- What the tools say ---
 
-def rows_of(verdicts: list[Verdict], port: int) -> list[Verdict]:
-    """The rows of the connections of a port."""
-    return [verdict for verdict in verdicts if is_row(verdict) and verdict.state != 'error'
-            and (re.search(fr':{port}\b', verdict.message) or verdict.client.endswith(f':{port}')
-                 or verdict.server.endswith(f':{port}'))]
+class Modelled(typing.NamedTuple):
+    """A recording by the model of nfs3streams: the streams of whole connections, and whether all
+    connections with bytes are whole, to the ends of their records.
+
+    has_others: whether there are other frames, bytes before the beginning, or an end that sent
+        nothing and whose SYN is not there
+    """
+    streams: list[tuple[bytes, bytes]]
+    is_whole: bool
+    has_others: bool
 
 
-def contents(recording: bytes, port: int) -> list[tuple[bytes, bytes]]:
-    """The streams that are taken of the connections of a port."""
+def modelled(recording: bytes) -> Modelled:
+    frames, _, _ = recorded.read_frames(recording)
+    connections, lacking = recorded.connections_of(frames)
+    for one in connections:
+        for sent in filter(None, one.streams):
+            sent.order()
+    said = [recorded.decide(recording, one, ()) for one in connections]
+    whole = [one for one, decision in zip(connections, said) if decision == 'Whole']
+    found, has_others = list[tuple[bytes, bytes]](), bool(lacking) or 'NotChosen' in said
+    for one in whole:
+        calls, replies = one.streams[::1 if one.client == 0 else -1]
+        assert calls and calls.begin and replies and replies.begin
+        first, second = calls.begin.position, replies.begin.position
+        found.append((recorded.bytes_between(recording, calls, first, 1 << 40),
+                      recorded.bytes_between(recording, replies, second, 1 << 40)))
+        has_others |= any(run.position < first for run in calls.runs)
+        has_others |= any(run.position < second for run in replies.runs)
+    has_others |= any(isinstance(decision, recorded.Flaw) and decision.kind == 'NoSyn'
+                      and not all(sent and sent.runs for sent in one.streams)
+                      for one, decision in zip(connections, said))
+    is_whole = all(decision in ('Whole', 'Empty', 'NotChosen') for decision in said) and not any(
+        len(calls) % CALL or len(replies) % REPLY for calls, replies in found)
+    return Modelled([pair for pair in found if any(pair)], is_whole, has_others)
+
+
+def wrong_of(program: str, made: Make, recording: bytes) -> str:
+    """What is wrong with the verdicts on a recording: the status is 0 only if all connections are
+    whole, and just their streams are judged. It is 0 if the streams are also those that were
+    sent."""
+    model, verdicts = modelled(recording), verdicts_on(program, recording)
     with taken_of(recording) as taken:
-        client, server = SIDES
-        return [(one.stream(client).read(0, 1 << 20), one.stream(server).read(0, 1 << 20))
-                for one in taken.connections
-                if one.client_end.endswith(f':{port}')]
-
-
-def wrong_of_port(port: int, whole: Whole, made: Make, recording: bytes,
-                  verdicts: list[Verdict]) -> list[str]:
-    """What is wrong with what is said of the connections of a port."""
-    wrong, rows = [], rows_of(verdicts, port)
-    is_good = all(row.state == 'ok' for row in rows) and len(rows) == whole.with_bytes
-    is_part = any(row.state == 'in part' and not row.client and 'fragments' in row.message
-                  for row in verdicts)
-    if whole.is_whole is not None and is_good is not whole.is_whole and not (
-            is_part and not whole.is_whole):
-        wrong.append(f'port {port}: {whole}, but {[(row.state, row.message) for row in rows]}')
-    wanted = [one.streams for one in made.connections if one.port == port]
-    if is_good and not all(any(client.startswith(one) and server.startswith(two)
-                               for client, server in wanted)
-                           for one, two in contents(recording, port)):
-        wrong.append(f'port {port}: other bytes')
-    return wrong
+        judged = [(one.client.read(0, 1 << 20), one.server.read(0, 1 << 20))
+                  for one in taken.connections]
+    is_good, sent = status_of(verdicts, Allowed()) == 0, [one.streams for one in made.connections]
+    is_sound = model.is_whole and not model.has_others and model.streams != [] and all(
+        any(one.startswith(calls) and two.startswith(replies)
+            and len(replies) // REPLY <= len(calls) // CALL for one, two in sent)
+        for calls, replies in model.streams)
+    if not is_sound and (not is_good or model.has_others) or (
+            is_good and model.is_whole and judged == model.streams):
+        return ''
+    return f'{model.is_whole} and {is_sound}, but {[one.message for one in verdicts]}'
 
 
 def wrong_of_seed(program: str, seed: int) -> list[str]:
     made = Make(seed)
-    frames = made.recorded()
-    recording = pcap_of(frames)
-    verdicts = verdicts_on(program, recording)
-    return [f'seed {seed}: {wrong}' for port, whole in modelled(made.connections, frames).items()
-            for wrong in wrong_of_port(port, whole, made, recording, verdicts)]
+    wrong = wrong_of(program, made, pcap_of(made.recorded()))
+    return [f'seed {seed}: {wrong}'] * bool(wrong)
 
 
 # --- One frame that is changed ---
@@ -387,8 +302,7 @@ class Undisturbed(Make):
                 for frame in self.frames_of(self.connection(700 + number))]
 
 
-# Of Ethernet from the kind on, of IP, and of TCP, which only the first fragment has
-HEADERS, HEADERS_OF_IP = range(12, 54), range(12, 34)
+HEADERS = range(12, 54)  # of Ethernet from the kind on, of IP, and of TCP
 
 
 def changed(chance: random.Random, one: Recorded) -> list[Recorded]:
@@ -402,52 +316,19 @@ def changed(chance: random.Random, one: Recorded) -> list[Recorded]:
     if way == 'shortened':
         frame = frame[:chance.randrange(len(frame))]
         return [one._replace(frame=frame, kept=len(frame))]
-    at = chance.choice(HEADERS_OF_IP if one.part else HEADERS)
+    at = chance.choice(HEADERS)
     other = (frame[at] + chance.choice((1, 2, 4, 8, 16, 32, 64, 128,
                                         chance.randrange(1, 256)))) % 256
     return [one._replace(frame=frame[:at] + bytes([other]) + frame[at + 1:])]
 
 
-def records_of(streams: typing.Iterable[bytes]) -> collections.Counter[bytes]:
-    """The records of some streams, each with its mark. What is no record is one, too."""
-    found = collections.Counter[bytes]()
-    for content in streams:
-        while content:
-            size = 4 + (int.from_bytes(content[:4], 'big') & 0x7fffffff)
-            found[content[:size]] += 1
-            content = content[size:]
-    return found
-
-
-def recorded_in(made: Make, frames: list[Recorded]) -> tuple[bool, collections.Counter[bytes]]:
-    """Whether the model finds nothing missing in these frames, and the records that they bring."""
-    counts = {id(one.sent): one.parts for one in frames}
-    models = {id(connection): Model(connection, counts) for connection in made.connections}
-    for one in frames:
-        models[id(one.connection)].take(one)
-    brought = records_of(content[:side.shown] for model in models.values()
-                         for content, side in zip(model.connection.streams, model.sides))
-    return all(model.whole() is not False for model in models.values()), brought
-
-
 def wrong_of_change(program: str, seed: int) -> list[str]:
-    """The status is 0 only if all records that are whole were judged."""
     made = Undisturbed(seed)
     frames = made.recorded()
     at = made.chance.randrange(len(frames))
-    instead, others = changed(made.chance, frames[at]), frames[:at] + frames[at + 1:]
-    recording = pcap_of(frames[:at] + instead + frames[at + 1:])
-    if status_of(verdicts_on(program, recording), Allowed()):
-        return []
-    with taken_of(recording) as taken:
-        judged = records_of(stream.read(0, stream.size) for one in taken.connections
-                            for stream in (one.client, one.server))
-    (_, every), (is_whole, left) = (recorded_in(made, some) for some in (frames, others))
-    is_right = judged == every or is_whole and judged >= left and every >= judged
-    return [] if is_right else [
-        f'seed {seed}: frame {at + 1}, {is_whole}, judged '
-        f'{sum(judged.values())} '
-        f'of {sum(left.values())} and {sum(every.values())}']
+    frames[at:at + 1] = changed(made.chance, frames[at])
+    wrong = wrong_of(program, made, pcap_of(frames))
+    return [f'seed {seed}: frame {at + 1}, {wrong}'] * bool(wrong)
 
 
 def seeds(tools: Tools) -> None:
@@ -520,48 +401,44 @@ def told(tools: Tools, what: str, recording: bytes, status: int, rows: list[str]
 
 # --- Far numbers ---
 
+BEYOND = 'bytes far beyond the last may be missing'
+TOLD_OF_STRAYS = 'client: %s a sequence number far from all others, first frame %d'
+
+
 def much_is_missing_in_the_middle(tools: Tools) -> None:
-    """However much it is, what comes after it is judged."""
-    for lost in (1_000, 70_000_000, 1_000_000_000, 2_200_000_000, 3_000_000_000, 4_200_000_000):
+    """What comes after up to 1 GiB is judged; more is counted, and in part."""
+    for lost in (1_000, 70_000_000, 1_000_000_000):
         for bad, row in ((None, f'ok in part: 20 calls, {2 * lost:,} bytes missing'),
                          (15, RECORD_16 % (3 + 2 * 16))):
             told(tools, f'{lost} bytes, {bad}',
                  with_frames(lambda talk: moved(talk, lost, lost), bad), 1, [row])
+    # (4,200,000,000 bytes are the same as 94,967,296 bytes backwards)
+    for lost, row, note in ((2_200_000_000, BEYOND, TOLD_OF_STRAYS % ('22 frames have', 24)),
+                            (3_000_000_000, BEYOND, ''),
+                            (4_200_000_000, f'{10 * CALL} bytes left out, {BEYOND}', '')):
+        told(tools, f'{lost} bytes', with_frames(lambda talk: moved(talk, lost, 0)), 1,
+             [f'ok in part: 10 calls, {row}'], note)
 
 
 def much_is_missing_at_the_end(tools: Tools) -> None:
-    """However much it is, if several frames show it."""
-    for lost in (60_000_000, 70_000_000, 200_000_000, 2_000_000_000, 3_000_000_000):
+    """Up to 1 GiB, it is known how much it is."""
+    for lost in (60_000_000, 70_000_000, 200_000_000, 1_000_000_000, 2_000_000_000):
         for is_acknowledged in (True, False):
             talk = Talk()
             frames = [*talk.opened(), *exchanged(talk, range(10)), *moved(talk, lost, lost)]
             frames += [talk.frame(side, ACK) for side in (0, 1) if is_acknowledged]
+            row = BEYOND if lost > FAR else f'{2 * lost:,} bytes missing'
             told(tools, f'{lost} bytes, {is_acknowledged}', pcap(
                 [*frames, talk.frame(0, FIN | ACK), talk.frame(1, FIN | ACK, ahead=0)]), 1,
-                 [f'ok in part: 10 calls, {2 * lost:,} bytes missing'])
+                 [f'ok in part: 10 calls, {row}'])
 
 
 def one_frame_that_is_far(tools: Tools) -> None:
-    """An acknowledgement that no other frame agrees with is reported."""
-    for far in (1 << 30, 3_000_000_000):
+    """An acknowledgement more than 1 GiB beyond the last byte is counted."""
+    for far in (FAR, 3_000_000_000):
         told(tools, f'{far}', with_frames(lambda talk: [
             *moved(talk, far, 0), talk.frame(1, ACK), *moved(talk, -far, 0)]), 1,
-             ['ok in part: 20 calls, bytes far beyond the last may be missing'],
-             'client: frame 24 shows bytes far beyond the last that is known, and no other frame '
-             'does')
-
-
-def much_in_flight(tools: Tools) -> None:
-    """Acknowledgements that lag behind by 200 MB show nothing that is missing."""
-    stream_of_much = streams.Stream(spool.Spool(), streams.Budget(), None)
-    stream_of_much.first, stream_of_much.next, stream_of_much.acked = (50, 5_300_000_000,
-                                                                       5_100_000_000)
-    for position in (5_100_000_000, 5_100_000_100, 5_040_000_000, 5_290_000_000):
-        tools.want(f'{position}', stream_of_much.position((50 + position) % (1 << 32)), position)
-        stream_of_much.is_acknowledged((50 + position) % (1 << 32), 1)
-        tools.want(f'{position}, what it shows', (stream_of_much.known_end <= stream_of_much.next,
-                                                  stream_of_much.far),
-                   (True, None))
+             [f'ok in part: 20 calls, {BEYOND}'], TOLD_OF_STRAYS % ('1 frame has', 24))
 
 
 # --- Stray flags ---
@@ -572,36 +449,31 @@ def stray_resets(tools: Tools) -> None:
         def reset(talk: Talk) -> list[bytes]:
             return [talk.frame(1, RST, ahead=ahead)]
         told(tools, f'{ahead}', with_frames(reset, 15), 1, [RECORD_16 % 36])
-        told(tools, f'{ahead}, before any payload', with_frames(reset, at=0), 0, ['ok'],
-             'frame 4: a RST that its receiver does not expect')
+        told(tools, f'{ahead}, before any payload', with_frames(reset, at=0), 0, ['ok'])
 
 
 def stray_ends(tools: Tools) -> None:
-    """A FIN after which the stream goes on, acknowledged, is none; else it is counted."""
-    for side in (0, 1):
-        for bad, row in ((None, 'ok'), (15, RECORD_16 % 36)):
-            told(tools, f'{side} {bad}', with_frames(
-                lambda talk: [talk.frame(side, FIN | ACK)], bad), bad is not None, [row])
-    note = f'server: {REPLY} bytes fit nowhere in the stream, and are left out, first frame 25'
-    for what, note in (('left out', note), ('missing', '')):
-        talk = Talk()
-        frames = [*talk.opened(), *exchanged(talk, range(10))]
-        last = ([*moved(talk, 0, REPLY), talk.frame(1, FIN | ACK), *moved(talk, 0, -REPLY),
-                 talk.frame(1, FIN | ACK)] if what == 'missing' else
-                [talk.frame(1, FIN | ACK), talk.frame(1, ACK, reply(9, False))])
-        told(tools, what, pcap([*frames, *last, talk.frame(0, FIN | ACK)]), 1,
-             [f'ok in part: 10 calls, {REPLY} bytes {what}'], note)
+    """Bytes after a FIN are none of the stream, and are counted: then nobody is blamed."""
+    for side, size in ((0, 10 * CALL), (1, 10 * REPLY)):
+        for bad in (None, 15):
+            told(tools, f'{side} {bad}', with_frames(lambda talk: [talk.frame(side, FIN | ACK)],
+                                                     bad), 1,
+                 [f'ok in part: {10 if side == 0 else 20} calls, {size} bytes left out'])
+    talk = Talk()
+    frames = [*talk.opened(), *exchanged(talk, range(10)), talk.frame(1, FIN | ACK),
+              talk.frame(1, ACK, reply(9, False)), talk.frame(0, FIN | ACK)]
+    told(tools, 'left out', pcap(frames), 1, [f'ok in part: 10 calls, {REPLY} bytes left out'],
+         f'server: {REPLY} bytes fit nowhere in the stream, and are left out, first frame 25')
 
 
 def stray_beginnings(tools: Tools) -> None:
-    """A SYN that fits no connection begins none if the one that is there goes on."""
+    """A SYN with another number begins a connection; what goes on with the old one is of it."""
     for (flags, side), ahead in itertools.product(
             ((SYN, 0), (SYN | ACK, 1), (SYN | ACK, 0), (SYN, 1)), (0x30000000, 5_000, -300)):
-        for bad, row, note in ((None, 'ok', 'frame 24: a SYN that fits no connection'),
-                               (15, RECORD_16 % 36, '')):
+        for bad, row in ((None, 'ok'), (15, RECORD_16 % 36)):
             told(tools, f'{flags} {side} {ahead} {bad}', with_frames(
                 lambda talk: [talk.frame(side, flags, ahead=ahead)], bad), bad is not None, [row],
-                 note)
+                 'no payload')
 
 
 def ports_that_are_used_again(tools: Tools) -> None:
@@ -614,12 +486,8 @@ def ports_that_are_used_again(tools: Tools) -> None:
     first, again = Talk(), Talk()
     refused = [*first.opened(), *exchanged(first, range(10), 5), *first.closed()]
     newer = [*again.opened(), *exchanged(again, range(10)), *again.closed()]
-    for what, frames in (('the same numbers', refused + newer),
-                         ('after RST', refused[:-2] + [first.frame(0, RST)] + newer)):
-        rows = ['ok', 'server record 6 byte 20: BadEnum, frame 15']
-        told(tools, 'refused, then ' + what, pcap(frames), 1, rows)
-        told(tools, 'refused, and seconds later ' + what, with_times(frames, {17: 5, 30: 5}), 1,
-             rows)
+    told(tools, 'the same numbers are of the same connection', pcap(refused + newer), 1,
+         ['server record 6 byte 20: BadEnum, frame 15'], '1 frame repeats bytes with other content')
 
 
 def other_content(tools: Tools) -> None:
@@ -642,46 +510,10 @@ def other_content(tools: Tools) -> None:
 
 def other_content_beyond_an_end(tools: Tools) -> None:
     """Bytes beyond a FIN count if they come again with other content."""
-    for again, row, note in ((reply(10, False), 'ok', ''),
-                             (b'x' * REPLY, 'ok in part: 20 calls, 1 frame with other content',
-                              '1 frame repeats bytes with other content, first frame 27')):
+    for again, more in ((reply(10, False), ''), (b'x' * REPLY, '1 frame with other content, ')):
         talk = Talk()
         frames = [*talk.opened(), *exchanged(talk, range(10)), talk.frame(1, FIN | ACK),
                   *exchanged(talk, [10]), talk.frame(1, ACK, again, ahead=-REPLY),
                   *exchanged(talk, range(11, 20)), *talk.closed()]
-        told(tools, row, pcap(frames), int(row != 'ok'), [row], note)
-
-
-def bytes_of_a_gap_that_was_given_up(tools: Tools) -> None:
-    """Bytes that come after 8 MB behind them were held are counted."""
-    talk = Talk()
-    frames = [*talk.opened(), *exchanged(talk, range(10))]
-    lost = talk.sent(0, fragment(CALLS[10]))
-    many = [talk.sent(0, fragment(CALLS[11])), *(talk.sent(0, bytes(60_000)) for _ in range(150))]
-    with taken_of(pcap([*frames, *many, lost])) as taken:
-        connection = taken.connections[0]
-        tools.want('late', (connection.missing, f'{CALL} bytes left out' in connection.lacks
-                            or connection.lacks), (CALL, True))
-
-
-def stale_fragments(tools: Tools) -> None:
-    """A fragment twice begins no other datagram; one that waits is given up."""
-    lost = '1 datagram of TCP is not taken, since not all fragments of it came in time'
-    for (cut, hosts, limit), is_whole, hours in itertools.product(
-            ((fragments, ('192.0.2.7', '192.0.2.1'), 30),
-             (fragments_6, ('2001:db8::7', '2001:db8::1'), 60)), (True, False), (0, 1)):
-        talk = Talk(hosts=hosts)
-        opened, both = talk.opened(), list[list[bytes]]()
-        for at in (0, 5):
-            content = stream(CALLS[at:at + 5])
-            both.append([ethernet(piece) for piece in cut(talk.datagram(0, ACK, content), 64, 7)])
-            talk.next[0] += len(content)
-        first, second = both
-        left = opened + (first if is_whole else first[:-2]) + first[-1:]
-        with taken_of(with_times(left + second, {len(left): 3_600 if hours else limit + 10})
-                      ) as found:
-            content = found.connections[0].client.read(0, 1 << 20) if found.connections else b''
-            tools.want(f'{limit} {is_whole} {hours}', content, stream(CALLS[:10]) if is_whole
-                       else stream(CALLS[5:10]) if content else b'')
-            tools.want('told', [remark.reason for remark in found.remarks],
-                       [] if is_whole else [lost])
+        told(tools, f'again {more}', pcap(frames), 1,
+             [f'ok in part: 20 calls, {more}{10 * REPLY} bytes left out'])

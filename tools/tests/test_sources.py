@@ -14,7 +14,6 @@ READERS = {
     'what users type, and argparse says of it': {
         'commands.calls': 'duration procedure_names wanted_by', 'commands.cut': 'main',
         'commands.meaning': 'rule_names', 'comparison.values.classes': 'patterns',
-        'comparison.verdict.accepted': 'one_of patterns',
         'judgement.window': 'nanoseconds patterns', 'shared.names': 'is_installed as_called',
         'reporting.messages': 'Parser fitted hanging help_of port_numbers patterns'},
     'what the programs print, and names and values in it': {

@@ -11,11 +11,11 @@ import time
 import unittest
 
 from examples.messages import NFS, call, success
-from examples.packets import ACK, Talk, ethernet, pcap
+from examples.packets import ACK, Talk, pcap
 from tests.shared.running import begin, ended, pipe_of
 
 from ..nfs3tools.shared.places import SIDES, Place
-from .recordings import NANOSECONDS, fragments, interface, section, simple
+from .recordings import NANOSECONDS, interface, section, simple
 from .scripts import (
     ALL, CALL, CALLS, FAULTS, FIRST, REPLIES, TOP, VERDICTS, Tools, connection_of, exchange,
     in_fragments, of_tshark, stream, sums, taken_of, whole)
@@ -80,17 +80,14 @@ def places_by_standard_input(tools: Tools, frames: list[bytes]) -> None:
 
 
 def places_of_other_recordings(tools: Tools) -> None:
-    """Fragments, frames without times, cuts and gaps."""
+    """Frames without times, cuts and gaps."""
     frames, talk = whole(), Talk()
-    pieces = [ethernet(piece) for number, frame in enumerate(frames)
-              for piece in fragments(frame[14:], 64, number)]
     single = pcap(talk.opened() + [talk.sent(0, ALL[0][at:at + 1]) for at in range(2 * CALL)])
     again = pcap(Talk(699).opened() + whole() + whole(first=(9_000, 9_000)))
     no_times = section() + interface() + b''.join(map(simple, frames))
     # (the first record that is whole behind the gap has another number)
     behind = 2 * 344 // CALL + 1 - 7
     for recording, place, last in (
-            (pcap(pieces), 'client record 1 byte 0', 'number == 9'),
             *((single, f'client record 1 byte {byte}', f'number == {frame}')
               for byte, frame in ((0, 8), (39, 47), (40, 47))),
             (single, 'client record 2', 'number in {48..91}'),
@@ -311,7 +308,7 @@ def rows_of_files_that_are_not_whole(tools: Tools) -> None:
             good, 'in part: the recording ends inside a frame (frame 16): the compressed file is '
             'cut short']),
         'damaged': (pcap(whole()) + b'\xff' * 16, [
-            good, 'the recording is damaged after frame 15: frame 16 claims 4294967295 bytes']),
+            good, 'the recording is damaged after frame 15: a frame is too long']),
         'empty': (pcap([]), ['no connection to judge'])}
     for name, (content, rows) in cases.items():
         tools.write(name, content)

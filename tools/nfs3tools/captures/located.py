@@ -9,11 +9,11 @@ import contextlib
 import typing
 
 from ..recordings.container import Container
-from ..recordings.frames import Source, opened
 from ..recordings.parts import files_of
 from ..recordings.records import (
     FETCHED_AT_ONCE, LONGEST_BODY, Extent, Window, body_of, extents, fragments, xids)
 from ..recordings.selection import Options
+from ..recordings.sources import Source, opened
 from ..recordings.spool import Spool, Stored
 from ..recordings.taken import (
     FrameRef, NotTaken, Taken, TakenStream, copied, range_of_place, take, whole)

@@ -1,7 +1,7 @@
 """Compares two ordinary runs: are they the same but for what two runs never share, and if not, what
 differs.
 
-    tools/compare [--mask CLASS,..] [--order strict|any] [--ignore PROCEDURE.FIELD,..]
+    tools/compare [--mask CLASS,..] [--order strict|any] [--known FILE]
                   [--known FILE] [--known-new FILE] [--all] [--brief] [--html FILE]
                   [--json FILE] [--junit FILE] A B
 
@@ -17,7 +17,6 @@ from __future__ import annotations
 import argparse
 import sys
 import tempfile
-from collections import Counter
 from collections.abc import Sequence
 from contextlib import ExitStack
 from dataclasses import replace
@@ -27,7 +26,7 @@ from pathlib import Path
 from ..comparison.exchanges.pairing import ASKING
 from ..comparison.values.classes import CLASSES, following, in_any_order, mask_text, mask_word
 from ..comparison.verdict.accepted import (
-    ignored_of, older_entries, texts_of, without_ignored)
+    older_entries, texts_of)
 from ..comparison.verdict.cover import Cover, cover_of, lines_of_counts
 from ..comparison.verdict.decision import (
     Choices, NothingToCompare, Report, compared_in_words, judged_runs)
@@ -67,9 +66,6 @@ def command_line_of_compare(words: list[str]) -> argparse.Namespace:
     parser.add_argument('--extra', choices=('asking', 'none'), default='asking',
                         help='what is left out in any order if one run alone has it: '
                              'calls that ask and change nothing, or none')
-    parser.add_argument('--ignore', type=ignored_of, action='extend', default=[],
-                        metavar='PROCEDURE.FIELD,..',
-                        help='fields that are left out of the explanation; * is any procedure')
     add_known(parser, older_entries)
     parser.add_argument('--all', action='store_true', help='prints each finding by itself; by '
                         f'default, equal ones are one, and {FINDINGS_AT_MOST} are printed')
@@ -171,16 +167,16 @@ def told_of(words: argparse.Namespace, inputs: Sequence[str], report: Report) ->
 def explain(words: argparse.Namespace, inputs: Sequence[str], report: Report,
             is_good: bool) -> None:
     """Writes and prints what differs between two runs."""
-    compared, left_out = without_ignored(report.found.compared, words.ignore)
+    compared = report.found.compared
     if words.junit:
         told = compared if is_told(words, report) else replace(compared, findings=[])
         write_file(words.junit, [telling.junit_of_comparison(report, told, is_good)], inputs)
     if words.html:
-        content = ComparedContent(report, compared, words.ignore, left_out)
+        content = ComparedContent(report, compared)
         write_file(words.html, pages.compared_page(content), inputs)
     if words.json:
-        write_file(words.json, telling.json_of_comparison(report, compared, left_out), inputs)
-    print_comparison(words, report, compared, left_out)
+        write_file(words.json, telling.json_of_comparison(report, compared), inputs)
+    print_comparison(words, report, compared)
     accepted = report.found.accepted
     for text in (*telling.each_accepted(accepted if words.all else None),
                  *telling.of_accepted(accepted)):
@@ -192,13 +188,12 @@ def is_told(words: argparse.Namespace, report: Report) -> bool:
     return report.found.same_under is None or bool(words.all)
 
 
-def print_comparison(words: argparse.Namespace, report: Report, compared: Compared,
-                     left_out: Counter[tuple[str, str]]) -> None:
+def print_comparison(words: argparse.Namespace, report: Report, compared: Compared) -> None:
     if not report.place:
         return
     screen = screen_of(words.color)
     if is_told(words, report):
-        for line in telling.of_compared(compared, None if words.all else FINDINGS_AT_MOST, left_out,
+        for line in telling.of_compared(compared, None if words.all else FINDINGS_AT_MOST,
                                         words.brief):
             colour = None if isinstance(line, str) else SIGN_COLOURS.get(line.sign)
             print(screen.painted(str(line), colour))

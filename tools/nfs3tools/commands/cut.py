@@ -12,8 +12,6 @@ missing, 3 if a file, a program or memory failed.
 from __future__ import annotations
 
 import argparse
-import contextlib
-import io
 import os
 import tempfile
 from collections import defaultdict
@@ -25,21 +23,19 @@ from ..comparison.verdict.trial import when_of
 from ..judgement.verdict import Verdict, sums_of
 from ..recordings.carried import places_at
 from ..recordings.container import capture_of
-from ..recordings.extract import frames_of, pcap_of
-from ..recordings.frames import Frame, Source, opened
+from ..recordings.extract import pcap_of
 from ..recordings.parts import files_of
+from ..recordings.reading import Frame
 from ..recordings.records import Extent, Window, body_of, xids
 from ..recordings.selection import Options, plural
 from ..recordings.trimmed import trimmed
-from ..recordings.taken import (
-    NotTaken, Taken, TakenConnection, TakenStream, copied, take, take_from)
+from ..recordings.taken import NotTaken, Taken, TakenConnection, TakenStream, take
 from ..reporting.messages import (
     ABSENT, add_options, add_program, command_of, ended, options_of, parser_of)
 from ..shared.outputs import CAPTURE, Refused, held, printed_beside, try_outputs, write_file
 from ..shared.places import SIDES, FilePlace, FramePlace, NoPlace, Place, Side, parse_place
 from ..shared.printed import escaped, printable
 from ..shared.programs import CHECKED, lines_of_program, program_path, run_program
-from ..shared.progress import Progress
 from .verdicts import Judge
 
 PCAP_ENDING, PCAPNG_ENDING = '.pcap', '.pcapng'
@@ -133,11 +129,7 @@ def main(words: list[str]) -> int:
         raise Refused(f'{escaped(chosen.out)}: OUT may be a {PCAP_ENDING}, and no {PCAPNG_ENDING}')
     try_outputs([chosen.out], inputs, () if is_pcap else (CAPTURE,))
     program = program_path(chosen.program)
-    with contextlib.ExitStack() as stack:
-        recording = chosen.recording
-        if is_pcap:
-            recording = stack.enter_context(read_twice(recording))
-        taken = stack.enter_context(take(recording, options_of(chosen)))
+    with take(chosen.recording, options_of(chosen)) as taken:
         if not taken.is_recording and (is_pcap or isinstance(place, FramePlace)):
             raise NotTaken(f'{escaped(chosen.recording)} is a capture, which has no frames')
         try:
@@ -145,13 +137,13 @@ def main(words: list[str]) -> int:
         except NoPlace as absent:
             return ended('cut', str(absent), ABSENT)
         write = write_recording if is_pcap else write_cuts
-        lines, status = write(program, taken, cuts, recording, chosen.out, inputs)
+        lines, status = write(program, taken, cuts, chosen.out, inputs)
     with printed_beside([chosen.out]):
         print('\n'.join(lines))
     return status
 
 
-def write_cuts(program: str, taken: Taken, cuts: list[Cut], _: str, out: str,
+def write_cuts(program: str, taken: Taken, cuts: list[Cut], out: str,
                inputs: list[str]) -> tuple[list[str], int]:
     """Writes OUT as a capture, and returns what is printed of it, and the status."""
     pairs = [cut.streams() for cut in cuts]
@@ -173,24 +165,14 @@ class Extract(NamedTuple):
     untrimmed: list[int]
 
 
-@contextlib.contextmanager
-def read_twice(recording: str) -> Iterator[str]:
-    """A recording that can be read again: a copy if it is standard input or a pipe."""
-    if recording != '-' and (os.path.isfile(recording) or not os.path.exists(recording)):
-        yield recording
-        return
-    with opened(recording) as file, copied(file) as copy:
-        yield copy.name
-
-
-def write_recording(program: str, taken: Taken, cuts: list[Cut], recording: str, out: str,
+def write_recording(program: str, taken: Taken, cuts: list[Cut], out: str,
                     inputs: list[str]) -> tuple[list[str], int]:
     """Writes OUT as a recording, and returns what is printed of it, and the status."""
     records = [Place(cut.connection.number, side, record) for cut in cuts for side in SIDES
                for record in cut.records[side]]
     frames = {frame.number for place in records for frame in taken.frames(place)}
     opening = {number for cut in cuts for number in cut.connection.opened_by}
-    some = trimmed(frames_of(recording, frames | opening), bytes_by_frame(taken, records))
+    some = trimmed(frames_of(taken, frames | opening), bytes_by_frame(taken, records))
     extract = extract_of(program, *some, cuts, out)
     write_file(out, [extract.content], inputs)
     lines = [record_line(taken, there, here) for there, here in extract.found]
@@ -201,6 +183,11 @@ def write_recording(program: str, taken: Taken, cuts: list[Cut], recording: str,
     lacks = any(there is None for there, _ in extract.found)
     status = ABSENT if extract.untrimmed or lacks else 0
     return [*map(printable, lines), sums_of(extract.verdicts)], status
+
+
+def frames_of(taken: Taken, numbers: Iterable[int]) -> list[Frame]:
+    """Returns frames of a recording by their numbers."""
+    return [taken.read.frame(number) for number in sorted(numbers)] if taken.read else []
 
 
 def bytes_by_frame(taken: Taken, records: Iterable[Place]) -> Mapping[int, list[tuple[int, int]]]:
@@ -218,10 +205,13 @@ def extract_of(program: str, frames: list[Frame], untrimmed: list[int], cuts: li
                name: str) -> Extract:
     """Makes a recording of some frames, and reads it again."""
     content = b''.join(pcap_of(frames))
-    with take_from(Source(io.BytesIO(content)), Options(), True, Progress(False)) as there:
-        verdicts = Judge(program, Options(), 1, False).of_taken(name, there)
-        found = [pair for cut in cuts for pair in places_in(there, cut)]
-        return Extract(content, verdicts, found, untrimmed)
+    with tempfile.NamedTemporaryFile(prefix='nfs3canon') as copy:
+        copy.write(content)
+        copy.flush()
+        with take(copy.name, shows_progress=False) as there:
+            verdicts = Judge(program, Options(), 1, False).of_taken(name, there)
+            found = [pair for cut in cuts for pair in places_in(there, cut)]
+    return Extract(content, verdicts, found, untrimmed)
 
 
 def places_in(extract: Taken, cut: Cut) -> Iterator[tuple[Place | None, Place]]:

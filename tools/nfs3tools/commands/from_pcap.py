@@ -28,7 +28,7 @@ def main(words: list[str]) -> int:
     add_options(parser)
     chosen = parser.parse_args(words)
     try_outputs([chosen.out], files_of(chosen.recording), (CAPTURE,))
-    with take(chosen.recording, options_of(chosen), frames=False) as taken:
+    with take(chosen.recording, options_of(chosen)) as taken:
         if not taken.is_recording:
             raise NotTaken(f'{escaped(chosen.recording)} is a capture already')
         for line in recording_lines(taken):

@@ -27,8 +27,8 @@ from ..judgement.known import Known, add_known, file_of_known
 from ..judgement.unanswered import Unanswered
 from ..judgement.verdict import (
     COVERED, VERDICTS_VERSION, VERDICT_HEADS, Verdict, colour_of, counts_after, error_verdict,
-    is_row, judged_alone, kept_in, of_covered, said_last, status_of, sums_of, tell_notes,
-    verdict_object, verdict_row)
+    is_row, judged_alone, judged_together, kept_in, of_covered, said_last, status_of, sums_of,
+    tell_notes, verdict_object, verdict_row)
 from ..pages.judged import Seen, judged_page, seen_in, table_of, verdicts_in
 from ..recordings.coverage import Allowed, Covered, named_calls
 from ..recordings.parts import files_in, files_of
@@ -87,9 +87,11 @@ class Judge(typing.NamedTuple):
         return found[0] if found and found[0].verdicts is verdicts else Seen(recording, verdicts)
 
     def of_taken(self, recording: str, taken: Taken) -> list[Verdict]:
-        with concurrent.futures.ThreadPoolExecutor(self.at_once) as threads:
-            verdicts = list(threads.map(partial(judged_alone, self.program, recording, taken),
-                                        taken.connections))
+        verdicts = judged_together(self.program, recording, taken)
+        if not verdicts:
+            with concurrent.futures.ThreadPoolExecutor(self.at_once) as threads:
+                verdicts = list(threads.map(partial(judged_alone, self.program, recording, taken),
+                                            taken.connections))
         if self.counts_unanswered:
             verdicts = with_unanswered(verdicts, taken)
         verdicts += [of_covered(recording, covered) for covered in taken.not_taken()]

@@ -12,7 +12,7 @@ import contextlib
 from collections.abc import Iterator, Mapping, Sequence
 from typing import NamedTuple, Optional
 
-from ..shared.layouts import BY_NAME, PARTS, Walk, cases_of, layout_items, meaning_of
+from ..shared.layouts import BY_NAME, Walk, meaning_of
 from .stored import Value
 
 DIRECTORY_TYPE = '2'  # NF3DIR
@@ -118,24 +118,3 @@ def items_of(procedure: str, is_call: bool, items: ItemNames) -> Iterator[Item]:
         yield Item(name, value, label if named_at is None else label % items[named_at][1], field,
                    values, is_of_change or (
                        type_at is not None and items[type_at][1] == DIRECTORY_TYPE))
-
-
-def fields_in(layouts: Mapping[str, str], part: str,
-              owners: Sequence[str] = ()) -> Iterator[tuple[str, str]]:
-    """Iterates over all items that a part may have: the field and the name of each."""
-    for owner, kind, _, name, inner in layout_items(layouts.get(part, part)):
-        own, is_part = [*owners, owner] if owner else owners, not kind and name in layouts
-        if not is_part:
-            yield labelled(own, name), name
-        for one in [name] if is_part else cases_of(inner).values() if kind == 'case' else [inner]:
-            yield from fields_in(layouts, one, [*own, name] if kind == 'list' else own)
-
-
-def fields_of(procedure: str) -> dict[str, str]:
-    """Returns the fields that a procedure, or with `*` any, may have, with names of items."""
-    if procedure == ANY:
-        return {field: name for one in BY_NAME for field, name in fields_of(one).items()}
-    one = BY_NAME[procedure]
-    results = f'{"" if one.statuses is None else "e:status"} {one.done} {one.failed}'
-    layouts = {**PARTS, 'arguments': one.arguments, 'results': results}
-    return dict(fields_in(layouts, 'e:mtype call reply'))

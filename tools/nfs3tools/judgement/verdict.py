@@ -7,6 +7,7 @@ import time
 import typing
 from collections import Counter
 from collections.abc import Iterable, Mapping, Sequence
+from concurrent.futures import ThreadPoolExecutor
 
 from ..exchanges.kept import Kept, host_of
 from ..recordings.coverage import Allowed, Counts, Covered, counts_of
@@ -102,14 +103,41 @@ class Verdict(typing.NamedTuple):
                                  else self.state in ('ok', 'note'))
 
 
+def judged_together(program: str, recording: str, taken: Taken) -> list[Verdict]:
+    """What the program says of all connections, by one run on the capture of all of them, if it
+    finds no fault; else nothing. How many calls and replies each has is counted here, and together
+    they are as many as the program counts. Raises `Died`."""
+    if taken.read is None or not taken.is_packed:
+        return []
+    begin = time.monotonic()
+    with ThreadPoolExecutor(1) as thread:
+        checking = thread.submit(taken.read.check_whole, program)
+        numbers = [(one.client.count_records(), one.server.count_records())
+                   for one in taken.connections]
+        answer = checking.result()
+    counts = checked_counts(answer) if answer else ()
+    if not counts or tuple(map(sum, zip(*numbers))) != counts[1:]:
+        return []
+    seconds = (time.monotonic() - begin) / max(1, len(numbers))
+    return [of_valid(recording, taken, connection, seconds)._replace(
+        calls=calls, replies=replies)
+        for connection, (calls, replies) in zip(taken.connections, numbers)]
+
+
+def of_valid(recording: str, taken: Taken, connection: TakenConnection,
+             seconds: float) -> Verdict:
+    """What is said of a connection if the program finds no fault in it, but for its counts."""
+    return of_covered(recording, taken.covered_connection(connection))._replace(
+        tcp_stream=connection.stream_number, client=connection.client_end,
+        server=connection.server_end, notes=connection.notes, seconds=seconds)
+
+
 def judged_alone(program: str, recording: str, taken: Taken,
                  connection: TakenConnection) -> Verdict:
     """What the program says of a connection's capture. Raises `Died`."""
     begin = time.monotonic()
     answer = run_program(program, ['check', '/dev/stdin'], CHECKED, connection.capture())
-    verdict = of_covered(recording, taken.covered_connection(connection))._replace(
-        tcp_stream=connection.stream_number, client=connection.client_end,
-        server=connection.server_end, notes=connection.notes, seconds=time.monotonic() - begin)
+    verdict = of_valid(recording, taken, connection, time.monotonic() - begin)
     counts, fault = checked_counts(answer), parse_fault(answer.error)
     if answer.status == 0 and counts:
         return verdict._replace(calls=counts[1], replies=counts[2])

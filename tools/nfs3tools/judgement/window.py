@@ -6,7 +6,7 @@ import re
 import sys
 from typing import NamedTuple
 
-from ..recordings.frames import NANOSECONDS
+from ..recordings.index import NANOSECONDS
 
 SECONDS = re.compile(r'\d{1,12}(?:\.\d{1,9})?')
 OF_DAY = re.compile(r'([01]?\d|2[0-3]):([0-5]\d)(?::([0-5]\d(?:\.\d{1,9})?))?')

@@ -5,7 +5,7 @@ escaped. What does not count for the verdict is folded.
 from __future__ import annotations
 
 import os
-from collections import Counter, defaultdict
+from collections import defaultdict
 from collections.abc import Iterator, Sequence
 from dataclasses import dataclass
 from functools import cached_property
@@ -15,7 +15,6 @@ from typing import Optional
 
 from ..comparison.exchanges.explained import RUNS
 from ..comparison.values.classes import mask_text
-from ..comparison.verdict.accepted import Ignored
 from ..comparison.verdict.cover import cause_of
 from ..comparison.verdict.decision import Report, compared_in_words
 from ..comparison.verdict.excerpt import (
@@ -141,10 +140,6 @@ def words_of_masks(content: ComparedContent) -> Iterator[tuple[str, str]]:
     if content.compared.silent:
         yield 'left out', ('Calls that only ask, which one run alone has, answers that an order '
                            'explains, and calls that were sent again.')
-    if content.ignored:
-        often = (f': {telling.fields_text(content.left_out.most_common())}'
-                 if content.left_out else '')
-        yield 'ignored', f'{", ".join(code(str(one)) for one in content.ignored)}{escape(often)}.'
 
 
 # --- Findings ---
@@ -164,12 +159,10 @@ def keys_of(finding: Finding) -> list[tuple[str, str]]:
 
 @dataclass
 class ComparedContent:
-    """What a page is made of: the report, the comparison, and the fields that are left out of it
-    with how often each differs. Findings that say the same are one, and have a number from 1 on."""
+    """What a page is made of: the report, and the comparison. Findings that say the same are one,
+    and have a number from 1 on."""
     report: Report
     compared: Compared
-    ignored: Sequence[Ignored]
-    left_out: Counter[tuple[str, str]]
 
     def __post_init__(self) -> None:
         assert self.compared.beside
@@ -248,8 +241,7 @@ class ComparedContent:
         report = self.report
         if not report.is_different:
             return f'Nothing differs but {NOTHING_BUT[not report.place]}.'
-        return ('All fields that differ are ignored.' if self.left_out else
-                'No field of matched messages differs. '
+        return ('No field of matched messages differs. '
                 'Only which messages share a value, or empty connections, can.')
 
     def article(self, number: int, group: Sequence[Finding]) -> Iterator[str]:
@@ -380,7 +372,7 @@ class ComparedContent:
                     f' <span>{links or f"only in the {RUNS[row.first is None]} run"}</span>')
         if numbers:
             return '≠', f' <span>{links or "differs"}</span>'
-        return ('≠', ' <span>differs in what is ignored</span>') if row.is_told else ('=', '')
+        return ('≠', ' <span>differs in what is known</span>') if row.is_told else ('=', '')
 
     def message(self, first: Message | None, second: Message | None) -> Iterator[str]:
         """A message of both runs: where it is, and its fields."""

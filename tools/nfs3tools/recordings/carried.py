@@ -36,11 +36,11 @@ def records_in(stream: TakenStream, frame: int) -> Iterator[int]:
 
 def runs_of(stream: TakenStream, frame: int) -> Iterator[tuple[int, int]]:
     """Iterates over the runs of bytes of a stream that a frame brought."""
-    if stream.noted is None:
+    if stream.sent is None:
         return
     for (low, high), at in zip(stream.ranges, stream.begins):
         begins = [(max(brought.begin, low), brought.number)
-                  for brought in stream.noted.between(low, high)]
+                  for brought in stream.sent.between(low, high)]
         for (begin, number), (end, _) in zip(begins, [*begins[1:], (high, 0)]):
             if number == frame:
                 yield begin - low + at, end - low + at

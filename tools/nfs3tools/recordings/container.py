@@ -5,7 +5,7 @@ import contextlib
 import typing
 
 from ..shared.kinds import MAGICS
-from .frames import Source
+from .sources import Source
 from .spool import Spool, Stored
 from .unpacking import READ_AT_ONCE, Damaged
 

@@ -15,13 +15,12 @@ import typing
 from collections.abc import Iterable, Mapping
 
 from ..shared.layouts import MOUNT, NFS, RAW, procedure_of
-from .records import ReadableBytes, Window, body_of, extents
+from .records import Heads
 
 Word = typing.Literal['judged', 'in part', 'left out', 'not checked']
 NFS_PORTS = frozenset({2049, 20048})  # NFS, and MOUNT as Linux has it
 PORT_MAPPER = 111
-HEAD_WORDS = struct.Struct('>5I')  # mtype, rpcvers, program, version, procedure
-HEAD_AT, HEAD_END = 4, 4 + HEAD_WORDS.size  # after the xid
+HEAD_WORDS = struct.Struct('>3I')  # program, version, procedure
 
 # The procedures of other programs by their numbers, for what is printed.
 PORTMAP, NLM, NFSACL = 100000, 100021, 100227
@@ -157,16 +156,9 @@ def named_calls(calls: Mapping[str, int]) -> str:
                      for name, number in sorted(calls.items(), key=lambda one: (-one[1], one[0])))
 
 
-class Sized(ReadableBytes, typing.Protocol):
-    """The same, and their number is known."""
-    size: int
-
-
-def called_in(stream: Sized) -> Called:
-    """Counts the calls in a stream of records by the heads of their messages."""
-    heads = heads_in(stream)
-    calls = {HEAD_WORDS.unpack(head)[2:]: number for head, number in heads.items()
-             if len(head) == HEAD_WORDS.size and HEAD_WORDS.unpack(head)[:2] == (0, 2)}
+def called_in(heads: Heads) -> Called:
+    """Counts the calls of a stream by the heads of their messages."""
+    calls = {HEAD_WORDS.unpack(head): number for head, number in heads.calls.items()}
     typed, unchecked, raw = 0, collections.Counter[str](), collections.Counter[str]()
     for (program, version, procedure), number in calls.items():
         if procedure_of(program, version, procedure) is not RAW:
@@ -177,18 +169,6 @@ def called_in(stream: Sized) -> Called:
         else:
             raw[call_named(program, version, procedure)] += number
     return Called(sum(calls.values()), typed, unchecked, raw)
-
-
-def heads_in(stream: Sized) -> collections.Counter[bytes]:
-    """How many records have each head, from the word after the xid up to the procedure."""
-    window, found = Window(stream), collections.Counter[bytes]()
-    for extent in extents(window, 0, stream.size):
-        if extent.marks == 1:
-            found[window.read(extent.begin + 4,
-                              min(HEAD_END, extent.end - extent.begin - 4))[HEAD_AT:]] += 1
-        else:
-            found[body_of(window, extent, HEAD_END)[HEAD_AT:]] += 1
-    return found
 
 
 def call_named(program: int, version: int, procedure: int) -> str:

@@ -1,65 +1,21 @@
-"""An extract of a recording: some of its frames, as they were recorded, as a pcap of their own."""
+"""Recordings of frames: some of a recording, as they were recorded, as a pcap of their own; those
+of several files as a pcapng."""
 from __future__ import annotations
 
-import collections
 import struct
 from collections.abc import Iterable, Iterator, Sequence
 
 from ..shared.kinds import PCAP
 from ..shared.outputs import Refused
-from .frames import NANOSECONDS, Frame, Recording, Source, opened
-from .parts import files_of, parts_in_order
-from .segments import Segments
+from .index import NANOSECONDS
+from .reading import Frame
 
 SNAP_LENGTH = 1 << 18  # of tcpdump
 MICROSECOND = 1_000
+SECTION_HEADER = struct.pack('<IHHq', 0x1a2b3c4d, 1, 0, -1)
+SECTION_BLOCK, INTERFACE_BLOCK, PACKET_BLOCK = 0x0a0d0d0a, 1, 6
+IN_NANOSECONDS = struct.pack('<HHI', 9, 1, 9)  # an option of an interface
 PCAP_MAGICS = {scale: magic for magic, (order, scale) in PCAP.items() if order == '<'}
-
-
-def frames_of(path: str, numbers: Iterable[int]) -> list[Frame]:
-    """Returns frames of a recording by their numbers, counted through all its parts, and all those
-    of a datagram in fragments if that of the last is among them. Raises `OSError`."""
-    wanted = set(numbers)
-    frames = [frame for frame in numbered_frames(path) if frame.number in wanted]
-    if all(Segments().segment(frame) is not None for frame in frames):
-        return frames
-    wanted |= fragments_before(path, wanted)
-    return [frame for frame in numbered_frames(path) if frame.number in wanted]
-
-
-def numbered_frames(path: str) -> Iterator[Frame]:
-    """Iterates over all frames of a recording, with their numbers through all its parts."""
-    before = 0
-    for file in parts_in_order(files_of(path)):
-        with opened(file) as content:
-            recording = Recording(Source(content))
-            for frame in recording.frames():
-                yield frame._replace(number=before + frame.number) if before else frame
-            before += recording.count
-
-
-def fragments_before(path: str, wanted: set[int]) -> set[int]:
-    """Returns the frames with the other fragments of the datagrams that these frames completed."""
-    segments, found = NamedSegments(), set[int]()
-    pieces = collections.defaultdict[bytes, list[int]](list)
-    for frame in numbered_frames(path):
-        segments.name = b''
-        is_whole = segments.segment(frame) is not None
-        if segments.name:
-            pieces[segments.name].append(frame.number)
-        if segments.name and is_whole:
-            found.update(pieces.pop(segments.name) if frame.number in wanted else ())
-    return found
-
-
-class NamedSegments(Segments):
-    """Notes the name of the datagram of which the last frame had a fragment."""
-    name = b''
-
-    def joined(self, protocol: int, name: bytes, begin: int, piece: bytes, is_cut: bool,
-               is_last: bool) -> bytes | None:
-        self.name = name
-        return super().joined(protocol, name, begin, piece, is_cut, is_last)
 
 
 def pcap_of(frames: Sequence[Frame]) -> Iterator[bytes]:
@@ -78,3 +34,23 @@ def pcap_of(frames: Sequence[Frame]) -> Iterator[bytes]:
     for frame in frames:
         seconds, rest = divmod(frame.time, NANOSECONDS)
         yield struct.pack('<4I', seconds, rest // unit, len(frame.data), frame.length) + frame.data
+
+
+def pcapng_of(frames: Iterable[Frame]) -> Iterator[bytes]:
+    """Iterates over the bytes of a recording of these frames, of any link types."""
+    yield block_of(SECTION_BLOCK, SECTION_HEADER)
+    interfaces = dict[int, int]()
+    for frame in frames:
+        if frame.link not in interfaces:
+            interfaces[frame.link] = len(interfaces)
+            yield block_of(INTERFACE_BLOCK, struct.pack('<HHI', frame.link, 0, 0) + IN_NANOSECONDS)
+        head = struct.pack('<5I', interfaces[frame.link], frame.time >> 32, frame.time & 0xffffffff,
+                           len(frame.data), frame.length)
+        yield block_of(PACKET_BLOCK, head + frame.data)
+
+
+def block_of(kind: int, body: bytes) -> bytes:
+    """A block of pcapng."""
+    body += bytes(-len(body) % 4)
+    size = len(body) + 12
+    return struct.pack('<II', kind, size) + body + struct.pack('<I', size)

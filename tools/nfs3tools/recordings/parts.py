@@ -12,7 +12,7 @@ import typing
 from collections.abc import Iterable
 
 from ..shared.printed import escaped
-from .frames import NoRecording, Recording, Source, opened
+from .sources import NoRecording, Source, check_recording, opened
 from .unpacking import Damaged
 
 
@@ -53,28 +53,12 @@ def may_be_recording(path: str) -> bool:
         return True
     try:
         with opened(path) as file:
-            Recording(Source(file))
+            check_recording(Source(file))
     except NoRecording as refused:
         return refused.packed_by is not None
     except (Damaged, OSError):
         pass
     return True
-
-
-def parts_in_order(files: list[str]) -> list[str]:
-    """Returns parts in the order of the times of their first frames, and of their numbers if these
-    are equal. Raises `NoRecording` if one is none, and `OSError`."""
-    return sorted(files,
-                  key=lambda file: (first_time(file), len(file), file)) if len(files) > 1 else files
-
-
-def first_time(path: str) -> int:
-    """The time of the first frame, 0 if there is none."""
-    with opened(path) as file:
-        try:
-            return next((frame.time for frame in Recording(Source(file)).frames()), 0)
-        except (NoRecording, Damaged) as refused:
-            raise NoRecording(f'{escaped(path)}: {refused}') from refused
 
 
 def pattern_beside(path: str) -> str | None:

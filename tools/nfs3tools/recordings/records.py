@@ -3,6 +3,7 @@ run of them begins."""
 from __future__ import annotations
 
 import array
+import collections
 import re
 import struct
 import typing
@@ -10,7 +11,7 @@ import typing
 from ..shared.places import Side
 
 LONGEST_BODY = 1 << 24
-FETCHED_AT_ONCE = 1 << 16
+FETCHED_AT_FIRST, FETCHED_AT_ONCE = 1 << 9, 1 << 16
 LAST_FRAGMENT = 1 << 31  # RFC 5531, section 11
 SEARCHED_AT_ONCE = 1 << 20
 MARKS_AT_MOST = 1_000_000  # that are read in search of the first record of a run
@@ -29,6 +30,10 @@ LONGEST_HEAD = 28 + LONGEST_AUTH  # bytes up to the accept_stat of a reply, with
 FLAVOR = rb'\0\0\0[\0-\x03\x06\x07]\0\0[\0\x01].'
 CALL = re.compile(rb'\0\0\0\0\0\0\0\x02....\0\0\0.\0\0..' + FLAVOR, re.DOTALL)
 REPLY = re.compile(rb'\0\0\0\x01\0\0\0(?:\0' + FLAVOR + rb'|\x01\0\0\0[\0\x01])', re.DOTALL)
+OF_CALL = bytes(7) + b'\2'  # mtype and rpcvers
+HEAD_AT, HEAD_END = 12, 24  # of the body: program, version and procedure
+HEAD = struct.Struct('>II8s12s')  # a mark and what is before `HEAD_END`
+NO_HEAD = 0, 0, b'', b''
 BEFORE_PATTERN = 8  # bytes: the mark and the xid
 RECORD_MARK = struct.Struct('>I')
 
@@ -39,16 +44,18 @@ class ReadableBytes(typing.Protocol):
 
 
 class Window:
-    """Reads small pieces of bytes, which are fetched in large ones."""
+    """Reads small pieces of bytes, which are fetched in larger ones if one is near the other."""
 
     def __init__(self, stored: ReadableBytes) -> None:
-        self.stored, self.block, self.begin = stored, b'', 0
+        self.stored, self.block, self.begin, self.fetched = stored, b'', 0, FETCHED_AT_FIRST
 
     def read(self, at: int, size: int) -> bytes:
         """Returns the bytes from `at` on: `size` of them, or fewer at the end."""
         offset = at - self.begin
         if offset < 0 or offset + size > len(self.block):
-            self.block, self.begin, offset = self.stored.read(at, max(FETCHED_AT_ONCE, size)), at, 0
+            is_near = 0 <= offset <= len(self.block)
+            self.fetched = min(4 * self.fetched, FETCHED_AT_ONCE) if is_near else FETCHED_AT_FIRST
+            self.block, self.begin, offset = self.stored.read(at, max(self.fetched, size)), at, 0
         return self.block[offset:offset + size]
 
     def word(self, at: int) -> int:
@@ -237,6 +244,48 @@ def xids(window: Window, begin: int, end: int) -> typing.Iterator[tuple[Extent, 
         whole = len(head) >= 8
         yield (extent, int.from_bytes(head[:4], 'big') if whole else -1,
                int.from_bytes(head[4:8], 'big') if whole else -1)
+
+
+class Heads(typing.NamedTuple):
+    """What the records of a stream begin with: where each is, the xids of those that have one, and
+    how many calls of version 2 have each program, version and procedure."""
+    begins: array.array[int]
+    xids: array.array[int]
+    calls: collections.Counter[bytes]
+
+
+def heads_of(window: Window, size: int) -> Heads:
+    """Reads the heads of all records of a stream. This is where the time goes: most records have
+    one fragment, and are read here; `add_head` reads the others."""
+    heads = Heads(array.array('Q'), array.array('I'), collections.Counter())
+    begins, xids_of_all, calls = heads
+    at, unpack, shortest = 0, HEAD.unpack_from, HEAD_END | LAST_FRAGMENT
+    while at < size:
+        begins.append(at)
+        offset = at - window.begin
+        if not 0 <= offset <= len(window.block) - HEAD.size:
+            offset = 0 if len(window.read(at, HEAD.size)) == HEAD.size else -1
+        mark, xid, kind, call = unpack(window.block, at - window.begin) if offset >= 0 else NO_HEAD
+        end = at + 4 + mark - LAST_FRAGMENT
+        if not shortest <= mark <= LONGEST_BODY | LAST_FRAGMENT or end > size:
+            at = add_head(heads, window, at, size)
+            continue
+        xids_of_all.append(xid)
+        if kind == OF_CALL:
+            calls[call] += 1
+        at = end
+    return heads
+
+
+def add_head(heads: Heads, window: Window, begin: int, size: int) -> int:
+    """Adds the head of any record, and returns where it ends."""
+    extent = extent_of(window, begin, size)
+    head = body_of(window, extent, HEAD_END)
+    if len(head) >= 8:
+        heads.xids.append(int.from_bytes(head[:4], 'big'))
+    if head[4:HEAD_AT] == OF_CALL and len(head) == HEAD_END:
+        heads.calls[head[HEAD_AT:]] += 1
+    return extent.end
 
 
 def body_of(window: Window, extent: Extent, most: int = LONGEST_BODY) -> bytes:

@@ -64,21 +64,22 @@ class Selected(typing.NamedTuple):
         return [note for kept in self.kept for note in kept.notes]
 
 
-class StoredRun(typing.NamedTuple):
-    """A run of stored bytes, and the gap after it."""
+class UnbrokenPart(typing.NamedTuple):
+    """Bytes of a stream without a gap, and the gap after them."""
     begin: int
     end: int
     gap_after: Gap | None
 
 
-def stored_runs(stream: Stream) -> list[StoredRun]:
-    ends = [run.begin for run in stream.runs[1:]] + [stream.stored.size]
-    gaps = [run.gap for run in stream.runs[1:]] + [stream.gap_at_end()]
-    return [StoredRun(run.begin, end, gap) for run, end, gap in zip(stream.runs, ends, gaps)]
+def parts_of(stream: Stream) -> list[UnbrokenPart]:
+    stretches = stream.stretches
+    gaps = [stretch.gap for stretch in stretches[1:]] + [stream.gap_at_end()]
+    return [UnbrokenPart(stretch.begin, stretch.end, gap) for stretch, gap in zip(stretches, gaps)]
 
 
 def gaps_of(stream: Stream) -> list[Gap]:
-    return [gap for gap in [*(run.gap for run in stream.runs), stream.gap_at_end()] if gap]
+    gaps = [*(stretch.gap for stretch in stream.stretches), stream.gap_at_end()]
+    return [gap for gap in gaps if gap]
 
 
 def missing_of(stream: Stream) -> int:
@@ -104,21 +105,23 @@ def select(connection: Connection, is_growing: bool = False) -> Selected:
 
 def add_uncertain(stream: Stream, kept: KeptRanges, side: Side) -> None:
     """Adds what is said of bytes that are not taken, and of others that may be missing."""
-    if stream.conflicts:
+    changed, first = stream.changed()
+    if changed:
         kept.notes.append(
-            f'{count(stream.conflicts, "frame")} {plural(stream.conflicts, "repeats", "repeat")} '
-            f'bytes with other content, first frame {stream.conflict}; '
-            'the bytes that came first are taken')
-        kept.reasons.append(f'{count(stream.conflicts, "frame")} with other content')
-    if stream.unplaced:
+            f'{count(changed, "frame")} {plural(changed, "repeats", "repeat")} bytes with other '
+            f'content, first frame {first}; the bytes that came first are taken')
+        kept.reasons.append(f'{count(changed, "frame")} with other content')
+    left_out = stream.left_out
+    if left_out:
         kept.notes.append(
-            f'{side}: {count(stream.unplaced, "byte")} {plural(stream.unplaced, "fits", "fit")} '
-            f'nowhere in the stream, and {plural(stream.unplaced, "is", "are")} left out, '
-            f'first frame {stream.unplaced_by}')
-        kept.reasons.append(f'{count(stream.unplaced, "byte")} left out')
-    if stream.far is not None:
-        kept.notes.append(f'{side}: frame {stream.far_by} shows bytes far beyond the last that is '
-                          'known, and no other frame does')
+            f'{side}: {count(left_out.size, "byte")} {plural(left_out.size, "fits", "fit")} '
+            f'nowhere in the stream, and {plural(left_out.size, "is", "are")} left out, '
+            f'first frame {left_out.frame}')
+        kept.reasons.append(f'{count(left_out.size, "byte")} left out')
+    if stream.strays:
+        kept.notes.append(
+            f'{side}: {count(stream.strays, "frame")} {plural(stream.strays, "has", "have")} a '
+            f'sequence number far from all others, first frame {stream.stray}')
         kept.reasons.append('bytes far beyond the last may be missing')
 
 
@@ -140,34 +143,35 @@ def client_of(connection: Connection) -> tuple[int, str]:
         if has_calls(connection.streams[side]):
             return side, 'by its calls'
     return ((guess, 'by the ports') if guess is not None
-            else (connection.first_payload or 0, 'by the first payload'))
+            else (connection.first_payload, 'by the first payload'))
 
 
 def is_of_rpc(connection: Connection, ports: frozenset[int]) -> bool:
     """Whether a connection has a port of NFS, or bytes that may be the head of a message of RPC."""
     served = SERVER_PORTS | {str(port) for port in ports}
     return any(end.rpartition(':')[2] in served for end in connection.ends) or any(
-        next(Search(stream.stored, side, 0, stream.stored.size).places(), None) is not None
-        for stream in connection.streams for side in SIDES)
+        next(Search(stream, side, part.begin, part.end).places(), None) is not None
+        for stream in connection.streams for part in stream.stretches for side in SIDES)
 
 
 def has_calls(stream: Stream) -> bool:
     """Whether calls follow one another in a run of the stream."""
-    return any(Search(stream.stored, 'client', part.begin, part.end).first() is not None
-               for part in stored_runs(stream))
+    return any(Search(stream, 'client', part.begin, part.end).first() is not None
+               for part in parts_of(stream))
 
 
 def keep_records(stream: Stream, side: Side, cut: str) -> KeptRanges:
     """Keeps of each run of a stream what follows from the first record on. `cut` is why a record at
     its end that is cut is none of its sender's fault."""
-    kept, gaps, parts = KeptRanges(missing=missing_of(stream)), gaps_of(stream), stored_runs(stream)
-    kept.lacks, left_out = bool(gaps) or not stream.is_begin, 0
-    if stream.stored.size and not stream.is_begin:
+    kept, gaps, parts = KeptRanges(missing=missing_of(stream)), gaps_of(stream), parts_of(stream)
+    kept.lacks = not stream.is_begin or bool(gaps or stream.left_out or stream.strays)
+    left_out = 0
+    if stream.size and not stream.is_begin:
         kept.reasons.append(BEGUN_BEFORE)
     for part in parts:
-        is_first = part is parts[0] and not stream.runs[0].gap
+        is_first = part is parts[0] and not part.begin
         begin = (part.begin if is_first and stream.is_begin
-                 else Search(stream.stored, side, part.begin, part.end).first())
+                 else Search(stream, side, part.begin, part.end).first())
         if is_first and begin != part.begin:
             skipped = part.end if begin is None else begin
             kept.notes.append(f'{side}: the first {count(skipped, "byte")} '
@@ -187,12 +191,12 @@ def keep_records(stream: Stream, side: Side, cut: str) -> KeptRanges:
     return kept
 
 
-def keep_up_to_whole(stream: Stream, part: StoredRun, side: Side, kept: KeptRanges,
+def keep_up_to_whole(stream: Stream, part: UnbrokenPart, side: Side, kept: KeptRanges,
                      cut: str) -> int:
     """Keeps a run, up to the end of its last whole record if bytes are missing after it, or if
     `cut` says why it is cut. Returns how many bytes that leaves out."""
     is_whole = part.gap_after or cut
-    end = end_of_whole(Window(stream.stored), part.begin, part.end) if is_whole else part.end
+    end = end_of_whole(Window(stream), part.begin, part.end) if is_whole else part.end
     dropped = part.end - end
     if end > part.begin:
         kept.ranges.append((part.begin, end))
@@ -208,9 +212,9 @@ def keep_up_to_whole(stream: Stream, part: StoredRun, side: Side, kept: KeptRang
 def leave_out_replies(streams: tuple[Stream, Stream], calls: KeptRanges,
                       replies: KeptRanges) -> None:
     """Leaves out the replies whose calls are not kept."""
-    window = Window(streams[0].stored)
+    window = Window(streams[0])
     known = {xid for begin, end in calls.ranges for _, xid, _ in xids(window, begin, end)}
-    window, ranges, left_out = Window(streams[1].stored), list[tuple[int, int]](), 0
+    window, ranges, left_out = Window(streams[1]), list[tuple[int, int]](), 0
     for begin, end in replies.ranges:
         kept, count_of_range = with_calls(window, begin, end, known)
         ranges += kept

@@ -1,10 +1,9 @@
-"""The temporary file in which streams stand, and which frame brought which of their bytes."""
+"""The temporary file of bytes that are too many for memory."""
 from __future__ import annotations
 
 import array
 import bisect
 import os
-import struct
 import tempfile
 import typing
 
@@ -49,8 +48,6 @@ class Spool:
 
 
 NONE_WRITTEN = array.array('Q')  # is never changed
-BROUGHT = struct.Struct('<QQq')
-BLOCK_OF_FRAMES = 128 * BROUGHT.size  # bytes
 
 
 class Stored:
@@ -100,45 +97,3 @@ class Stored:
         if begin < end:
             pieces.append(bytes(self.unwritten[begin - self.written:end - self.written]))
         return pieces[0] if len(pieces) == 1 else b''.join(pieces)
-
-
-class Brought(typing.NamedTuple):
-    """A frame that brought stored bytes: where they begin, its number, and its time."""
-    begin: int
-    number: int
-    time: int
-
-
-class Frames:
-    """Which frame brought which of the stored bytes, in order. It is stored as the bytes are, so
-    little memory follows the frames."""
-    __slots__ = 'stored', 'firsts'
-
-    def __init__(self, spool: Spool) -> None:
-        # Where the bytes of every 128th frame begin
-        self.stored, self.firsts = Stored(spool), array.array('Q')
-
-    def append(self, begin: int, number: int, time: int) -> None:
-        if not self.stored.size % BLOCK_OF_FRAMES:
-            self.firsts.append(begin)
-        self.stored.append(BROUGHT.pack(begin, number, time))
-
-    def between(self, begin: int, end: int) -> typing.Iterator[Brought]:
-        """Iterates over the frames that brought the stored bytes from `begin` up to `end`, in order
-        of the bytes."""
-        noted = self.noted_from(max(0, bisect.bisect_right(self.firsts, begin) - 1))
-        last = next(noted, None)
-        for brought in noted:
-            if last and brought.begin > begin:
-                yield last
-            if brought.begin >= end:
-                return
-            last = brought
-        if last:
-            yield last
-
-    def noted_from(self, block: int) -> typing.Iterator[Brought]:
-        """Iterates over the frames from a block on."""
-        for at in range(block * BLOCK_OF_FRAMES, self.stored.size, BLOCK_OF_FRAMES):
-            yield from map(Brought._make,
-                           BROUGHT.iter_unpack(self.stored.read(at, BLOCK_OF_FRAMES)))

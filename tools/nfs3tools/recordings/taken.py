@@ -8,38 +8,37 @@ numbers of `TakenConnection.number`, and records are those of its streams.
 """
 from __future__ import annotations
 
-import array
 import bisect
 import contextlib
+import functools
 import itertools
-import os
 import sys
 import tempfile
 import typing
-from collections.abc import Sequence
 
 from ..shared.kinds import MAGICS
 from ..shared.outputs import CAPTURE, write_file
 from ..shared.places import SIDES, FilePlace, NoPlace, Place, Side
 from ..shared.printed import escaped
-from ..shared.progress import Progress, Share
-from .connections import Connection, Connections
+from ..shared.progress import Progress
+from .connections import Connection, connections_in
 from .container import (
     CHUNK, MOST_BYTES, MOST_CONNECTIONS, BadCapture, Container, capture_of, place_in)
 from .coverage import NFS_PORTS, PORT_MAPPER, Covered, called_in, of_connection
-from .frames import NoRecording, Recording, Source, opened
-from .keys import Keys
-from .parts import Part, files_of, parts_in_order, pattern_beside, skipped_of
-from .passed_over import notes_of, nothing_in, remarks_of
-from .records import Extent, Window, body_of, extent_of, extents, fragments
-from .segments import Segments
+from .extract import pcapng_of
+from .index import SEQUENCE_SPACE
+from .parts import Part, files_of, pattern_beside, skipped_of
+from .passed_over import notes_of, nothing_in, others_in, remarks_of
+from .reading import FileRange, ReadRecording, plain_file, read_recording, write
+from .records import (
+    Extent, Heads, ReadableBytes, Window, body_of, extent_of, extents, fragments, heads_of)
 from .selection import (
     BEGUN_BEFORE, Options, Selected, count, is_of_rpc, missing_of, select)
-from .spool import Brought, Frames, Spool, Stored
-from .streams import SEQUENCE_SPACE, Stretch
+from .sources import NoRecording, Source, check_recording, opened
+from .spool import Spool, Stored
+from .streams import Brought, Stream
 from .unpacking import READ_AT_ONCE, Damaged, Readable
 
-FRAMES_A_STEP = 1_000
 # Why connections are left out.
 NO_RPC, NO_POSITION = (
     'no RPC', 'no position was found from which its records follow one another')
@@ -77,18 +76,26 @@ class Record(typing.NamedTuple):
 
 
 class TakenStream:
-    """The bytes of one side that are taken. They stay in memory if they are few, else in a
-    temporary file. `runs` are those of the stream in a recording, and `first` is its first sequence
-    number."""
-    __slots__ = 'stored', 'noted', 'ranges', 'begins', 'size', 'index', 'runs', 'first'
+    """The bytes of one side that are taken. Those of a capture stay in memory if they are few, else
+    in a temporary file; those of a recording are `sent` there."""
 
-    def __init__(self, stored: Stored, frames: Frames | None, ranges: list[tuple[int, int]],
-                 runs: Sequence[Stretch] = (), first: int = 0) -> None:
-        self.stored, self.noted, self.ranges = stored, frames, ranges
-        self.runs, self.first = runs, first
+    def __init__(self, stored: ReadableBytes, sent: Stream | None,
+                 ranges: list[tuple[int, int]]) -> None:
+        self.stored, self.sent, self.ranges = stored, sent, ranges
         self.begins = list(itertools.accumulate((end - begin for begin, end in ranges), initial=0))
         self.size = self.begins[-1]  # bytes
-        self.index: array.array[int] | None = None  # where the records begin
+
+    @functools.cached_property
+    def heads(self) -> Heads:
+        source: ReadableBytes = self
+        if self.sent and self.is_all:
+            source = self.sent
+        return heads_of(Window(source), self.size)
+
+    @property
+    def is_all(self) -> bool:
+        """Whether it is all that was sent."""
+        return self.sent is not None and self.size == self.sent.size
 
     def read(self, begin: int, size: int) -> bytes:
         """Returns the bytes from `begin` on: `size` of them, or fewer at the stream's end."""
@@ -107,14 +114,13 @@ class TakenStream:
     def part(self, runs: typing.Iterable[tuple[int, int]]) -> 'TakenStream':
         """Returns a stream of some runs of the bytes, from where each begins to where it ends."""
         ranges = [piece for begin, end in runs for piece in self.ranges_of(begin, end)]
-        return TakenStream(self.stored, self.noted, ranges, self.runs, self.first)
+        return TakenStream(self.stored, self.sent, ranges)
 
     def sequences(self, begin: int, end: int) -> typing.Iterator[tuple[int, int]]:
         """Iterates over the pieces of some bytes, by sequence number and size."""
+        first = self.sent.first if self.sent else 0
         for low, high in self.ranges_of(begin, end):
-            at = bisect.bisect_right(Keys(self.runs, lambda run: run.begin), low) - 1
-            position = self.runs[at].position + low - self.runs[at].begin
-            yield (self.first + position) % SEQUENCE_SPACE, high - low
+            yield (first + low) % SEQUENCE_SPACE, high - low
 
     def blocks(self) -> typing.Iterator[bytes]:
         """Iterates over all bytes in order, in blocks of 65,536 and a last one."""
@@ -129,20 +135,17 @@ class TakenStream:
 
     def extent(self, number: int) -> Extent | None:
         """Returns where a record stands, if there is one of this number, from 1."""
-        window = Window(self)
-        if self.index is None:
-            self.index = array.array(
-                'Q', (extent.begin for extent in extents(window, 0, self.size)))
-        return (extent_of(window, self.index[number - 1], self.size)
-                if 0 < number <= len(self.index) else None)
+        begins = self.heads.begins
+        return (extent_of(Window(self), begins[number - 1], self.size)
+                if 0 < number <= len(begins) else None)
 
     def brought(self) -> typing.Iterator[Brought]:
-        """Iterates over the frames that brought the bytes, in order of the bytes, if frames are
-        noted. Each has the place of its first byte in the stream, which for the first of them may
-        be before the stream."""
+        """Iterates over the frames that brought the bytes, in order of the bytes, if they are of a
+        recording. Each has the place of its first byte in the stream, which for the first of them
+        may be before the stream."""
         for (low, high), at in zip(self.ranges, self.begins):
-            if self.noted is not None:
-                shift, found = at - low, self.noted.between(low, high)
+            if self.sent is not None:
+                shift, found = at - low, self.sent.between(low, high)
                 yield from found if not shift else (
                     brought._replace(begin=brought.begin + shift) for brought in found)
 
@@ -170,14 +173,14 @@ class TakenStream:
 
     def count_records(self) -> int:
         """Returns the number of records, of which the last may be cut."""
-        return sum(1 for _ in extents(Window(self), 0, self.size))
+        return len(self.heads.begins)
 
     def frames(self, begin: int, end: int) -> list[FrameRef]:
         """Returns the frames that brought the bytes, in order of their numbers, each once."""
-        if self.noted is None:
+        if self.sent is None:
             return []
         brought = itertools.chain.from_iterable(
-            self.noted.between(*piece) for piece in self.ranges_of(begin, end))
+            self.sent.between(*piece) for piece in self.ranges_of(begin, end))
         return sorted({FrameRef(one.number, one.time) for one in brought})
 
 
@@ -224,20 +227,19 @@ class Taken:
     """The connections of a recording or capture, and those that are left out. As a context manager
     it removes the temporary files at its end.
 
+    read: the recording; of a capture `None`
     remarks, notes: what else is not judged, though it is of no connection, and what is said of
         the whole, a sentence each
     damage: why what follows could not be read, or None; a recording that ends in the middle of a
         frame is not damaged
     nothing: what is said if there is no connection
-    has_frames: whether the frames of bytes are noted
     parts: those of a recording that has several, in order
-    begun, ended: the times of the first and of the last frame, in nanoseconds since 1970
+    is_packed: whether nfs3streams finds whole just the connections that are taken
     """
 
-    def __init__(self, spool: Spool, is_recording: bool, has_frames: bool,
+    def __init__(self, spool: Spool, read: ReadRecording | None,
                  ports: frozenset[int] = NFS_PORTS) -> None:
-        self.spool, self.is_recording, self.has_frames, self.ports = (
-            spool, is_recording, has_frames, ports)
+        self.spool, self.read, self.ports = spool, read, ports
         self.connections: list[TakenConnection] = []
         self.left_out: list[Covered] = []
         self.remarks: list[Covered] = []
@@ -245,7 +247,21 @@ class Taken:
         self.damage: str | None = None
         self.nothing = 'no connection to judge'
         self.parts: list[Part] = []
-        self.begun = self.ended = 0
+        self.is_packed = False
+
+    @property
+    def is_recording(self) -> bool:
+        return self.read is not None
+
+    @property
+    def begun(self) -> int:
+        """The time of the first frame, in nanoseconds since 1970; 0 if it is not known."""
+        return self.read.begun if self.read else 0
+
+    @property
+    def ended(self) -> int:
+        """The time of the last frame."""
+        return self.read.times[-1] if self.read and self.read.times else 0
 
     @property
     def missing(self) -> int:
@@ -255,8 +271,8 @@ class Taken:
 
     def covered_connection(self, connection: TakenConnection) -> Covered:
         """Returns under which word a connection that is taken comes."""
-        covered = of_connection(called_in(connection.client), connection.server_port, self.ports,
-                                connection.missing, connection.lacks)
+        covered = of_connection(called_in(connection.client.heads), connection.server_port,
+                                self.ports, connection.missing, connection.lacks)
         return covered._replace(number=connection.number, ends=connection.ends)
 
     def covered(self) -> typing.Iterator[Covered]:
@@ -309,7 +325,7 @@ class Taken:
     def record_at(self, place: Place) -> tuple[TakenStream, Extent]:
         """Returns the stream of a record, and where it is there. Raises `NoPlace` if it is not."""
         # (some may be left out)
-        at = bisect.bisect_left(Keys(self.connections, lambda one: one.number), place.connection)
+        at = bisect.bisect_left([one.number for one in self.connections], place.connection)
         if at == len(self.connections) or self.connections[at].number != place.connection:
             raise NoPlace(f'there is no connection {place.connection}')
         stream = self.connections[at].stream(place.side)
@@ -321,9 +337,7 @@ class Taken:
     def all_frames(self) -> typing.Iterator[FrameRef]:
         """Iterates over the frames that brought bytes, stream by stream, if frames are noted."""
         for stream in itertools.chain.from_iterable(self.pairs()):
-            if stream.noted is not None:
-                yield from (FrameRef(brought.number, brought.time)
-                            for brought in stream.noted.noted_from(0))
+            yield from (FrameRef(number, time) for _, number, time in stream.brought())
 
     def ends(self) -> tuple[FrameRef, FrameRef] | None:
         """Returns the first and the last of these frames, if there are some."""
@@ -335,6 +349,8 @@ class Taken:
 
     def __exit__(self, *_: object) -> None:
         self.spool.close()
+        if self.read:
+            self.read.close()
 
 
 def range_of_place(stream: TakenStream, extent: Extent, place: Place) -> tuple[int, int]:
@@ -353,25 +369,32 @@ def range_of_place(stream: TakenStream, extent: Extent, place: Place) -> tuple[i
 
 # --- Taking ---
 
-def take(path: str, options: Options = Options(), frames: bool = True,
-         shows_progress: bool = True) -> Taken:
+def take(path: str, options: Options = Options(), shows_progress: bool = True) -> Taken:
     """Reads a recording or a capture, `-` for standard input. A path that is the name of no file is
-    a pattern, whose files are parts of one recording. `frames` says whether the frames of bytes are
-    noted, which takes 24 bytes of a temporary file for each frame; `shows_progress` whether their
-    number is shown on a terminal meanwhile. Raises `NotTaken`, `Missing`, and `OSError`."""
+    a pattern, whose files are parts of one recording. `shows_progress` is whether it is shown on a
+    terminal how much of what is compressed was read. Raises `NotTaken`, `Missing`, and
+    `OSError`."""
     progress, files = Progress(shows_progress), files_of(path)
-    taken = (take_parts(files, options, frames, progress) if len(files) > 1
-             else take_file(files[0], options, frames, progress))
+    try:
+        taken = (take_parts(files, options, progress) if len(files) > 1
+                 else take_file(files[0], options, progress))
+    except NoRecording as refused:
+        raise NotTaken(str(refused), refused.packed_by) from refused
+    except Damaged as damaged:
+        raise NotTaken(str(damaged)) from damaged
+    finally:
+        progress.end()
     taken.notes += [f'{escaped(name)} is no recording, and is skipped' for name in skipped_of(path)]
     return taken
 
 
-def take_file(path: str, options: Options, keeps_frames: bool, progress: Progress) -> Taken:
+def take_file(path: str, options: Options, progress: Progress) -> Taken:
     """Takes a recording or capture of one file."""
-    with contextlib.ExitStack() as stack:
-        source = Source(stack.enter_context(opened(path)))
-        taken = take_from(source, options, keeps_frames, progress,
-                          share_of(source, 0, size_of([path])))
+    with opened(path) as file:
+        source = Source(file)
+        if source.peek(8) in MAGICS:
+            return of_capture(source)
+        taken = taken_in(read_source(source, path, progress), options)
     begun = sum(BEGUN_BEFORE in left_out.lacks for left_out in taken.left_out)
     pattern = pattern_beside(path) if begun else None
     if pattern:
@@ -381,32 +404,66 @@ def take_file(path: str, options: Options, keeps_frames: bool, progress: Progres
     return taken
 
 
-def size_of(files: typing.Iterable[str]) -> int | None:
-    """The bytes of files, None if one has no size, as a pipe."""
-    return sum(map(os.path.getsize, files)) if all(map(os.path.isfile, files)) else None
+def read_source(source: Source, path: str, progress: Progress) -> ReadRecording:
+    """Reads a recording, which may be compressed."""
+    check_recording(source)
+    progress.begin('reading the recording')
+    with plain_file(source, path, progress) as (name, damage):
+        return read_recording(name, damage)
 
 
-def share_of(source: Source, before: int, size: int | None) -> Share | None:
-    """Returns what gives the share of files that was read, if their size is known."""
-    if not size:
-        return None
-    all_bytes = size
-    return lambda: (before + source.position()) / all_bytes
+class PartRead(typing.NamedTuple):
+    """A part of a recording that was read: its file, the time of its first frame, how many it has,
+    why not all of it could be read, and where it is in a file of all parts."""
+    path: str
+    begun: int
+    frames: int
+    cut: str | None
+    damage: str | None
+    place: FileRange
 
 
-def take_parts(files: list[str], options: Options, keeps_frames: bool, progress: Progress) -> Taken:
-    """Takes several files as the parts of one recording."""
-    taking, size, before = Taking(options, keeps_frames, progress), size_of(files), 0
+def take_parts(files: list[str], options: Options, progress: Progress) -> Taken:
+    """Takes several files as the parts of one recording, in the order of the times of their first
+    frames, and of their numbers if these are equal."""
+    with tempfile.TemporaryFile() as unsorted, tempfile.NamedTemporaryFile(
+            prefix='nfs3canon') as joined:
+        parts = [part_read(path, progress, unsorted) for path in files]
+        parts.sort(key=lambda part: (part.begun, len(part.path), part.path))
+        for part in parts:
+            copy_range(unsorted, part.place, joined)
+        joined.flush()
+        taken = taken_in(read_recording(joined.name), options)
+    before = 0
+    for part in parts:
+        taken.parts.append(Part(part.path, before))
+        add_end(taken, part, options, f'{part.path}: ')
+        before += part.frames
+    return taken
+
+
+def part_read(path: str, progress: Progress, unsorted: typing.IO[bytes]) -> PartRead:
+    """Reads a part of a recording, and appends its frames to a file."""
     try:
-        for path in parts_in_order(files):
-            with contextlib.ExitStack() as stack:
-                source = Source(stack.enter_context(opened(path)))
-                taking.taken.parts.append(Part(path, taking.count))
-                taking.add(Recording(source), f'{path}: ', share_of(source, before, size))
-            before += size_of([path]) or 0
+        with opened(path) as file:
+            read = read_source(Source(file), path, progress)
     except (NoRecording, Damaged) as refused:
-        raise NotTaken(str(refused)) from refused
-    return taking.ended()
+        raise NotTaken(f'{escaped(path)}: {refused}') from refused
+    with contextlib.closing(read):
+        begin = unsorted.tell()
+        for piece in pcapng_of(read.frames()):
+            write(unsorted, piece)
+        return PartRead(path, read.begun, read.index.frames, read.cut, read.damage,
+                        (begin, unsorted.tell() - begin))
+
+
+def copy_range(source: typing.IO[bytes], place: FileRange, target: typing.IO[bytes]) -> None:
+    at, size = place
+    source.seek(at)
+    while size:
+        block = source.read(min(size, READ_AT_ONCE))
+        write(target, block)
+        size -= len(block)
 
 
 @contextlib.contextmanager
@@ -420,24 +477,9 @@ def copied(content: Readable) -> typing.Iterator[typing.IO[bytes]]:
         yield copy
 
 
-def take_from(source: Source, options: Options, keeps_frames: bool, progress: Progress,
-              share: Share | None = None) -> Taken:
-    """Takes what is read."""
-    try:
-        if source.peek(8) in MAGICS:
-            return of_capture(source)
-        taking = Taking(options, keeps_frames, progress)
-        taking.add(Recording(source), share=share)
-        return taking.ended()
-    except NoRecording as refused:
-        raise NotTaken(str(refused), refused.packed_by) from refused
-    except Damaged as damaged:
-        raise NotTaken(str(damaged)) from damaged
-
-
 def of_capture(source: Source) -> Taken:
     """The connections of a capture, up to the first that is not whole."""
-    taken = Taken(Spool(), False, False)
+    taken = Taken(Spool(), None)
     try:
         for streams in Container(source, taken.spool).connections():
             client, server = (TakenStream(stored, None, whole(stored)) for stored in streams)
@@ -454,48 +496,40 @@ def whole(stored: Stored) -> list[tuple[int, int]]:
     return [(0, stored.size)] if stored.size else []
 
 
-class Taking:
-    """Takes the frames of a recording, or of its parts one after the other."""
+def taken_in(read: ReadRecording, options: Options) -> Taken:
+    """Takes the connections of a recording, which is closed if that fails."""
+    with contextlib.ExitStack() as stack:
+        stack.callback(read.close)
+        taken = Taken(Spool(), read, (options.ports or NFS_PORTS) - {PORT_MAPPER})
+        take_all(taken, read, options)
+        stack.pop_all()
+    return taken
 
-    def __init__(self, options: Options, keeps_frames: bool, progress: Progress) -> None:
-        self.options, self.connections, self.progress = options, Connections(keeps_frames), progress
-        self.taken = Taken(self.connections.spool, True, keeps_frames,
-                           (options.ports or NFS_PORTS) - {PORT_MAPPER})
-        self.segments = Segments(self.taken.ports)
-        self.count = 0  # frames
 
-    def add(self, recording: Recording, name: str = '', share: Share | None = None) -> None:
-        """Takes a part. A name is before what is said."""
-        before, segments, connections, ports = (
-            self.count, self.segments, self.connections, self.options.ports)
-        frame = None
-        for frame in recording.frames():
-            self.taken.begun = self.taken.begun or frame.time
-            segment = segments.segment(frame)
-            if segment is not None:
-                is_chosen = not ports or segment.has_port(ports)
-                connections.take(segment, before + frame.number, frame.time, is_chosen)
-            if not frame.number % FRAMES_A_STEP:
-                self.progress.step(f'{before + frame.number:,} frames', share)
-        self.count += recording.count
-        self.taken.ended = frame.time if frame else self.taken.ended
-        if recording.cut and self.options.is_growing:
-            self.taken.notes.append(name + recording.cut)
-        elif recording.cut:
-            self.taken.remarks.append(Covered('in part', name + recording.cut))
-        if recording.damage:
-            self.taken.notes.append(name + recording.damage)
-            self.taken.damage = self.taken.damage or name + recording.damage
+def take_all(taken: Taken, read: ReadRecording, options: Options) -> None:
+    others = others_in(read, taken.ports)
+    taken.notes += notes_of(read, others)
+    taken.remarks += remarks_of(others)
+    taken.nothing = nothing_in(others)
+    add_end(taken, read, options)
+    packed = set[int]()
+    for connection in connections_in(read.index, read.file, options.ports):
+        packed |= {connection.number} if connection.is_packed else set()
+        add(taken, connection, options)
+    taken.is_packed = (packed == {one.stream_number for one in taken.connections}
+                       and all(one.is_all for pair in taken.pairs() for one in pair))
 
-    def ended(self) -> Taken:
-        """What is taken. Nothing is added after this."""
-        self.progress.end()
-        self.taken.notes += notes_of(self.segments)
-        self.taken.remarks += remarks_of(self.segments)
-        self.taken.nothing = nothing_in(self.segments)
-        for connection in self.connections.finish():
-            add(self.taken, connection, self.options)
-        return self.taken
+
+def add_end(taken: Taken, read: ReadRecording | PartRead, options: Options,
+            name: str = '') -> None:
+    """Adds why not all of a recording could be read. A name is before what is said."""
+    if read.cut and options.is_growing:
+        taken.notes.append(name + read.cut)
+    elif read.cut:
+        taken.remarks.append(Covered('in part', name + read.cut))
+    if read.damage:
+        taken.notes.append(name + read.damage)
+        taken.damage = taken.damage or name + read.damage
 
 
 def add(taken: Taken, connection: Connection, options: Options) -> None:
@@ -503,24 +537,20 @@ def add(taken: Taken, connection: Connection, options: Options) -> None:
     if connection.is_bare:
         taken.left_out.append(without_calls(connection, 'no payload'))
         return
-    selected = select(connection, options.is_growing)
-    left_out = left_out_of(connection, selected, options)
-    if left_out:
-        taken.left_out.append(left_out)
-    else:
-        taken.connections.append(taken_connection(len(taken.connections) + 1, connection, selected))
-
-
-def left_out_of(connection: Connection, selected: Selected, options: Options) -> Covered | None:
-    if connection.first_payload is None and not any(
-            stream.gap_at_end() for stream in connection.streams):
-        return without_calls(connection, 'no payload')
     if not is_of_rpc(connection, options.ports):
-        return without_calls(connection, NO_RPC)
+        taken.left_out.append(without_calls(connection, NO_RPC))
+        return
+    selected = select(connection, options.is_growing)
     if any(kept.ranges for kept in selected.kept):
-        return None
+        number = len(taken.connections) + 1
+        taken.connections.append(taken_connection(number, connection, selected))
+    else:
+        taken.left_out.append(left_out_of(connection, selected))
+
+
+def left_out_of(connection: Connection, selected: Selected) -> Covered:
     missing, why = sum(map(missing_of, connection.streams)), NO_POSITION
-    if missing and not any(stream.stored.size for stream in connection.streams):
+    if missing and not any(stream.size for stream in connection.streams):
         why = f'{count(missing, "byte")} acknowledged and not recorded'
     return Covered('left out', why, ends=' and '.join(connection.ends), missing=selected.missing,
                    lacks=(BEGUN_BEFORE,) if connection.client is None else ())
@@ -533,11 +563,10 @@ def without_calls(connection: Connection, why: str) -> Covered:
 
 def taken_connection(number: int, connection: Connection, selected: Selected) -> TakenConnection:
     streams = connection.streams[selected.client], connection.streams[1 - selected.client]
-    client, server = (TakenStream(stream.stored, stream.frames, kept.ranges, stream.runs,
-                                  stream.first or 0)
+    client, server = (TakenStream(stream, stream, kept.ranges)
                       for stream, kept in zip(streams, selected.kept))
     return TakenConnection(
         number, connection.number, connection.ends[selected.client],
         connection.ends[1 - selected.client], ' and '.join(connection.ends), selected.why, client,
-        server, [*selected.notes, *connection.strays], selected.missing, selected.lacks,
-        connection.is_closed, connection.opened_by)
+        server, selected.notes, selected.missing, selected.lacks, connection.is_closed,
+        connection.opened_by)

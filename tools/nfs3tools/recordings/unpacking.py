@@ -5,7 +5,6 @@ from __future__ import annotations
 import bz2
 import contextlib
 import lzma
-import os
 import shutil
 import subprocess
 import tempfile
@@ -186,10 +185,6 @@ class Piped:
                    else Damaged)(f'the compressed file is damaged or cut short: {printable(said)}')
         return b''
 
-    def fileno(self) -> int:
-        """The number of the copy, in which the program's place is also that of this process."""
-        return self.copy.fileno()
-
     def __del__(self) -> None:
         """A program whose output is not wanted any more ends."""
         with contextlib.suppress(AttributeError):
@@ -197,11 +192,6 @@ class Piped:
             self.process.stdout.close()
             self.process.kill()
             self.process.wait()
-
-
-def position_of(file: Readable) -> int:
-    """Returns the place in a file up to which it was read."""
-    return os.lseek(typing.cast(typing.IO[bytes], file).fileno(), 0, os.SEEK_CUR)
 
 
 def unpacked(file: Readable, magic: bytes, begun_with: bytes) -> Readable | None:

@@ -260,11 +260,9 @@ def places_text(one: Finding) -> str:
 
 
 def of_compared(compared: Compared, most: int | None,
-                left_out: Counter[tuple[str, str]],
                 is_brief: bool = False) -> Iterator[PrintedLine]:
     """The findings, those together that say the same, up to `most` of such groups, or each by
-    itself, and each in a line if that is asked for. Then which fields differ how often, and which
-    were left out."""
+    itself, and each in a line if that is asked for. Then which fields differ how often."""
     groups = [[finding]
               for finding in compared.findings] if most is None else groups_alike(compared.findings)
     for group in groups[:most]:
@@ -276,9 +274,7 @@ def of_compared(compared: Compared, most: int | None,
         more = ', ..' if len(fields) > FIELDS_AT_MOST else ''
         yield ('fields that differ, and how often: '
                f'{fields_text(fields.most_common(FIELDS_AT_MOST))}{more}')
-    if left_out:
-        yield f'left out by --ignore, and how often: {fields_text(left_out.most_common())}'
-    elif not compared.findings:
+    if not compared.findings:
         yield ('no field of matched messages differs; '
                'only which messages share a value, or empty connections, can')
 
@@ -308,8 +304,7 @@ def up_to(most: int, some: Sequence[str], comma: str = ', ') -> str:
 
 # --- JSON ---
 
-def json_of_comparison(report: Report, compared: Compared,
-                       left_out: Counter[tuple[str, str]]) -> Iterator[bytes]:
+def json_of_comparison(report: Report, compared: Compared) -> Iterator[bytes]:
     """The comparison, in pieces: an object, each of whose findings is a line."""
     found, runs = report.found, zip(report.covers, compared.lonely, compared.left_out)
     head = {
@@ -321,7 +316,7 @@ def json_of_comparison(report: Report, compared: Compared,
         'order': {'together': compared.exchanges, 'calls': compared.moved, 'replies': compared.late,
                   'connections': compared.late_connections,
                   'on_another_connection': compared.elsewhere},
-        'fields': field_counts(compared.fields()), 'ignored': field_counts(left_out),
+        'fields': field_counts(compared.fields()),
         'left_out': [{**asked_members(one), 'kind': one.kind, 'why': one.remark or None}
                       for one in compared.silent],
         **({'noted': [{**asked_members(one), 'why': one.remark} for one in compared.noted]}

@@ -150,7 +150,6 @@ def procedures() -> Iterator[tuple[tuple[int, int], Procedure]]:
 RAW = Procedure('RAW', 'RAW', 'RAW', 'rest', 'rest')
 BY_NUMBER = dict(procedures())
 BY_NAME = {procedure.name: procedure for procedure in [*BY_NUMBER.values(), RAW]}
-FULL_NAMES = {procedure.short: name for name, procedure in BY_NAME.items()}
 
 
 def procedure_of(program: int, version: int, number: int) -> Procedure:

@@ -21,7 +21,7 @@ CHECKED, COMPARED, MASKED = {0: 'ok ', 2: ''}, {0: 'same\n', 1: 'differ at '}, {
 COMMANDS = ('check', 'same', 'show')
 CHECKED_COUNTS = re.compile(r'ok connections=(\d+) calls=(\d+) replies=(\d+) handles=\d+\n')
 PIPE_SIZE = 1 << 16  # of Linux
-NOT_FOUND = ('nfs3canon is missing: it is neither beside the tools nor on the PATH; '
+NOT_FOUND = ('%s is missing: it is neither beside the tools nor on the PATH; '
              '`make install` in a clone of nfs3canon installs it')
 Redirection = typing.Union[typing.IO[bytes], int]
 
@@ -56,7 +56,7 @@ def program_path(named: str | None = None) -> str:
         found = shutil.which(name)
         if found:
             return found
-    raise Missing(f'{escaped(named)} is missing' if named else NOT_FOUND)
+    raise Missing(f'{escaped(named)} is missing' if named else NOT_FOUND % 'nfs3canon')
 
 
 @functools.cache
@@ -67,7 +67,7 @@ def program_beside(program: str, name: str) -> str:
         found = shutil.which(place)
         if found:
             return found
-    raise Missing(f'{name} is missing')
+    raise Missing(NOT_FOUND % name)
 
 
 def path_beside(program: pathlib.Path, name: str) -> pathlib.Path:
@@ -99,18 +99,40 @@ def expected_of(command: list[str], answer: Answer, expected: typing.Mapping[int
     return answer
 
 
-def run_side_by_side(commands: typing.Sequence[list[str]],
-                     expected: typing.Mapping[int, str]) -> list[Answer]:
+def run_side_by_side(commands: typing.Sequence[list[str]], expected: typing.Mapping[int, str],
+                     stdin: Redirection = subprocess.DEVNULL) -> list[Answer]:
     """Runs commands at once, and returns their answers. Raises what `run_program` does."""
     with contextlib.ExitStack() as stack:
-        running = []
-        for command in commands:
-            out, error = (stack.enter_context(tempfile.TemporaryFile()) for _ in range(2))
-            running.append((stack.enter_context(
-                begun(command, stdin=subprocess.DEVNULL, stdout=out, stderr=error)), out, error))
-        answers = [Answer(process.wait(), text_of(out), text_of(error))
-                   for process, out, error in running]
-    return [expected_of(*one, expected) for one in zip(commands, answers)]
+        running = [stack.enter_context(Running(command, stdin)) for command in commands]
+        answers = [one.answer(expected) for one in running]
+    return answers
+
+
+class Running:
+    """A command that runs meanwhile. As a context manager it is ended if it runs yet."""
+
+    def __init__(self, command: list[str], stdin: Redirection = subprocess.DEVNULL) -> None:
+        self.command = command
+        self.out, self.error = tempfile.TemporaryFile(), tempfile.TemporaryFile()
+        self.process = begun(command, stdin=stdin, stdout=self.out, stderr=self.error)
+
+    def answer(self, expected: typing.Mapping[int, str]) -> Answer:
+        """Waits for its answer. Raises what `run_program` does."""
+        answer = Answer(self.process.wait(), text_of(self.out), text_of(self.error))
+        return expected_of(self.command, answer, expected)
+
+    def stop(self) -> None:
+        """Ends it if it runs yet."""
+        self.process.kill()
+        self.process.wait()
+        self.out.close()
+        self.error.close()
+
+    def __enter__(self) -> 'Running':
+        return self
+
+    def __exit__(self, *_: object) -> None:
+        self.stop()
 
 
 def lines_of_program(program: str, words: list[str], expected: int = 0,

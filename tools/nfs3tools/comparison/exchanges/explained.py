@@ -424,7 +424,7 @@ def explanation_of(taken: Sequence[Taken], pairing: Pairing,
         return out
     identify(pairing)
     turns = [Turns(one, pairing, run) for run, one in enumerate(taken)
-             if all(other.has_frames for other in taken)]
+             if all(other.is_recording for other in taken)]
     # (of what MOUNT or another program answers a history knows nothing)
     doubtful = [pair for pair in unequal if turns and is_of_files(here.procedure_of(pair[0])) and (
         here.procedure_of(pair[0]) in LISTINGS or not is_quiet(turns, pair))]

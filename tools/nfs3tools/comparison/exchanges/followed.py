@@ -135,7 +135,7 @@ def swapped(said: str, own: str, other: str) -> str:
 
 def with_values(taken: Taken, values: ReplacedValues) -> Taken:
     """Returns a run with other values in some messages, each record as one fragment."""
-    out = Taken(taken.spool, taken.is_recording, False, taken.ports)
+    out = Taken(taken.spool, None, taken.ports)
 
     def written(connection: TakenConnection, side: Side) -> TakenStream:
         stored = Stored(taken.spool)

@@ -1,12 +1,8 @@
-"""Findings that are known by a file: they are counted apart, and what is left decides. And
-fields that a user knows to differ, and has left out of what is said of a comparison. They count for
-its verdict all the same."""
+"""Findings that are known by a file: they are counted apart, and what is left decides."""
 from __future__ import annotations
 
-import argparse
 import json
 import re
-from collections import Counter
 from collections.abc import Iterable, Iterator, Mapping, Sequence
 from dataclasses import replace
 from fnmatch import translate
@@ -14,10 +10,9 @@ from itertools import compress
 from typing import Any, NamedTuple
 
 from ...exchanges.in_words import short
-from ...exchanges.whose import ANY, fields_of
+from ...exchanges.whose import ANY
 from ...judgement.known import Known, KnownLine
-from ...shared.layouts import BY_NAME, FULL_NAMES
-from ...shared.printed import near, printable
+from ...shared.layouts import BY_NAME
 from ..exchanges.explained import RUNS
 from ..values.classes import CLASSES, RENAMED, Mask, Way
 from .differences import Difference
@@ -29,8 +24,6 @@ OLD_VERSION = 2  # of the form of the files of --accept
 PLAIN_KINDS = ('moved', 'sent again', 'replies')
 NO_VALUE_THERE = 'nothing'  # in place of a value that a run does not have
 OWN_VALUES = 'its own -> its own'  # in place of values of which each run has its own
-# Commas, and the names and numbers of entries, of which a field has none.
-WORD, ENTRY = re.compile(r'(?:[^,"]|"[^"]*")+'), re.compile(r' (?:"[^"]*"|\d+)(?=[ .])')
 # The members of an object of these files: `field`, `only` or `kind` says what it is about.
 OLD_MEMBERS = frozenset(('procedure', 'path', 'is_call', 'field', 'first', 'second', 'only', 'kind',
                          'asks', 'status', 'says', 'times'))
@@ -158,50 +151,3 @@ def line_of_entry(entry: Mapping[str, Any]) -> KnownLine:
         side, told = '', entry['kind']
     return KnownLine(json.dumps(dict(entry)), entry.get('times', 1),
                      re.compile(f'{name}{where}{side}: {told}'))
-
-
-class Ignored(NamedTuple):
-    """A field of a procedure, or of any if that is `*`: a label, one without the names of entries,
-    or the name of items, whose ever they are."""
-    procedure: str
-    field: str
-
-    def __str__(self) -> str:
-        return f'{short(self.procedure)}.{self.field}'
-
-    def has(self, procedure: str, difference: Difference) -> bool:
-        return self.procedure in (ANY, procedure) and (
-            self.field in (difference.label, difference.field, difference.name))
-
-
-def ignored_of(text: str) -> list[Ignored]:
-    """Reads the word of `--ignore`. Raises `ArgumentTypeError` if a name is of none."""
-    return [one_of(word) for word in WORD.findall(text)]
-
-
-def one_of(word: str) -> Ignored:
-    given, _, field = word.partition('.')
-    procedure = FULL_NAMES.get(given, given)
-    if procedure != ANY and procedure not in BY_NAME:
-        meant = near(given, FULL_NAMES) or ' (as in GETATTR.obj.nlink, or in *.nlink)'
-        raise argparse.ArgumentTypeError(printable(f'no procedure: {given}{meant}'))
-    known = fields_of(procedure)
-    if ENTRY.sub('', field) not in known and field not in known.values():
-        raise argparse.ArgumentTypeError(
-            printable(f'no field of {procedure if procedure != ANY else "any procedure"}: {field}'))
-    return Ignored(procedure, field)
-
-
-def without_ignored(compared: Compared,
-                    ignored: Sequence[Ignored]) -> tuple[Compared, Counter[tuple[str, str]]]:
-    """Returns a comparison without these fields, and how often each was left out."""
-    left_out, findings = Counter[tuple[str, str]](), list[Finding]()
-    for finding in compared.findings:
-        procedure = finding.message.procedure
-        out = [one for one in finding.differences
-               if any(word.has(procedure, one) for word in ignored)]
-        left_out.update((procedure, one.field) for one in out)
-        kept = tuple(one for one in finding.differences if one not in out)
-        if kept or not out or finding.remark:
-            findings.append(replace(finding, differences=kept))
-    return replace(compared, findings=findings), left_out

@@ -348,7 +348,7 @@ class Report:
 def run_of(trial: Trial, number: int) -> Run:
     taken, listing = trial.runs[number], trial.listing(number, trial.captures[number])
     return Run(listing, lambda place: [
-        frame.number for frame in taken.frames(place)] if taken.has_frames else [])
+        frame.number for frame in taken.frames(place)] if taken.is_recording else [])
 
 
 def judged_runs(trial: Trial, choices: Choices, covers: Sequence[Cover]) -> Report:

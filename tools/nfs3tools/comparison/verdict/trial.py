@@ -29,7 +29,7 @@ def when_of(taken: Taken) -> When | None:
     def when(connection: int, record: int) -> int:
         return min((frame.number for frame in taken.frames(Place(connection, 'client', record))),
                    default=0)
-    return when if taken.has_frames else None
+    return when if taken.is_recording else None
 
 
 class Trial:
