@@ -43,6 +43,9 @@ class ReadableBytes(typing.Protocol):
         """Returns the bytes from `begin` on: `size` of them, or fewer at the end."""
 
 
+PieceAt = typing.Callable[[int, int], bytes]  # reads as `ReadableBytes`
+
+
 class Window:
     """Reads small pieces of bytes, which are fetched in larger ones if one is near the other."""
 
@@ -254,18 +257,16 @@ class Heads(typing.NamedTuple):
     calls: collections.Counter[bytes]
 
 
-def heads_of(window: Window, size: int) -> Heads:
+def heads_of(window: Window, size: int, piece_at: PieceAt | None = None) -> Heads:
     """Reads the heads of all records of a stream. This is where the time goes: most records have
-    one fragment, and are read here; `add_head` reads the others."""
+    one fragment, and are read here, by `piece_at` if it is given; `add_head` reads the others."""
     heads = Heads(array.array('Q'), array.array('I'), collections.Counter())
     begins, xids_of_all, calls = heads
-    at, unpack, shortest = 0, HEAD.unpack_from, HEAD_END | LAST_FRAGMENT
+    at, unpack, shortest, piece_at = 0, HEAD.unpack, HEAD_END | LAST_FRAGMENT, piece_at or window.read
     while at < size:
         begins.append(at)
-        offset = at - window.begin
-        if not 0 <= offset <= len(window.block) - HEAD.size:
-            offset = 0 if len(window.read(at, HEAD.size)) == HEAD.size else -1
-        mark, xid, kind, call = unpack(window.block, at - window.begin) if offset >= 0 else NO_HEAD
+        piece = piece_at(at, HEAD.size)
+        mark, xid, kind, call = unpack(piece) if len(piece) == HEAD.size else NO_HEAD
         end = at + 4 + mark - LAST_FRAGMENT
         if not shortest <= mark <= LONGEST_BODY | LAST_FRAGMENT or end > size:
             at = add_head(heads, window, at, size)

@@ -12,6 +12,9 @@ SIZE_OF_RUN = 0xffffffff  # the lower half of its last word
 
 
 class PlacesReader(typing.Protocol):
+    def read(self, at: int, size: int) -> bytes:
+        """Returns the bytes of a place of a file."""
+
     def joined(self, places: Sequence[tuple[int, int]]) -> bytes:
         """Returns the bytes of some places of a file, one after another."""
 
@@ -134,6 +137,21 @@ class Stream:
             places.append((self.runs[RUN_WORDS * at + 1] + begin - start, stop - begin))
             begin, at = stop, at + 1
         return self.file.joined(places) if places else b''
+
+    def forward(self) -> typing.Callable[[int, int], bytes]:
+        """Returns a function that does the same for places none of which is before the last one. It
+        finds the run of each in a step or two."""
+        at, begin, end, read = self.low, 0, 0, self.file.read
+
+        def piece(position: int, size: int) -> bytes:
+            nonlocal at, begin, end
+            while end <= position and at < self.high:
+                begin, end = self.positions[at] - self.base, self.end_of_run(at)
+                at += 1
+            if begin <= position and position + size <= min(end, self.size):
+                return read(self.runs[RUN_WORDS * at - 2] + position - begin, size)
+            return self.read(position, size)
+        return piece
 
     @functools.cached_property
     def stretches(self) -> list[Stretch]:

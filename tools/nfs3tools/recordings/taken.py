@@ -87,10 +87,9 @@ class TakenStream:
 
     @functools.cached_property
     def heads(self) -> Heads:
-        source: ReadableBytes = self
         if self.sent and self.is_all:
-            source = self.sent
-        return heads_of(Window(source), self.size)
+            return heads_of(Window(self.sent), self.size, self.sent.forward())
+        return heads_of(Window(self), self.size)
 
     @property
     def is_all(self) -> bool:
