@@ -40,9 +40,11 @@ pub struct Indexed<'a> {
 /// After an error a front of the index was written.
 pub fn write_index<W: Sink>(alloc: Global, sink: &mut W, indexed: &Indexed<'_>) -> Result<(), Error>
     ensures ok { OnOk result
-        (Appends (W.written sink.old) (W.written sink.new) (bytes_of_index (index_seen indexed.now))) }
+        (Appends (W.written sink.old) (W.written sink.new)
+        (bytes_of_index (index_seen indexed.now))) }
     ensures err { OnErr result
-        (AppendsFront (W.written sink.old) (W.written sink.new) (bytes_of_index (index_seen indexed.now))) }
+        (AppendsFront (W.written sink.old) (W.written sink.new)
+        (bytes_of_index (index_seen indexed.now))) }
     ensures count { CountsWriting (W.failures sink.old) (W.failures sink.new) result }
     ensures error { IfErr result IsOfWriting }
 {
@@ -60,10 +62,12 @@ fn write_index_head<W: Sink>(
     indexed: &Indexed<'_>,
 ) -> Result<(), Error>
     ensures ok { OnOk result
-        (Appends (W.written sink.old) (W.written sink.new) (index_head indexed.now.end (length indexed.now.frames.now)
+        (Appends (W.written sink.old) (W.written sink.new)
+        (index_head indexed.now.end (length indexed.now.frames.now)
         (length indexed.now.connections.now))) }
     ensures err { OnErr result
-        (AppendsFront (W.written sink.old) (W.written sink.new) (index_head indexed.now.end (length indexed.now.frames.now)
+        (AppendsFront (W.written sink.old) (W.written sink.new)
+        (index_head indexed.now.end (length indexed.now.frames.now)
         (length indexed.now.connections.now))) }
     ensures count { CountsWriting (W.failures sink.old) (W.failures sink.new) result }
     ensures error { IfErr result IsOfWriting }
@@ -114,9 +118,11 @@ fn write_connections<W: Sink>(
     connections: &[OrderedConnection],
 ) -> Result<(), Error>
     ensures ok { OnOk result
-        (Appends (W.written sink.old) (W.written sink.new) (flat_map connection_bytes connections.now)) }
+        (Appends (W.written sink.old) (W.written sink.new)
+        (flat_map connection_bytes connections.now)) }
     ensures err { OnErr result
-        (AppendsFront (W.written sink.old) (W.written sink.new) (flat_map connection_bytes connections.now)) }
+        (AppendsFront (W.written sink.old) (W.written sink.new)
+        (flat_map connection_bytes connections.now)) }
     ensures count { CountsWriting (W.failures sink.old) (W.failures sink.new) result }
     ensures error { IfErr result IsOfWriting }
 {
@@ -139,13 +145,13 @@ fn write_connection<W: Sink>(
     ensures count { CountsWriting (W.failures sink.old) (W.failures sink.new) result }
     ensures error { IfErr result IsOfWriting }
 {
-    write_connection_head(sink, block, connection)?;
+    write_head(sink, block, connection)?;
     write_flow(sink, block, &connection.lower)?;
     write_flow(sink, block, &connection.higher)
 }
 
 /// Writes the head of a connection, by way of a block.
-fn write_connection_head<W: Sink>(
+fn write_head<W: Sink>(
     sink: &mut W,
     block: &mut Vec<u8>,
     connection: &OrderedConnection,
