@@ -60,7 +60,8 @@ class Judge(typing.NamedTuple):
         """The verdicts on a recording or capture. What cannot be read is an error among them.
         `look` is called with them and with what is taken."""
         try:
-            with take(recording, self.options, shows_progress=self.shows_progress) as taken:
+            options = self.options._replace(checked_by=self.program)
+            with take(recording, options, shows_progress=self.shows_progress) as taken:
                 verdicts = self.of_taken(recording, taken)
                 if look:
                     look(taken, verdicts)
@@ -87,7 +88,7 @@ class Judge(typing.NamedTuple):
         return found[0] if found and found[0].verdicts is verdicts else Seen(recording, verdicts)
 
     def of_taken(self, recording: str, taken: Taken) -> list[Verdict]:
-        verdicts = judged_together(self.program, recording, taken)
+        verdicts = judged_together(recording, taken)
         if not verdicts:
             with concurrent.futures.ThreadPoolExecutor(self.at_once) as threads:
                 verdicts = list(threads.map(partial(judged_alone, self.program, recording, taken),

@@ -7,7 +7,6 @@ import time
 import typing
 from collections import Counter
 from collections.abc import Iterable, Mapping, Sequence
-from concurrent.futures import ThreadPoolExecutor
 
 from ..exchanges.kept import Kept, host_of
 from ..recordings.coverage import Allowed, Counts, Covered, counts_of
@@ -103,18 +102,16 @@ class Verdict(typing.NamedTuple):
                                  else self.state in ('ok', 'note'))
 
 
-def judged_together(program: str, recording: str, taken: Taken) -> list[Verdict]:
+def judged_together(recording: str, taken: Taken) -> list[Verdict]:
     """What the program says of all connections, by one run on the capture of all of them, if it
     finds no fault; else nothing. How many calls and replies each has is counted here, and together
     they are as many as the program counts. Raises `Died`."""
-    if taken.read is None or not taken.is_packed:
+    if not taken.is_packed or not taken.read or not taken.read.checking:
         return []
     begin = time.monotonic()
-    with ThreadPoolExecutor(1) as thread:
-        checking = thread.submit(taken.read.check_whole, program)
-        numbers = [(one.client.count_records(), one.server.count_records())
-                   for one in taken.connections]
-        answer = checking.result()
+    numbers = [(one.client.count_records(), one.server.count_records())
+               for one in taken.connections]
+    answer = taken.read.checking.answer()
     counts = checked_counts(answer) if answer else ()
     if not counts or tuple(map(sum, zip(*numbers))) != counts[1:]:
         return []

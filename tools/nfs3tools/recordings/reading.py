@@ -3,6 +3,7 @@ from __future__ import annotations
 
 import contextlib
 import errno
+import fcntl
 import mmap
 import os
 import subprocess
@@ -21,6 +22,8 @@ from .sources import NoRecording, Source
 from .unpacking import CutShort, Damaged
 
 READER, INDEX_FILE = 'nfs3streams', 'index'
+# Of Linux, which Python before 3.10 has no name for; 65,536 bytes make both programs wait often.
+SET_PIPE_SIZE, SIZE_OF_PIPE = 1031, 1 << 20
 STATUSES_OF_READER = {0: '', 2: ''}
 ENDS_INSIDE_FRAME = 'the recording ends inside a frame'
 
@@ -66,15 +69,44 @@ class RecordingFile:
         return b''.join(block[at - begin:at - begin + size] for at, size in places)
 
 
+class WholeCheck:
+    """The check of a capture of the connections that nfs3streams finds whole, which it writes into
+    a pipe. It goes on meanwhile, until `stop`."""
+
+    def __init__(self, program: str, reader: str, file: typing.IO[bytes]) -> None:
+        with contextlib.ExitStack() as stack:
+            error = stack.enter_context(tempfile.TemporaryFile())
+            self.packing = begun([reader, '/dev/stdin', '/dev/stdout'], stdin=file,
+                                 stdout=subprocess.PIPE, stderr=error)
+            stack.callback(self.packing.kill)
+            assert self.packing.stdout is not None
+            with self.packing.stdout as capture, contextlib.suppress(OSError):
+                fcntl.fcntl(capture, SET_PIPE_SIZE, SIZE_OF_PIPE)
+                self.checking = Running([program, 'check', '/dev/stdin'], capture)
+            self.ends = stack.pop_all()
+
+    def answer(self) -> Answer | None:
+        """Returns what `check` says, or nothing if the connections do not fit a capture. Raises
+        `Died`."""
+        answer = self.checking.answer(CHECKED)
+        return answer if self.packing.wait() in STATUSES_OF_READER else None
+
+    def stop(self) -> None:
+        self.checking.stop()
+        self.ends.close()
+        self.packing.wait()
+
+
 class ReadRecording:
     """A recording, and its index, which is mapped, in a folder that `close` removes.
 
+    checking: the check of its whole connections, if that was asked for
     cut, damage: why not all of it could be read: it ends inside a frame, or cannot go on
     """
 
     def __init__(self, file: RecordingFile, folder: 'tempfile.TemporaryDirectory[str]',
-                 damage: Damaged | None) -> None:
-        self.folder, self.file = folder, file
+                 damage: Damaged | None, checking: WholeCheck | None) -> None:
+        self.folder, self.file, self.checking = folder, file, checking
         self.index = index = Index(mapped(os.path.join(folder.name, INDEX_FILE)))
         number = index.frames
         self.cut = self.damage = None
@@ -85,21 +117,10 @@ class ReadRecording:
             why = str(damage or ENDINGS[index.ended])
             self.damage = f'the recording is damaged after frame {number}: {why}'
 
-    def check_whole(self, program: str) -> Answer | None:
-        """Returns what `check` answers about a capture of the connections that nfs3streams finds
-        whole, or nothing if they do not fit one. Raises `Died`."""
-        packer = [program_beside(program_path(), READER), '/dev/stdin', '/dev/stdout']
-        with tempfile.TemporaryFile() as error, begun(
-                packer, stdin=self.file.file, stdout=subprocess.PIPE, stderr=error) as packing:
-            assert packing.stdout is not None
-            with packing.stdout as capture, Running([program, 'check', '/dev/stdin'],
-                                                    capture) as checking:
-                capture.close()
-                answer = checking.answer(CHECKED)
-        return answer if packing.returncode in STATUSES_OF_READER else None
-
     def close(self) -> None:
         with held():
+            if self.checking:
+                self.checking.stop()
             self.file.close()
             self.folder.cleanup()
 
@@ -161,9 +182,10 @@ def write(file: typing.IO[bytes], block: bytes) -> None:
         raise OSError(failed.errno, failed.strerror or str(failed), 'a temporary file') from failed
 
 
-def read_recording(path: str, damage: Damaged | None = None) -> ReadRecording:
-    """Reads a recording that is a file as it is. Raises `NoRecording` if the program refuses it,
-    and what `run_side_by_side` does."""
+def read_recording(path: str, damage: Damaged | None = None,
+                   checked_by: str = '') -> ReadRecording:
+    """Reads a recording that is a file as it is, while a program checks its whole connections if one
+    is named. Raises `NoRecording` if nfs3streams refuses it, and what `run_side_by_side` does."""
     program = program_beside(program_path(), READER)
     with contextlib.ExitStack() as stack:
         file = RecordingFile(path)
@@ -173,12 +195,15 @@ def read_recording(path: str, damage: Damaged | None = None) -> ReadRecording:
         stack.callback(folder.cleanup)
         # (as standard input, since the program takes no names that are no text)
         index = os.path.join(folder.name, INDEX_FILE)
+        checking = WholeCheck(checked_by, program, file.file) if checked_by else None
+        if checking:
+            stack.callback(checking.stop)
         answer, = run_side_by_side([[program, '--index', '/dev/stdin', index]], STATUSES_OF_READER,
                                    file.file)
         if not os.path.exists(index):
             raise NoRecording(printable((answer.error or answer.out).strip()))
         try:
-            read = ReadRecording(file, folder, damage)
+            read = ReadRecording(file, folder, damage, checking)
         except BadIndex:
             raise NoRecording('what nfs3streams wrote of it is no index') from None
         stack.pop_all()

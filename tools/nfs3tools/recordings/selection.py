@@ -22,9 +22,11 @@ class Options(typing.NamedTuple):
 
     ports: of which each connection has one; any connection if there are none
     is_growing: whether it is no loss that the recording ends inside a frame or a record
+    checked_by: the program that checks whole connections meanwhile, if one does
     """
     ports: frozenset[int] = frozenset()
     is_growing: bool = False
+    checked_by: str = ''
 
 
 @dataclasses.dataclass

@@ -393,7 +393,7 @@ def take_file(path: str, options: Options, progress: Progress) -> Taken:
         source = Source(file)
         if source.peek(8) in MAGICS:
             return of_capture(source)
-        taken = taken_in(read_source(source, path, progress), options)
+        taken = taken_in(read_source(source, path, progress, options.checked_by), options)
     begun = sum(BEGUN_BEFORE in left_out.lacks for left_out in taken.left_out)
     pattern = pattern_beside(path) if begun else None
     if pattern:
@@ -403,12 +403,13 @@ def take_file(path: str, options: Options, progress: Progress) -> Taken:
     return taken
 
 
-def read_source(source: Source, path: str, progress: Progress) -> ReadRecording:
+def read_source(source: Source, path: str, progress: Progress,
+                checked_by: str = '') -> ReadRecording:
     """Reads a recording, which may be compressed."""
     check_recording(source)
     progress.begin('reading the recording')
     with plain_file(source, path, progress) as (name, damage):
-        return read_recording(name, damage)
+        return read_recording(name, damage, checked_by)
 
 
 class PartRead(typing.NamedTuple):
@@ -432,7 +433,7 @@ def take_parts(files: list[str], options: Options, progress: Progress) -> Taken:
         for part in parts:
             copy_range(unsorted, part.place, joined)
         joined.flush()
-        taken = taken_in(read_recording(joined.name), options)
+        taken = taken_in(read_recording(joined.name, checked_by=options.checked_by), options)
     before = 0
     for part in parts:
         taken.parts.append(Part(part.path, before))
