@@ -184,8 +184,8 @@ def write(file: typing.IO[bytes], block: bytes) -> None:
 
 def read_recording(path: str, damage: Damaged | None = None,
                    checked_by: str = '') -> ReadRecording:
-    """Reads a recording that is a file as it is, while a program checks its whole connections if one
-    is named. Raises `NoRecording` if nfs3streams refuses it, and what `run_side_by_side` does."""
+    """Reads a recording that is a file as it is. If a program is named, it checks whole connections
+    meanwhile. Raises `NoRecording` if nfs3streams refuses it, and what `run_side_by_side` does."""
     program = program_beside(program_path(), READER)
     with contextlib.ExitStack() as stack:
         file = RecordingFile(path)

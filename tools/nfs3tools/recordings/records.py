@@ -262,10 +262,10 @@ def heads_of(window: Window, size: int, piece_at: PieceAt | None = None) -> Head
     one fragment, and are read here, by `piece_at` if it is given; `add_head` reads the others."""
     heads = Heads(array.array('Q'), array.array('I'), collections.Counter())
     begins, xids_of_all, calls = heads
-    at, unpack, shortest, piece_at = 0, HEAD.unpack, HEAD_END | LAST_FRAGMENT, piece_at or window.read
+    at, unpack, shortest, read = 0, HEAD.unpack, HEAD_END | LAST_FRAGMENT, piece_at or window.read
     while at < size:
         begins.append(at)
-        piece = piece_at(at, HEAD.size)
+        piece = read(at, HEAD.size)
         mark, xid, kind, call = unpack(piece) if len(piece) == HEAD.size else NO_HEAD
         end = at + 4 + mark - LAST_FRAGMENT
         if not shortest <= mark <= LONGEST_BODY | LAST_FRAGMENT or end > size:
