@@ -152,9 +152,9 @@ class ReadRecording:
 
     def frames_without_segment(self) -> Iterator[Frame]:
         """Iterates over the frames that have no segment of TCP which could be read."""
-        for number, outcome in enumerate(self.index.outcomes, 1):
-            if outcome:
-                yield self.frame(number)
+        outcomes = self.index.outcomes
+        if outcomes.tobytes().strip(b'\0'):  # most recordings have none
+            yield from (self.frame(number) for number, outcome in enumerate(outcomes, 1) if outcome)
 
 
 @contextlib.contextmanager

@@ -140,17 +140,20 @@ class Stream:
 
     def forward(self) -> typing.Callable[[int, int], bytes]:
         """Returns a function that does the same for places none of which is before the last one. It
-        finds the run of each in a step or two."""
-        at, begin, end, read = self.low, 0, 0, self.file.read
+        goes from run to run, which is faster than a search."""
+        at, last, end, read = self.low, self.high - 1, self.size, self.file.read
+        base, positions, runs = self.base, self.positions, self.runs
 
-        def piece(position: int, size: int) -> bytes:
-            nonlocal at, begin, end
-            while end <= position and at < self.high:
-                begin, end = self.positions[at] - self.base, self.end_of_run(at)
+        def piece(begin: int, size: int) -> bytes:
+            nonlocal at
+            position = base + begin
+            while at < last and positions[at + 1] <= position:
                 at += 1
-            if begin <= position and position + size <= min(end, self.size):
-                return read(self.runs[RUN_WORDS * at - 2] + position - begin, size)
-            return self.read(position, size)
+            start, place, word = runs[RUN_WORDS * at:RUN_WORDS * (at + 1)]
+            offset = position - start
+            if 0 <= offset <= (word & SIZE_OF_RUN) - size and begin + size <= end:
+                return read(place + offset, size)
+            return self.read(begin, size)
         return piece
 
     @functools.cached_property
